@@ -1,0 +1,11 @@
+pub mod Path
+pub mod PathLaws
+pub mod PathText
+pub mod PathView
+pub mod Kinds
+pub mod KindNumbers
+pub mod KindWords
+pub mod Event
+pub mod EventView
+pub mod Errors
+pub mod ErrorView
