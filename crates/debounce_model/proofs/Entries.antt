@@ -1,0 +1,197 @@
+-- Entries in the order of their keys.
+use Rattle.std.proofs.Common.{◌≡◌, ℕ, Bool, true, false, cond, List, [], ◌∷◌, map, refl, ap, sym, ◌∙◌, true≢false, arith, Option, Some, None, ◌+◌, ◌≤◌, length}
+use Rattle.std.specs.Prelude.{filter}
+use Rattle.std.specs.declared.cmp.Ordering.{Ordering}
+use Rattle.std.specs.declared.cmp.Ordering.TheVariants.{Less, Equal, Greater}
+use Rattle.std.specs.Ordering.{match_ordering}
+use Rattle.std.specs.Cmp.{IsTotalOrder}
+use Rattle.std.specs.Map.{lookup, set_value, remove_entry, keys_of, values_of}
+use Rattle.std.specs.BTreeMap.{is_at, insert_entry}
+use Rattle.std.specs.Map.Calls.{RetainsPairs}
+use Rattle.debounce_model.specs.Queues.{changed_entries}
+use Rattle.std.specs.List.Sorted.{IsStrictlySortedBy}
+use Rattle.std.specs.List.{AllByRecursion, sum_by}
+use Rattle.std.proofs.lemmas.Map.{lookup-none}
+use Rattle.std.proofs.lemmas.Map.Keys.{sorted_tail}
+use Rattle.std.proofs.lemmas.List.Sums.{sum_by-cons}
+use Rattle.std.proofs.lemmas.Map.Entries.{none_below_head}
+
+Some-injective : {T : Type 0} {x y : T} → Some x ≡ Some y → x ≡ y
+Some-injective e = cc
+
+module _ {K X : Type 0} {R : K → K → Ordering} (o : IsTotalOrder R) where
+  -- over a key that is there, an insert sets the value
+  pub insert_over : (es : List (K × X)) (k : K) (v w : X) → IsStrictlySortedBy R (keys_of es) → lookup (is_at (R k)) es ≡ Some v → insert_entry R es k w ≡ set_value (is_at (R k)) es w
+  insert_over [] k v w s h = cc
+  insert_over (e ∷ es) k v w s h = by (R k e.0) refl (λ q. insert_over es k v w (sorted_tail R e.0 (keys_of es) s) (rw q at h))
+    where
+      by : (r : Ordering) → R k e.0 ≡ r → (R k e.0 ≡ Greater → insert_entry R es k w ≡ set_value (is_at (R k)) es w) → insert_entry R (e ∷ es) k w ≡ set_value (is_at (R k)) (e ∷ es) w
+      by Less q more = let n : lookup (is_at (R k)) (e ∷ es) ≡ None = lookup-none (is_at (R k)) (e ∷ es) (none_below_head o k e es s q) in let none : Some v ≡ None = sym h ∙ n in cc
+      by Equal q more = rw q refl
+      by Greater q more = rw q (ap (λ r. e ∷ r) (more q))
+
+  -- all keys are above k
+  abbrev AllAbove : K → List (K × X) → Type 0
+  AllAbove k es = AllByRecursion (λ y. R k y ≡ Less) (keys_of es)
+
+  insert_front : (es : List (K × X)) (k : K) (v : X) → AllAbove k es → insert_entry R es k v ≡ (k, v) ∷ es
+  insert_front [] k v a = refl
+  insert_front (e ∷ es) k v a = rw a.0 refl
+
+  filter_above : (p : K → Bool) (es : List (K × X)) (k : K) → AllAbove k es → AllAbove k (filter (λ e. p e.0) es)
+  filter_above p [] k a = a
+  filter_above p (e ∷ es) k a = by (p e.0) (filter_above p es k a.1)
+    where
+      by : (b : Bool) → AllAbove k (filter (λ e. p e.0) es) → AllAbove k (cond b (e ∷ filter (λ e. p e.0) es) (filter (λ e. p e.0) es))
+      by true h = (a.0, h)
+      by false h = h
+
+  -- k is below the head, so it is below all
+  above_head : (e : K × X) (es : List (K × X)) (k : K) → IsStrictlySortedBy R (keys_of (e ∷ es)) → R k e.0 ≡ Less → AllAbove k (e ∷ es)
+  unfolding IsStrictlySortedBy
+  above_head e es k s q = (q, all es s.0)
+    where
+      all : (fs : List (K × X)) → AllByRecursion (λ y. R e.0 y ≡ Less) (keys_of fs) → AllAbove k fs
+      all [] a = a
+      all (f ∷ fs) a = (o.trans k e.0 f.0 q a.0, all fs a.1)
+
+  -- a filter by keys, of which one that passes is inserted
+  pub filter-insert_entry : (p : K → Bool) (es : List (K × X)) (k : K) (v : X) → IsStrictlySortedBy R (keys_of es) → p k ≡ true → ((y : K) → R k y ≡ Equal → p y ≡ true) → filter (λ e. p e.0) (insert_entry R es k v) ≡ insert_entry R (filter (λ e. p e.0) es) k v
+  filter-insert_entry p [] k v s t u = rw t refl
+  filter-insert_entry p (e ∷ es) k v s t u = by (R k e.0) refl (filter-insert_entry p es k v (sorted_tail R e.0 (keys_of es) s) t u)
+    where
+      by : (r : Ordering) → R k e.0 ≡ r → filter (λ e. p e.0) (insert_entry R es k v) ≡ insert_entry R (filter (λ e. p e.0) es) k v → filter (λ e. p e.0) (insert_entry R (e ∷ es) k v) ≡ insert_entry R (filter (λ e. p e.0) (e ∷ es)) k v
+      by Less q more = rw (insert_front (filter (λ e. p e.0) (e ∷ es)) k v (filter_above p (e ∷ es) k (above_head e es k s q)), q, t) refl
+      by Equal q more = rw (u e.0 q) (rw q (rw (u e.0 q) refl))
+      by Greater q more = rw q (at (p e.0))
+        where
+          at : (b : Bool) → cond b (e ∷ filter (λ e. p e.0) (insert_entry R es k v)) (filter (λ e. p e.0) (insert_entry R es k v)) ≡ insert_entry R (cond b (e ∷ filter (λ e. p e.0) es) (filter (λ e. p e.0) es)) k v
+          at true = rw q (ap (λ r. e ∷ r) more)
+          at false = more
+
+  -- ---- what holds of each entry
+
+  pub each-insert_entry : (P : K × X → Type 0) (es : List (K × X)) (k : K) (v : X) → AllByRecursion P es → P (k, v) → ((y : K) → R k y ≡ Equal → P (y, v)) → AllByRecursion P (insert_entry R es k v)
+  each-insert_entry P [] k v a h t = (h, tt)
+  each-insert_entry P (e ∷ es) k v a h t = by (R k e.0) refl (each-insert_entry P es k v a.1 h t)
+    where
+      by : (r : Ordering) → R k e.0 ≡ r → AllByRecursion P (insert_entry R es k v) → AllByRecursion P (insert_entry R (e ∷ es) k v)
+      by Less q more = rw q (h, a)
+      by Equal q more = rw q (t e.0 q, a.1)
+      by Greater q more = rw q (a.0, more)
+
+  pub each-filter : (P : K × X → Type 0) (p : K × X → Bool) (es : List (K × X)) → AllByRecursion P es → AllByRecursion P (filter p es)
+  each-filter P p [] a = a
+  each-filter P p (e ∷ es) a = by (p e) (each-filter P p es a.1)
+    where
+      by : (b : Bool) → AllByRecursion P (filter p es) → AllByRecursion P (cond b (e ∷ filter p es) (filter p es))
+      by true h = (a.0, h)
+      by false h = h
+
+  pub each-remove_entry : (P : K × X → Type 0) (test : K → Bool) (es : List (K × X)) → AllByRecursion P es → AllByRecursion P (remove_entry test es)
+  each-remove_entry P test [] a = a
+  each-remove_entry P test (e ∷ es) a = by (test e.0) (each-remove_entry P test es a.1)
+    where
+      by : (b : Bool) → AllByRecursion P (remove_entry test es) → AllByRecursion P (cond b es (e ∷ remove_entry test es))
+      by true h = a.1
+      by false h = (a.0, h)
+
+  -- what a look-up finds stands at an equal key
+  pub each-lookup : (P : K × X → Type 0) (es : List (K × X)) (k : K) (v : X) → AllByRecursion P es → lookup (is_at (R k)) es ≡ Some v → (y : K) × (R k y ≡ Equal) × P (y, v)
+  each-lookup P [] k v a h = cc
+  each-lookup P (e ∷ es) k v a h = by (R k e.0) refl (each-lookup P es k v a.1)
+    where
+      by : (r : Ordering) → R k e.0 ≡ r → (lookup (is_at (R k)) es ≡ Some v → (y : K) × (R k y ≡ Equal) × P (y, v)) → (y : K) × (R k y ≡ Equal) × P (y, v)
+      by Less q more = more (rw q at h)
+      by Equal q more = let same : e.1 ≡ v = Some-injective (rw q at h) in (e.0, q, rw (← same) a.0)
+      by Greater q more = more (rw q at h)
+
+  -- ---- the keys still ascend
+
+  below-insert : (x : K) (es : List (K × X)) (k : K) (v : X) → AllByRecursion (λ y. R x y ≡ Less) (keys_of es) → R x k ≡ Less → AllByRecursion (λ y. R x y ≡ Less) (keys_of (insert_entry R es k v))
+  below-insert x [] k v a h = (h, tt)
+  below-insert x (e ∷ es) k v a h = by (R k e.0) (below-insert x es k v a.1 h)
+    where
+      by : (r : Ordering) → AllByRecursion (λ y. R x y ≡ Less) (keys_of (insert_entry R es k v)) → AllByRecursion (λ y. R x y ≡ Less) (keys_of (match_ordering r ((k, v) ∷ e ∷ es) ((e.0, v) ∷ es) (e ∷ insert_entry R es k v)))
+      by Less more = (h, a)
+      by Equal more = a
+      by Greater more = (a.0, more)
+
+  below-filter : (x : K) (p : K × X → Bool) (es : List (K × X)) → AllByRecursion (λ y. R x y ≡ Less) (keys_of es) → AllByRecursion (λ y. R x y ≡ Less) (keys_of (filter p es))
+  below-filter x p [] a = a
+  below-filter x p (e ∷ es) a = by (p e) (below-filter x p es a.1)
+    where
+      by : (b : Bool) → AllByRecursion (λ y. R x y ≡ Less) (keys_of (filter p es)) → AllByRecursion (λ y. R x y ≡ Less) (keys_of (cond b (e ∷ filter p es) (filter p es)))
+      by true h = (a.0, h)
+      by false h = h
+
+  below-remove : (x : K) (test : K → Bool) (es : List (K × X)) → AllByRecursion (λ y. R x y ≡ Less) (keys_of es) → AllByRecursion (λ y. R x y ≡ Less) (keys_of (remove_entry test es))
+  below-remove x test [] a = a
+  below-remove x test (e ∷ es) a = by (test e.0) (below-remove x test es a.1)
+    where
+      by : (b : Bool) → AllByRecursion (λ y. R x y ≡ Less) (keys_of (remove_entry test es)) → AllByRecursion (λ y. R x y ≡ Less) (keys_of (cond b es (e ∷ remove_entry test es)))
+      by true h = a.1
+      by false h = (a.0, h)
+
+  pub sorted-insert_entry : (es : List (K × X)) (k : K) (v : X) → IsStrictlySortedBy R (keys_of es) → IsStrictlySortedBy R (keys_of (insert_entry R es k v))
+  unfolding IsStrictlySortedBy
+  sorted-insert_entry [] k v s = (tt, tt)
+  sorted-insert_entry (e ∷ es) k v s = by (R k e.0) refl (sorted-insert_entry es k v s.1)
+    where
+      by : (r : Ordering) → R k e.0 ≡ r → IsStrictlySortedBy R (keys_of (insert_entry R es k v)) → IsStrictlySortedBy R (keys_of (insert_entry R (e ∷ es) k v))
+      by Less q more = rw q (above_head e es k s q, s)
+      by Equal q more = rw q s
+      by Greater q more = rw q (below-insert e.0 es k v s.0 (o.antisymm e.0 k ∙ rw q refl), more)
+
+  pub sorted-filter : (p : K × X → Bool) (es : List (K × X)) → IsStrictlySortedBy R (keys_of es) → IsStrictlySortedBy R (keys_of (filter p es))
+  unfolding IsStrictlySortedBy
+  sorted-filter p [] s = s
+  sorted-filter p (e ∷ es) s = by (p e) (sorted-filter p es s.1)
+    where
+      by : (b : Bool) → IsStrictlySortedBy R (keys_of (filter p es)) → IsStrictlySortedBy R (keys_of (cond b (e ∷ filter p es) (filter p es)))
+      by true h = (below-filter e.0 p es s.0, h)
+      by false h = h
+
+  pub sorted-remove_entry : (test : K → Bool) (es : List (K × X)) → IsStrictlySortedBy R (keys_of es) → IsStrictlySortedBy R (keys_of (remove_entry test es))
+  unfolding IsStrictlySortedBy
+  sorted-remove_entry test [] s = s
+  sorted-remove_entry test (e ∷ es) s = by (test e.0) (sorted-remove_entry test es s.1)
+    where
+      by : (b : Bool) → IsStrictlySortedBy R (keys_of (remove_entry test es)) → IsStrictlySortedBy R (keys_of (cond b es (e ∷ remove_entry test es)))
+      by true h = s.1
+      by false h = (below-remove e.0 test es s.0, h)
+
+  below-changed : (x : K) (changed : X → X) (stays : X → Bool) (es : List (K × X)) → AllByRecursion (λ y. R x y ≡ Less) (keys_of es) → AllByRecursion (λ y. R x y ≡ Less) (keys_of (changed_entries changed stays es))
+  below-changed x changed stays [] a = a
+  below-changed x changed stays (e ∷ es) a = by (stays e.1) (below-changed x changed stays es a.1)
+    where
+      by : (b : Bool) → AllByRecursion (λ y. R x y ≡ Less) (keys_of (changed_entries changed stays es)) → AllByRecursion (λ y. R x y ≡ Less) (keys_of (cond b ((e.0, changed e.1) ∷ changed_entries changed stays es) (changed_entries changed stays es)))
+      by true h = (a.0, h)
+      by false h = h
+
+  pub sorted-changed : (changed : X → X) (stays : X → Bool) (es : List (K × X)) → IsStrictlySortedBy R (keys_of es) → IsStrictlySortedBy R (keys_of (changed_entries changed stays es))
+  unfolding IsStrictlySortedBy
+  sorted-changed changed stays [] s = s
+  sorted-changed changed stays (e ∷ es) s = by (stays e.1) (sorted-changed changed stays es s.1)
+    where
+      by : (b : Bool) → IsStrictlySortedBy R (keys_of (changed_entries changed stays es)) → IsStrictlySortedBy R (keys_of (cond b ((e.0, changed e.1) ∷ changed_entries changed stays es) (changed_entries changed stays es)))
+      by true h = (below-changed e.0 changed stays es s.0, h)
+      by false h = h
+
+  -- ---- a sum over the values
+
+  pub sum-filter : (f : X → ℕ) (p : K × X → Bool) (es : List (K × X)) → sum_by f (values_of (filter p es)) ≤ sum_by f (values_of es)
+  sum-filter f p [] = omega arith
+  sum-filter f p (e ∷ es) = let first = sum_by-cons f e.1 (values_of es) in by (p e) (sum-filter f p es)
+    where
+      by : (b : Bool) → sum_by f (values_of (filter p es)) ≤ sum_by f (values_of es) → sum_by f (values_of (cond b (e ∷ filter p es) (filter p es))) ≤ sum_by f (values_of (e ∷ es))
+      by true h = omega (arith, sum_by-cons f e.1 (values_of es), sum_by-cons f e.1 (values_of (filter p es)))
+      by false h = omega (arith, sum_by-cons f e.1 (values_of es))
+
+-- what `retain` leaves, by a closure that changes each value alike
+pub changed_from_retain : {F K V : Type 0} (T : F → K → V → Bool → V → F → Type 0) (changed : V → V) (stays : V → Bool) (f : F) → ((k : K) (v : V) (b : Bool) (w : V) (f' : F) → T f k v b w f' → (b ≡ stays v) × (w ≡ changed v) × (f' ≡ f)) → (es kept : List (K × V)) → RetainsPairs T f es kept → kept ≡ changed_entries changed stays es
+changed_from_retain T changed stays f told [] kept r = r
+changed_from_retain T changed stays f told (e ∷ es) kept (b, w, f', rest, step, more, is) =
+    let t = told e.0 e.1 b w f' step in
+    let later : rest ≡ changed_entries changed stays es = changed_from_retain T changed stays f told es rest (rw t.2 at more) in
+    rw (is, t.0, t.1, later) refl

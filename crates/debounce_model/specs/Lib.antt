@@ -1,0 +1,10 @@
+pub mod Cache
+pub mod CacheLaws
+pub mod Queues
+pub mod Order
+pub mod Command
+pub mod CommandView
+pub mod State
+pub mod Step
+pub mod Run
+pub mod Play

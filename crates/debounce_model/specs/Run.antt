@@ -1,0 +1,27 @@
+-- Runs of commands.
+use Rattle.std.specs.Prelude.{◌≡◌, true, List, [], ◌∷◌}
+use Rattle.notify_types.specs.Errors.{out_of_memory}
+use Rattle.debounce_model.specs.Cache.{Rules}
+use Rattle.debounce_model.specs.Command.{CommandValue, EventCommand, TickCommand, ReplyValue, TakenReply, BatchReply, RefusedReply}
+use Rattle.debounce_model.specs.State.{Core, IsBatch, tick_step, is_due}
+use Rattle.debounce_model.specs.Step.{IsTaken, IsRefused}
+
+module _ {C : Type 0} where
+  -- from s the command may have this reply and leave t
+  abbrev pub Step : Rules C → Core C → CommandValue → ReplyValue → Core C → Type 0
+  Step r s (EventCommand event now exists) (TakenReply answer) t =
+      IsTaken r s (record { event = event; time = now }) exists t × (answer ≡ t.answer)
+  Step r s (EventCommand event now exists) (RefusedReply error) t =
+      IsRefused r s (record { event = event; time = now }) exists error t
+  Step r s (TickCommand now) (BatchReply batch) t =
+      IsBatch s.state now batch × (t ≡ record s { state = tick_step s.state now batch })
+  Step r s (TickCommand now) (RefusedReply error) t = (error ≡ out_of_memory) × (is_due s.state now ≡ true) × (t ≡ s)
+  Step r s command reply t = ⊥
+
+  -- one reply a command, each with a step
+  abbrev pub Run : Rules C → Core C → List CommandValue → List ReplyValue → Core C → Type 0
+  Run r s [] [] t = t ≡ s
+  Run r s [] (reply ∷ replies) t = ⊥
+  Run r s (command ∷ commands) [] t = ⊥
+  Run r s (command ∷ commands) (reply ∷ replies) t =
+      (m : Core C) × Step r s command reply m × Run r m commands replies t

@@ -1,0 +1,82 @@
+-- One event with what it does with the cache: taken, or refused.
+use Rattle.std.specs.Prelude.{◌≡◌, ◌≢◌, ℕ, ◌-◌, ◌^◌, Bool, true, false, ◌&&◌, ◌||◌, Option, None, List, [], ◌∷◌}
+use Rattle.notify_types.specs.Errors.{ErrorValue, ErrorKindValue, FullKind, MemoryKind}
+use Rattle.notify_types.specs.Event.{EventValue, Timed}
+use Rattle.notify_types.specs.Path.{PathValue}
+use Rattle.notify_types.specs.declared.event.RecursiveMode.{RecursiveMode}
+use Rattle.notify_types.specs.declared.event.RecursiveMode.TheVariants.{NonRecursive}
+use Rattle.debounce_model.specs.declared.case.Case.{Case}
+use Rattle.debounce_model.specs.declared.case.Case.TheVariants.{Creation, Removal, Ignored}
+use Rattle.debounce_model.specs.Cache.{Rules, AddPath, RemovePath, Plan, Answer, Make, Ask, CarriesOut, Begins}
+use Rattle.debounce_model.specs.Queues.{Queues, queue_at, skips_at, was_created_at}
+use Rattle.debounce_model.specs.State.{State, Core, case_of, event_step}
+
+-- ---- the calls of an event on the cache
+
+-- the mode in which a path is watched: there are no roots yet
+abbrev pub recursive_mode : State → PathValue → RecursiveMode
+recursive_mode s path = NonRecursive
+
+-- the calls of an event of this case, with this first path
+abbrev pub case_calls : Case → State → PathValue → Plan
+case_calls Creation s path = Make (AddPath path (recursive_mode s path)) (Answer None)
+case_calls Removal s path = Make (RemovePath path) (Answer None)
+case_calls Ignored s path = Answer None
+
+-- .. with these paths: without paths none
+abbrev pub calls_after : Case → State → List PathValue → Plan
+calls_after case s [] = Answer None
+calls_after case s (path ∷ paths) = case_calls case s path
+
+-- the calls of an event, whose first path exists or not
+abbrev pub calls_of : State → EventValue → Bool → Plan
+calls_of s e exists = calls_after (case_of e) s e.paths
+
+-- ---- what takes no memory
+
+-- an event of this case, with this first path, leaves the queues without a growth: a skipped push, a removal
+-- that cancels a creation, and what is ignored
+abbrev pub case_grows_nothing : Case → Queues → PathValue → Timed → Bool
+case_grows_nothing Creation queues path x = skips_at (queue_at queues path) x
+case_grows_nothing Removal queues path x = was_created_at (queue_at queues path)
+case_grows_nothing Ignored queues path x = true
+
+-- .. with these paths: without paths nothing grows
+abbrev pub grows_nothing : Case → Queues → Timed → List PathValue → Bool
+grows_nothing case queues x [] = true
+grows_nothing case queues x (path ∷ paths) = case_grows_nothing case queues path x
+
+-- the cache isn't asked
+abbrev pub is_silent : Plan → Bool
+is_silent (Answer answer) = true
+is_silent (Make call next) = false
+is_silent (Ask path next) = false
+
+-- an event takes no memory, with a cache that refuses nothing or any other
+abbrev pub takes_no_memory : Bool → State → Timed → Bool → Bool
+takes_no_memory refuses_nothing s x exists =
+    (refuses_nothing || is_silent (calls_of s x.event exists)) && grows_nothing (case_of x.event) s.queues x x.event.paths
+
+-- ---- taken, or refused
+
+-- from s the event may be taken and leave t: a step of the table, with the answer that the cache gives
+pub record IsTaken {C : Type 0} (r : Rules C) (s : Core C) (x : Timed) (exists : Bool) (t : Core C) : Type 0 where
+  pub room : s.state.taken ≢ 2 ^ 64 - 1
+  pub state : t.state ≡ event_step s.state x exists t.answer
+  pub calls : CarriesOut r s.cache (calls_of s.state x.event exists) t.answer t.cache
+
+module _ {C : Type 0} where
+  -- from s the event may be refused for this reason and leave t. Full: as many events were taken as can be
+  -- counted, and nothing has changed. Memory: only the cache may have changed, by a beginning of the calls
+  abbrev pub IsRefusedFor : Rules C → Core C → Timed → Bool → ErrorKindValue → Core C → Type 0
+  IsRefusedFor r s x exists FullKind t = (s.state.taken ≡ 2 ^ 64 - 1) × (t ≡ s)
+  IsRefusedFor r s x exists MemoryKind t =
+      (s.state.taken ≢ 2 ^ 64 - 1)
+      × (takes_no_memory r.refuses_nothing s.state x exists ≡ false)
+      × (t ≡ record s { cache = t.cache })
+      × Begins r s.cache (calls_of s.state x.event exists) t.cache
+  IsRefusedFor r s x exists kind t = ⊥
+
+  -- .. with this error, which carries no paths
+  abbrev pub IsRefused : Rules C → Core C → Timed → Bool → ErrorValue → Core C → Type 0
+  IsRefused r s x exists error t = (error.paths ≡ []) × IsRefusedFor r s x exists error.kind t
