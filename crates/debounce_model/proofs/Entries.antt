@@ -3,7 +3,7 @@ use Rattle.std.proofs.Common.{◌≡◌, ℕ, Bool, true, false, cond, List, [],
 use Rattle.std.specs.Prelude.{filter}
 use Rattle.std.specs.declared.cmp.Ordering.{Ordering}
 use Rattle.std.specs.declared.cmp.Ordering.TheVariants.{Less, Equal, Greater}
-use Rattle.std.specs.Ordering.{match_ordering}
+use Rattle.std.specs.Ordering.{match_ordering, is_eq, ordering_reverse}
 use Rattle.std.specs.Cmp.{IsTotalOrder}
 use Rattle.std.specs.Map.{lookup, set_value, remove_entry, keys_of, values_of}
 use Rattle.std.specs.BTreeMap.{is_at, insert_entry}
@@ -18,6 +18,20 @@ use Rattle.std.proofs.lemmas.Map.Entries.{none_below_head}
 
 Some-injective : {T : Type 0} {x y : T} → Some x ≡ Some y → x ≡ y
 Some-injective e = cc
+
+module _ {K : Type 0} {R : K → K → Ordering} (o : IsTotalOrder R) where
+  -- what is not at a key is at none equal to it
+  is_at_other : (k f y : K) → is_eq (R f k) ≡ false → R k y ≡ Equal → is_eq (R f y) ≡ false
+  is_at_other k f y n e = ap is_eq (o.antisymm f y ∙ ap ordering_reverse (sym (o.congr k y f e)) ∙ sym (o.antisymm f k)) ∙ n
+
+  -- a key is equal to itself
+  to_itself : (k : K) → R k k ≡ Equal
+  to_itself k = by (R k k) (o.antisymm k k)
+    where
+      by : (r : Ordering) → r ≡ ordering_reverse r → r ≡ Equal
+      by Less h = cc
+      by Equal h = refl
+      by Greater h = cc
 
 module _ {K X : Type 0} {R : K → K → Ordering} (o : IsTotalOrder R) where
   -- over a key that is there, an insert sets the value
@@ -187,6 +201,28 @@ module _ {K X : Type 0} {R : K → K → Ordering} (o : IsTotalOrder R) where
       by : (b : Bool) → sum_by f (values_of (filter p es)) ≤ sum_by f (values_of es) → sum_by f (values_of (cond b (e ∷ filter p es) (filter p es))) ≤ sum_by f (values_of (e ∷ es))
       by true h = omega (arith, sum_by-cons f e.1 (values_of es), sum_by-cons f e.1 (values_of (filter p es)))
       by false h = omega (arith, sum_by-cons f e.1 (values_of es))
+
+  -- ---- what a look-up finds after an insert
+
+  -- at the key that was inserted its value
+  pub lookup-insert_same : (es : List (K × X)) (k : K) (v : X) → lookup (is_at (R k)) (insert_entry R es k v) ≡ Some v
+  lookup-insert_same [] k v = rw (to_itself o k) refl
+  lookup-insert_same (e ∷ es) k v = by (R k e.0) refl (lookup-insert_same es k v)
+    where
+      by : (r : Ordering) → R k e.0 ≡ r → lookup (is_at (R k)) (insert_entry R es k v) ≡ Some v → lookup (is_at (R k)) (match_ordering r ((k, v) ∷ e ∷ es) ((e.0, v) ∷ es) (e ∷ insert_entry R es k v)) ≡ Some v
+      by Less q more = rw (to_itself o k) refl
+      by Equal q more = rw q refl
+      by Greater q more = rw q more
+
+  -- at another key what was there
+  pub lookup-insert_other : (es : List (K × X)) (k f : K) (v : X) → is_eq (R f k) ≡ false → lookup (is_at (R f)) (insert_entry R es k v) ≡ lookup (is_at (R f)) es
+  lookup-insert_other [] k f v n = rw n refl
+  lookup-insert_other (e ∷ es) k f v n = by (R k e.0) refl (lookup-insert_other es k f v n)
+    where
+      by : (r : Ordering) → R k e.0 ≡ r → lookup (is_at (R f)) (insert_entry R es k v) ≡ lookup (is_at (R f)) es → lookup (is_at (R f)) (match_ordering r ((k, v) ∷ e ∷ es) ((e.0, v) ∷ es) (e ∷ insert_entry R es k v)) ≡ lookup (is_at (R f)) (e ∷ es)
+      by Less q more = rw n refl
+      by Equal q more = rw (is_at_other o k f e.0 n q) refl
+      by Greater q more = ap (λ r. cond (is_eq (R f e.0)) (Some e.1) r) more
 
 -- what `retain` leaves, by a closure that changes each value alike
 pub changed_from_retain : {F K V : Type 0} (T : F → K → V → Bool → V → F → Type 0) (changed : V → V) (stays : V → Bool) (f : F) → ((k : K) (v : V) (b : Bool) (w : V) (f' : F) → T f k v b w f' → (b ≡ stays v) × (w ≡ changed v) × (f' ≡ f)) → (es kept : List (K × V)) → RetainsPairs T f es kept → kept ≡ changed_entries changed stays es

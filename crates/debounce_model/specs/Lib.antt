@@ -2,6 +2,7 @@ pub mod Cache
 pub mod CacheLaws
 pub mod Queues
 pub mod Order
+pub mod OrderLaws
 pub mod Command
 pub mod CommandView
 pub mod State

@@ -1,2 +1,4 @@
 pub mod Lists
 pub mod Texts
+pub mod Prefixes
+pub mod Removals

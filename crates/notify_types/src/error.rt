@@ -1,5 +1,9 @@
 //! Errors.
-ghost use Rattle.std.specs.Prelude.{◌≡◌, ◌++◌, ◌∷◌, [], IfOk, IfErr};
+ghost use Rattle.std.specs.Prelude.{◌≡◌, ◌↔◌, ◌++◌, ◌∷◌, [], IfOk, IfErr, IsTrue};
+ghost use Rattle.std.specs.Cmp.{on_equiv, partial_equiv_from_equiv};
+ghost use Rattle.std.specs.Ordering.{on};
+ghost use Rattle.notify_types.specs.Equality.{error_kind_eq, error_eq};
+ghost use Rattle.notify_types.specs.EqualityLaws.{error_kind_eq_equiv, error_eq_equiv};
 ghost use Rattle.notify_types.specs.Errors.{out_of_memory};
 ghost use Rattle.notify_types.specs.ErrorView.{kind_value};
 
@@ -57,9 +61,34 @@ impl<A: Allocator + Copy> ErrorKind<A> {
     }
 }
 
+impl<A: Allocator> PartialEq for ErrorKind<A> {
+    ghost eq = { on kind_value error_kind_eq };
+
+    ghost laws = { partial_equiv_from_equiv (on_equiv kind_value error_kind_eq_equiv) };
+
+    fn eq(&self, other: &ErrorKind<A>) -> bool
+        ensures value { result ≡ error_kind_eq (kind_value self.now) (kind_value other.now) }
+        ensures same { IsTrue result ↔ (kind_value self.now ≡ kind_value other.now) }
+    {
+        match (self, other) {
+            (ErrorKind::Generic(text), ErrorKind::Generic(other_text)) => text == other_text,
+            (ErrorKind::Io(kind), ErrorKind::Io(other_kind)) => kind == other_kind,
+            (ErrorKind::PathNotFound, ErrorKind::PathNotFound)
+            | (ErrorKind::WatchNotFound, ErrorKind::WatchNotFound)
+            | (ErrorKind::Full, ErrorKind::Full)
+            | (ErrorKind::Memory, ErrorKind::Memory) => true,
+            _ => false,
+        }
+    }
+}
+
+impl<A: Allocator> Eq for ErrorKind<A> {
+    ghost laws = { on_equiv kind_value error_kind_eq_equiv };
+}
+
 /// An error, with the paths that it is about. The debouncer's own refusals carry none, so that
 /// they take no memory.
-#[derive(Drop)]
+#[derive(Debug, Drop)]
 pub struct Error<A: Allocator = Global> {
     pub kind: ErrorKind<A>,
     pub paths: Vec<PathBuf<A>, A>,
@@ -128,4 +157,21 @@ impl<A: Allocator + Copy> Clone for Error<A> {
             paths: clone_paths(&self.paths)?,
         })
     }
+}
+
+impl<A: Allocator> PartialEq for Error<A> {
+    ghost eq = { error_eq };
+
+    ghost laws = { partial_equiv_from_equiv error_eq_equiv };
+
+    fn eq(&self, other: &Error<A>) -> bool
+        ensures value { result ≡ error_eq self.now other.now }
+        ensures same { IsTrue result ↔ (self.now ≡ other.now) }
+    {
+        self.kind == other.kind && self.paths == other.paths
+    }
+}
+
+impl<A: Allocator> Eq for Error<A> {
+    ghost laws = { error_eq_equiv };
 }

@@ -1,7 +1,10 @@
 //! Events, and events with their times.
-ghost use Rattle.std.specs.Prelude.{◌≡◌, ◌++◌, ◌∷◌, [], ◌-◌, IfOk, IfErr, is_some, length, slice_get};
+ghost use Rattle.std.specs.Prelude.{◌≡◌, ◌↔◌, ◌++◌, ◌∷◌, [], ◌-◌, IfOk, IfErr, IsTrue, is_some, length, slice_get};
+ghost use Rattle.std.specs.Cmp.{partial_equiv_from_equiv};
 ghost use Rattle.std.specs.Option.{option_map, option_copied};
 ghost use Rattle.std.specs.String.{string_bytes};
+ghost use Rattle.notify_types.specs.Equality.{attributes_eq, event_eq, timed_eq};
+ghost use Rattle.notify_types.specs.EqualityLaws.{attributes_eq_equiv, event_eq_equiv, timed_eq_equiv};
 ghost use Rattle.notify_types.specs.Errors.{out_of_memory};
 ghost use Rattle.notify_types.specs.Event.{no_attributes, last_of};
 ghost use Rattle.notify_types.specs.Path.{path_cmp};
@@ -30,7 +33,7 @@ pub enum RecursiveMode {
 }
 
 /// What else is known of an event; by default nothing.
-#[derive(Drop)]
+#[derive(Debug, Drop)]
 pub struct EventAttributes<A: Allocator = Global> {
     /// A number that the two halves of one rename share.
     pub tracker: Option<u64>,
@@ -90,6 +93,27 @@ impl<A: Allocator + Copy> Clone for EventAttributes<A> {
     }
 }
 
+impl<A: Allocator> PartialEq for EventAttributes<A> {
+    ghost eq = { attributes_eq };
+
+    ghost laws = { partial_equiv_from_equiv attributes_eq_equiv };
+
+    fn eq(&self, other: &EventAttributes<A>) -> bool
+        ensures value { result ≡ attributes_eq self.now other.now }
+        ensures same { IsTrue result ↔ (self.now ≡ other.now) }
+    {
+        self.tracker == other.tracker
+            && self.flag == other.flag
+            && self.info == other.info
+            && self.source == other.source
+            && self.process_id == other.process_id
+    }
+}
+
+impl<A: Allocator> Eq for EventAttributes<A> {
+    ghost laws = { attributes_eq_equiv };
+}
+
 fn clone_text<A: Allocator + Copy>(
     text: &Option<String<A>>,
 ) -> Result<Option<String<A>>, AllocError>
@@ -102,7 +126,7 @@ fn clone_text<A: Allocator + Copy>(
 }
 
 /// Something that happened to the paths.
-#[derive(Drop)]
+#[derive(Debug, Drop)]
 pub struct Event<A: Allocator = Global> {
     pub kind: EventKind,
     pub paths: Vec<PathBuf<A>, A>,
@@ -227,8 +251,25 @@ impl<A: Allocator + Copy> Clone for Event<A> {
     }
 }
 
+impl<A: Allocator> PartialEq for Event<A> {
+    ghost eq = { event_eq };
+
+    ghost laws = { partial_equiv_from_equiv event_eq_equiv };
+
+    fn eq(&self, other: &Event<A>) -> bool
+        ensures value { result ≡ event_eq self.now other.now }
+        ensures same { IsTrue result ↔ (self.now ≡ other.now) }
+    {
+        self.kind.is_same(other.kind) && self.paths == other.paths && self.attrs == other.attrs
+    }
+}
+
+impl<A: Allocator> Eq for Event<A> {
+    ghost laws = { event_eq_equiv };
+}
+
 /// An event with its time.
-#[derive(Drop)]
+#[derive(Debug, Drop)]
 pub struct DebouncedEvent<A: Allocator = Global> {
     pub event: Event<A>,
     pub time: Moment,
@@ -321,4 +362,21 @@ impl<A: Allocator + Copy> Clone for DebouncedEvent<A> {
             time: self.time,
         })
     }
+}
+
+impl<A: Allocator> PartialEq for DebouncedEvent<A> {
+    ghost eq = { timed_eq };
+
+    ghost laws = { partial_equiv_from_equiv timed_eq_equiv };
+
+    fn eq(&self, other: &DebouncedEvent<A>) -> bool
+        ensures value { result ≡ timed_eq self.now other.now }
+        ensures same { IsTrue result ↔ (self.now ≡ other.now) }
+    {
+        self.event == other.event && self.time == other.time
+    }
+}
+
+impl<A: Allocator> Eq for DebouncedEvent<A> {
+    ghost laws = { timed_eq_equiv };
 }

@@ -151,7 +151,7 @@ impl<A: Allocator> Hash for Part<A> {
 /// proper prefix comes first.
 ///
 /// A path keeps its parts alone, so `/a//b/` is `/a/b`. The empty path has no part.
-#[derive(Drop)]
+#[derive(Debug, Drop)]
 pub struct PathBuf<A: Allocator = Global> {
     parts: Vec<Part<A>, A>,
 }

@@ -1,0 +1,250 @@
+//! The core of the debouncer.
+ghost use Rattle.std.specs.Prelude.{◌≡◌, ◌≢◌, ◌+◌, ◌-◌, ◌^◌, ◌↔◌, [], true, false, None, IfOk, IfErr, OnOk, OnErr, IsOk, List};
+ghost use Rattle.notify_types.specs.Errors.{FullKind, out_of_memory};
+ghost use Rattle.notify_types.specs.Event.{Timed};
+ghost use Rattle.debounce_model.specs.Cache.{CarriesOut, Begins};
+ghost use Rattle.debounce_model.specs.CommandView.{command_value, reply_value, command_values, reply_values};
+ghost use Rattle.debounce_model.specs.Order.{InBatchOrder};
+ghost use Rattle.debounce_model.specs.Queues.{place_list};
+ghost use Rattle.debounce_model.specs.State.{State, empty_state, case_of, waiting, IsBatch, IsOutlook, tick_step, is_due as is_tick_due};
+ghost use Rattle.debounce_model.specs.Step.{IsTaken, IsRefused, calls_of, calls_after, is_silent, takes_no_memory};
+ghost use Rattle.debounce_model.specs.Run.{Step, Run};
+ghost use Rattle.debounce_core.specs.Due.{is_due};
+
+use crate::cache::FileIdCache;
+use crate::emit::{Due, sort_events};
+use crate::queues::Queues;
+use debounce_model::case::Case;
+use debounce_model::command::{Command, Reply};
+use debounce_model::file_id::FileId;
+use notify_types::error::{Error, ErrorKind};
+use notify_types::event::{DebouncedEvent, Event, RecursiveMode};
+use notify_types::kind::EventKind;
+use notify_types::time::Moment;
+use std::alloc::{Allocator, Global};
+use std::marker::Model;
+
+/// A debouncer without a clock: what waits, how long it waits, and a cache of file numbers.
+///
+/// Moments come from the caller, who also says whether an event's first path exists.
+#[derive(Drop)]
+pub struct DebounceDataInner<C, A: Allocator = Global> {
+    queues: Queues<A>,
+    timeout: Moment,
+    taken: u64,
+    given: u64,
+    cache: C,
+    answer: Option<FileId>,
+    alloc: A,
+}
+
+impl<C, A: Allocator> Model for DebounceDataInner<C, A> {
+    ghost use Rattle.debounce_model.specs.State.{Core, IsWellFormed};
+
+    ghost Value = { Core C };
+
+    ghost view = { λ a. record { state = record { queues = a.queues; timeout = a.timeout; taken = a.taken; given = a.given }; cache = a.cache; answer = a.answer } };
+
+    ghost invariant = { λ a. IsWellFormed (record { queues = a.queues; timeout = a.timeout; taken = a.taken; given = a.given }) };
+}
+
+impl<C, A: Allocator + Copy> DebounceDataInner<C, A> {
+    /// Returns a debouncer that waits for nothing. An event is handed out once it is as old as the
+    /// timeout, in nanoseconds.
+    pub fn new(alloc: A, cache: C, timeout: Moment) -> DebounceDataInner<C, A>
+        ensures { result ≡ record { state = empty_state timeout; cache = cache; answer = None } }
+    {
+        DebounceDataInner {
+            queues: Queues::new(alloc),
+            timeout,
+            taken: 0,
+            given: 0,
+            cache,
+            answer: None,
+            alloc,
+        }
+    }
+
+    /// Takes an event at a moment. `exists` says whether its first path exists then.
+    ///
+    /// The event is refused as `Full` where 2^64 - 1 events were taken, before anything else; then
+    /// nothing has changed. It is refused for want of memory only where it takes some; then queues
+    /// and counts are as they were, and the cache is as its own calls left it. A refused event is
+    /// dropped.
+    #[tactic(auto, using(debounce_model::proofs::StepLemmas::all_begun, debounce_model::proofs::StepLemmas::false_without, debounce_model::proofs::StepLemmas::growth_takes_memory))]
+    pub fn add_event(&mut self, event: Event<A>, now: Moment, exists: bool) -> Result<(), Error<A>>
+    where
+        C: FileIdCache<A>,
+        ensures ok { OnOk result (IsTaken C.rules self.old (record { event = event; time = now }) exists self.new) }
+        ensures err { IfErr result (λ e. IsRefused C.rules self.old (record { event = event; time = now }) exists e self.new) }
+        ensures full { (result ≡ Err (record { kind = FullKind; paths = [] })) ↔ (self.old.state.taken ≡ 2 ^ 64 - 1) }
+        ensures sure { self.old.state.taken ≢ 2 ^ 64 - 1 → takes_no_memory C.rules.refuses_nothing self.old.state (record { event = event; time = now }) exists ≡ true → IsOk result }
+    {
+        if self.taken == u64::MAX {
+            return Err(Error::new(self.alloc, ErrorKind::Full));
+        }
+        let event = DebouncedEvent::new(event, now);
+        let case = event_case(&event);
+        let answer = call_cache(&mut self.cache, case, &event)?;
+        match self.queues.take(case, event) {
+            Ok(()) => {
+                self.taken += 1;
+                self.answer = answer;
+                Ok(())
+            }
+            Err(_) => Err(Error::out_of_memory(self.alloc)),
+        }
+    }
+
+    /// Returns the cache's answer of the last event that was taken.
+    pub fn answer(&self) -> Option<FileId>
+        ensures { result ≡ self.now.answer }
+    {
+        self.answer
+    }
+
+    /// Returns how many events were taken.
+    pub fn taken(&self) -> u64
+        ensures { result ≡ self.now.state.taken }
+    {
+        self.taken
+    }
+
+    /// Returns how many events were handed out.
+    pub fn given(&self) -> u64
+        ensures { result ≡ self.now.state.given }
+    {
+        self.given
+    }
+
+    /// Returns how many events wait.
+    pub fn waiting(&self) -> u64
+        ensures { result ≡ waiting self.now.state }
+    {
+        self.queues.waiting(self.taken)
+    }
+
+    /// Hands out what is expired at the moment: of each queue's expired beginning the last event of
+    /// each kind, all of them in the order of [`crate::emit::sort_events`]. Behind an event that is
+    /// younger than the timeout, older ones wait too.
+    ///
+    /// Where memory is refused, nothing has changed; where nothing is expired, none is asked for.
+    pub fn debounced_events(&mut self, now: Moment) -> Result<Vec<DebouncedEvent<A>, A>, Error<A>>
+        ensures batch { IfOk result (λ batch. IsBatch self.old.state now batch.items) }
+        ensures only { IfOk result (λ batch. (other : List Timed) → IsBatch self.old.state now other → other ≡ batch.items) }
+        ensures ok { IfOk result (λ batch. self.new ≡ record self.old { state = tick_step self.old.state now batch.items }) }
+        ensures err { IfErr result (λ e. (e ≡ out_of_memory) × (self.new ≡ self.old)) }
+        ensures sure { is_tick_due self.old.state now ≡ false → IsOk result }
+    {
+        let due = Due::Expired(self.timeout, now);
+        if !self.queues.is_any_due(due) {
+            return Ok(Vec::new(self.alloc));
+        }
+        let batch = self.batch_of(due)?;
+        self.queues.trim(due);
+        self.given += batch.len() as u64;
+        Ok(batch)
+    }
+
+    /// Returns the batch that would be handed out if every event that waits were expired.
+    pub fn outlook(&self) -> Result<Vec<DebouncedEvent<A>, A>, Error<A>>
+        ensures outlook { IfOk result (λ batch. IsOutlook self.now.state batch.items) }
+        ensures only { IfOk result (λ batch. (other : List Timed) → IsOutlook self.now.state other → other ≡ batch.items) }
+        ensures err { IfErr result (λ e. e ≡ out_of_memory) }
+    {
+        self.batch_of(Due::Always)
+    }
+
+    /// Copies of what is due, in the order of a batch.
+    fn batch_of(&self, due: Due) -> Result<Vec<DebouncedEvent<A>, A>, Error<A>>
+        ensures order { IfOk result (λ batch. InBatchOrder (place_list (is_due due) self.now.state.queues) batch.items) }
+        ensures only { IfOk result (λ batch. (other : List Timed) → InBatchOrder (place_list (is_due due) self.now.state.queues) other → other ≡ batch.items) }
+        ensures err { IfErr result (λ e. e ≡ out_of_memory) }
+    {
+        match self.queues.place_list(due) {
+            Ok(places) => sort_events(self.alloc, places),
+            Err(_) => Err(Error::out_of_memory(self.alloc)),
+        }
+    }
+
+    /// Carries out one command.
+    pub fn step(&mut self, command: Command<A>) -> Reply<A>
+    where
+        C: FileIdCache<A>,
+        ensures { Step C.rules self.old (command_value command) (reply_value result) self.new }
+    {
+        match command {
+            Command::Event(event, now, exists) => match self.add_event(event, now, exists) {
+                Ok(()) => Reply::Taken(self.answer()),
+                Err(error) => Reply::Refused(error),
+            },
+            Command::Tick(now) => match self.debounced_events(now) {
+                Ok(batch) => Reply::Batch(batch),
+                Err(error) => Reply::Refused(error),
+            },
+        }
+    }
+
+    /// Carries out the commands in order, and gives one reply for each. A refused command changes
+    /// nothing in the queues and counts, and the run goes on behind it.
+    ///
+    /// Room for the replies is taken before the first command; where that is refused, nothing has
+    /// changed.
+    pub fn run(&mut self, commands: Vec<Command<A>, A>) -> Result<Vec<Reply<A>, A>, Error<A>>
+    where
+        C: FileIdCache<A>,
+        ensures run { IfOk result (λ replies. Run C.rules self.old (command_values commands.items) (reply_values replies.items) self.new) }
+        ensures err { IfErr result (λ e. (e ≡ out_of_memory) × (self.new ≡ self.old)) }
+    {
+        let Ok(mut replies) = Vec::with_capacity(self.alloc, commands.len()) else {
+            return Err(Error::out_of_memory(self.alloc));
+        };
+        for command in commands {
+            let reply = self.step(command);
+            replies.push_reserved(reply);
+        }
+        Ok(replies)
+    }
+}
+
+/// The case of the step table that the event falls in.
+fn event_case<A: Allocator>(event: &DebouncedEvent<A>) -> Case
+    ensures { result ≡ case_of event.now.event }
+{
+    if event.need_rescan() {
+        return Case::Ignored;
+    }
+    match event.kind() {
+        EventKind::Create(_) => Case::Creation,
+        EventKind::Remove(_) => Case::Removal,
+        _ => Case::Ignored,
+    }
+}
+
+/// Makes the calls of an event of this case on the cache, and returns the cache's answer.
+fn call_cache<A: Allocator, C: FileIdCache<A>>(
+    cache: &mut C,
+    case: Case,
+    event: &DebouncedEvent<A>,
+) -> Result<Option<FileId>, Error<A>>
+    ensures ok { IfOk result (λ answer. (s : State) → CarriesOut C.rules cache.old (calls_after case s event.now.event.paths) answer cache.new) }
+    ensures err { OnErr result ((s : State) → Begins C.rules cache.old (calls_after case s event.now.event.paths) cache.new) }
+    ensures memory { IfErr result (λ e. e ≡ out_of_memory) }
+    ensures silent { OnErr result ((s : State) → is_silent (calls_after case s event.now.event.paths) ≡ false) }
+    ensures sure { OnErr result (C.rules.refuses_nothing ≡ false) }
+{
+    let Some(path) = event.first_path() else {
+        return Ok(None);
+    };
+    match case {
+        Case::Creation => {
+            cache.add_path(path, RecursiveMode::NonRecursive)?;
+            Ok(None)
+        }
+        Case::Removal => {
+            cache.remove_path(path)?;
+            Ok(None)
+        }
+        Case::Ignored => Ok(None),
+    }
+}

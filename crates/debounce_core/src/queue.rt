@@ -1,0 +1,145 @@
+//! The queue of one path.
+ghost use Rattle.std.specs.Prelude.{◌≡◌, ◌∷◌, [], OnOk, OnErr, IfOk, IfErr, false, length};
+ghost use Rattle.notify_types.specs.Errors.{out_of_memory};
+ghost use Rattle.debounce_model.specs.Queues.{was_created, was_removed, appended, skips, creates, removes, is_front_due, rest_after, waits};
+ghost use Rattle.debounce_core.specs.Due.{is_due};
+
+use crate::emit::{Due, expired_count};
+use notify_types::error::Error;
+use notify_types::event::DebouncedEvent;
+use notify_types::kind::{EventKind, ModifyKind, RenameMode};
+use std::alloc::{AllocError, Allocator, Global};
+use std::marker::Model;
+
+/// Whether the path is there after an event of this kind.
+fn creates(kind: EventKind) -> bool
+    ensures { result ≡ creates kind }
+{
+    matches!(
+        kind,
+        EventKind::Create(_) | EventKind::Modify(ModifyKind::Name(RenameMode::To))
+    )
+}
+
+/// Whether the path is gone after an event of this kind.
+fn removes(kind: EventKind) -> bool
+    ensures { result ≡ removes kind }
+{
+    matches!(
+        kind,
+        EventKind::Remove(_) | EventKind::Modify(ModifyKind::Name(RenameMode::From))
+    )
+}
+
+/// The events that wait at one path, in the order in which they came.
+#[derive(Drop)]
+pub struct Queue<A: Allocator = Global> {
+    events: Vec<DebouncedEvent<A>, A>,
+}
+
+impl<A: Allocator> Model for Queue<A> {
+    ghost use Rattle.std.specs.Prelude.{List};
+    ghost use Rattle.notify_types.specs.Event.{Timed};
+
+    ghost Value = { List Timed };
+
+    ghost view = { λ a. a.events.items };
+}
+
+impl<A: Allocator> Queue<A> {
+    /// Returns the queue of these events.
+    pub fn new(events: Vec<DebouncedEvent<A>, A>) -> Queue<A>
+        ensures { result ≡ events.items }
+    {
+        Queue { events }
+    }
+
+    /// Whether the first event is a `Create` or a `Modify(Name(To))`.
+    pub fn was_created(&self) -> bool
+        ensures { result ≡ was_created self.now }
+    {
+        match self.events.first() {
+            None => false,
+            Some(first) => creates(first.kind()),
+        }
+    }
+
+    /// Whether the first event is a `Remove` or a `Modify(Name(From))`.
+    pub fn was_removed(&self) -> bool
+        ensures { result ≡ was_removed self.now }
+    {
+        match self.events.first() {
+            None => false,
+            Some(first) => removes(first.kind()),
+        }
+    }
+
+    /// Returns an equal queue.
+    pub fn try_clone(&self) -> Result<Queue<A>, Error<A>>
+    where
+        A: Copy,
+        ensures ok { IfOk result (λ queue. queue ≡ self.now) }
+        ensures err { IfErr result (λ e. e ≡ out_of_memory) }
+    {
+        let alloc = *self.events.allocator();
+        match clone_events(alloc, self.events.as_slice()) {
+            Ok(events) => Ok(Queue { events }),
+            Err(_) => Err(Error::out_of_memory(alloc)),
+        }
+    }
+
+    pub(crate) fn events(&self) -> &[DebouncedEvent<A>]
+        ensures { result.now ≡ self.now }
+    {
+        self.events.as_slice()
+    }
+
+    /// Whether the first event is due.
+    pub(crate) fn is_front_due(&self, due: Due) -> bool
+        ensures { result ≡ is_front_due (is_due due) self.now }
+    {
+        match self.events.first() {
+            None => false,
+            Some(first) => due.is_due(first),
+        }
+    }
+
+    /// Puts an event behind the others, unless the queue was created and skips it.
+    pub(crate) fn append(&mut self, event: DebouncedEvent<A>) -> Result<(), AllocError>
+        ensures ok { OnOk result (self.new ≡ appended self.old event) }
+        ensures err { OnErr result (self.new ≡ self.old) }
+        ensures grown { OnErr result (skips self.old event ≡ false) }
+    {
+        if event.kind().is_skippable() && self.was_created() {
+            return Ok(());
+        }
+        self.events.push(event)?;
+        Ok(())
+    }
+
+    /// Drops the due beginning, and returns whether something waits on.
+    pub(crate) fn trim(&mut self, due: Due) -> bool
+        ensures rest { self.new ≡ rest_after (is_due due) self.old }
+        ensures waits { result ≡ waits (rest_after (is_due due) self.old) }
+    {
+        let count = expired_count(self.events.as_slice(), due);
+        self.events.as_mut_slice().rotate_left(count);
+        let left = self.events.len() - count;
+        self.events.truncate(left);
+        !self.events.as_slice().is_empty()
+    }
+}
+
+/// Copies of these events.
+fn clone_events<A: Allocator + Copy>(
+    alloc: A,
+    events: &[DebouncedEvent<A>],
+) -> Result<Vec<DebouncedEvent<A>, A>, AllocError>
+    ensures { IfOk result (λ copies. copies.items ≡ events.now) }
+{
+    let mut copies = Vec::with_capacity(alloc, events.len())?;
+    for event in events {
+        copies.push(event.clone()?)?;
+    }
+    Ok(copies)
+}
