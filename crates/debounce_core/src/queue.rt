@@ -1,12 +1,15 @@
 //! The queue of one path.
-ghost use Rattle.std.specs.Prelude.{◌≡◌, ◌∷◌, [], OnOk, OnErr, IfOk, IfErr, false, length};
+ghost use Rattle.std.specs.Prelude.{◌≡◌, ◌↔◌, ◌∷◌, [], OnOk, OnErr, IfOk, IfErr, IsTrue, false, length};
+ghost use Rattle.std.specs.Cmp.{partial_equiv_from_equiv};
 ghost use Rattle.notify_types.specs.Errors.{out_of_memory};
+ghost use Rattle.debounce_model.specs.Equality.{events_eq};
+ghost use Rattle.debounce_model.specs.EqualityLaws.{events_eq_equiv};
 ghost use Rattle.debounce_model.specs.Queues.{was_created, was_removed, appended, skips, creates, removes, is_front_due, rest_after, waits};
 ghost use Rattle.debounce_core.specs.Due.{is_due};
 
 use crate::emit::{Due, expired_count};
 use notify_types::error::Error;
-use notify_types::event::DebouncedEvent;
+use notify_types::event::{DebouncedEvent, clone_events};
 use notify_types::kind::{EventKind, ModifyKind, RenameMode};
 use std::alloc::{AllocError, Allocator, Global};
 use std::marker::Model;
@@ -32,7 +35,7 @@ fn removes(kind: EventKind) -> bool
 }
 
 /// The events that wait at one path, in the order in which they came.
-#[derive(Drop)]
+#[derive(Debug, Drop)]
 pub struct Queue<A: Allocator = Global> {
     events: Vec<DebouncedEvent<A>, A>,
 }
@@ -130,16 +133,19 @@ impl<A: Allocator> Queue<A> {
     }
 }
 
-/// Copies of these events.
-fn clone_events<A: Allocator + Copy>(
-    alloc: A,
-    events: &[DebouncedEvent<A>],
-) -> Result<Vec<DebouncedEvent<A>, A>, AllocError>
-    ensures { IfOk result (λ copies. copies.items ≡ events.now) }
-{
-    let mut copies = Vec::with_capacity(alloc, events.len())?;
-    for event in events {
-        copies.push(event.clone()?)?;
+impl<A: Allocator> PartialEq for Queue<A> {
+    ghost eq = { events_eq };
+
+    ghost laws = { partial_equiv_from_equiv events_eq_equiv };
+
+    fn eq(&self, other: &Queue<A>) -> bool
+        ensures value { result ≡ events_eq self.now other.now }
+        ensures same { IsTrue result ↔ (self.now ≡ other.now) }
+    {
+        self.events == other.events
     }
-    Ok(copies)
+}
+
+impl<A: Allocator> Eq for Queue<A> {
+    ghost laws = { events_eq_equiv };
 }

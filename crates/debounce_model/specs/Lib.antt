@@ -5,6 +5,8 @@ pub mod Order
 pub mod OrderLaws
 pub mod Command
 pub mod CommandView
+pub mod Equality
+pub mod EqualityLaws
 pub mod State
 pub mod Step
 pub mod Run

@@ -19,11 +19,11 @@ use Rattle.notify_types.specs.declared.event.Flag.{Flag}
 use Rattle.notify_types.specs.declared.event.Flag.TheVariants.{Rescan}
 
 -- what is so is decided by true
-Decides-true : {P : Type 0} → P → Decides true P
+pub Decides-true : {P : Type 0} → P → Decides true P
 Decides-true p = (λ _. p, λ _. refl)
 
 -- what is not so is decided by false
-Decides-false : {P : Type 0} → (P → ⊥) → Decides false P
+pub Decides-false : {P : Type 0} → (P → ⊥) → Decides false P
 Decides-false p = (λ h. absurd (true≢false (sym h)), λ h. absurd (p h))
 
 -- the test of options decides where that of what they hold does

@@ -96,7 +96,7 @@ kind_number (kind.Remove r) = 36 + remove_number r
 kind_number kind.Other = 40
 
 -- each kind stands at its number
-kind_at-number : (k : EventKind) → slice_index_or kinds (kind_number k) kind.Any ≡ k
+pub kind_at-number : (k : EventKind) → slice_index_or kinds (kind_number k) kind.Any ≡ k
 kind_at-number kind.Any = refl
 kind_at-number (kind.Access access.Any) = refl
 kind_at-number (kind.Access access.Read) = refl

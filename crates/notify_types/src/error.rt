@@ -86,9 +86,10 @@ impl<A: Allocator> Eq for ErrorKind<A> {
     ghost laws = { on_equiv kind_value error_kind_eq_equiv };
 }
 
-/// An error, with the paths that it is about. The debouncer's own refusals carry none, so that
-/// they take no memory.
-#[derive(Debug, Drop)]
+/// An error, with the paths that it is about. Its text is that of its kind. The debouncer's own
+/// refusals carry no paths, so that they take no memory.
+#[derive(Debug, Drop, ErrorText)]
+#[error("{kind}")]
 pub struct Error<A: Allocator = Global> {
     pub kind: ErrorKind<A>,
     pub paths: Vec<PathBuf<A>, A>,

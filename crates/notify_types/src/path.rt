@@ -1,5 +1,5 @@
 //! Paths as lists of parts, as Rust's components on Unix.
-ghost use Rattle.std.specs.Prelude.{◌≡◌, ◌++◌, [], IfOk, IfErr, OnOk};
+ghost use Rattle.std.specs.Prelude.{◌≡◌, ◌↔◌, ◌++◌, [], IfOk, IfErr, IsTrue, OnOk};
 ghost use Rattle.std.specs.Ordering.{on, as_partial_cmp};
 ghost use Rattle.std.specs.Path.{IsWellFormedComponent};
 ghost use Rattle.std.specs.String.{string_bytes};
@@ -101,7 +101,10 @@ impl<A: Allocator> PartialEq for Part<A> {
 
     ghost laws = { Prim.search (comparing, partial_equiv_from_equiv, part_eq_equiv, rules) };
 
-    fn eq(&self, other: &Part<A>) -> bool {
+    fn eq(&self, other: &Part<A>) -> bool
+        ensures value { result ≡ part_eq (part_value self.now) (part_value other.now) }
+        ensures same { IsTrue result ↔ (part_value self.now ≡ part_value other.now) }
+    {
         self.cmp(other).is_eq()
     }
 }
@@ -301,7 +304,10 @@ impl<A: Allocator> PartialEq for PathBuf<A> {
 
     ghost laws = { partial_equiv_from_equiv path_eq_equiv };
 
-    fn eq(&self, other: &PathBuf<A>) -> bool {
+    fn eq(&self, other: &PathBuf<A>) -> bool
+        ensures value { result ≡ path_eq self.now other.now }
+        ensures same { IsTrue result ↔ (self.now ≡ other.now) }
+    {
         self.parts == other.parts
     }
 }

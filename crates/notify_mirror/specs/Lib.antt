@@ -1,0 +1,5 @@
+pub mod Printed
+pub mod Script
+pub mod ScriptView
+pub mod Usage
+pub mod Faults

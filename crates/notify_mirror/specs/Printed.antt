@@ -1,0 +1,80 @@
+-- What a run prints: its lines, byte by byte.
+use Rattle.std.specs.Prelude.{ℕ, Option, Some, None, List, [], ◌∷◌, ◌++◌, codes}
+use Rattle.std.specs.Fmt.{decimal}
+use Rattle.std.specs.List.{join_with_byte}
+use Rattle.notify_types.specs.Errors.{ErrorKindValue, GenericKind, IoKind, PathNotFoundKind, WatchNotFoundKind, FullKind, MemoryKind}
+use Rattle.notify_types.specs.Event.{AttributesValue, Timed}
+use Rattle.notify_types.specs.KindWords.{word_of}
+use Rattle.notify_types.specs.Path.{PathValue}
+use Rattle.notify_types.specs.PathText.{text_of}
+use Rattle.notify_types.specs.declared.event.Flag.{Flag}
+
+-- ---- the fields of an event line
+
+-- a path in a line: the empty path is two quotes
+abbrev pub path_field : PathValue → List ℕ
+path_field [] = codes "\"\""
+path_field (part ∷ parts) = text_of (part ∷ parts)
+
+-- the paths of a line, each behind a space
+abbrev pub path_fields : List PathValue → List ℕ
+path_fields [] = []
+path_fields (path ∷ paths) = 32 ∷ (path_field path ++ path_fields paths)
+
+-- the tracker among the options, where there is one
+abbrev pub tracker_words : Option ℕ → List (List ℕ)
+tracker_words None = []
+tracker_words (Some tracker) = (codes "tracker=" ++ decimal tracker) ∷ []
+
+-- the info among the options, where there is one
+abbrev pub info_words : Option (List ℕ) → List (List ℕ)
+info_words None = []
+info_words (Some info) = (codes "info=" ++ info) ∷ []
+
+-- the flag among the options, where there is one
+abbrev pub rescan_words : Option Flag → List (List ℕ)
+rescan_words None = []
+rescan_words (Some flag) = codes "rescan" ∷ []
+
+-- the words, joined by commas, or `-` where there is none
+abbrev pub words_field : List (List ℕ) → List ℕ
+words_field [] = codes "-"
+words_field (word ∷ words) = join_with_byte 44 (word ∷ words)
+
+-- the options of an event: tracker, info and flag, in this order
+abbrev pub options_field : AttributesValue → List ℕ
+options_field attrs = words_field (tracker_words attrs.tracker ++ (info_words attrs.info ++ rescan_words attrs.flag))
+
+-- ---- the lines
+
+-- an event line that begins with this word
+abbrev pub event_line : List ℕ → Timed → List ℕ
+event_line word x =
+    word ++ (32 ∷ (decimal x.time ++ (32 ∷ (word_of x.event.kind
+    ++ (32 ∷ (options_field x.event.attrs ++ (path_fields x.event.paths ++ (10 ∷ []))))))))
+
+-- the head of a batch: the tick's moment, and how many event lines follow
+abbrev pub batch_line : ℕ → ℕ → List ℕ
+batch_line now count = codes "batch " ++ (decimal now ++ (32 ∷ (decimal count ++ (10 ∷ []))))
+
+-- the word of an error
+abbrev pub error_word : ErrorKindValue → List ℕ
+error_word (GenericKind text) = codes "Generic"
+error_word (IoKind kind) = codes "Io"
+error_word PathNotFoundKind = codes "PathNotFound"
+error_word WatchNotFoundKind = codes "WatchNotFound"
+error_word FullKind = codes "Full"
+error_word MemoryKind = codes "Memory"
+
+-- a refused command
+abbrev pub refused_line : ErrorKindValue → List ℕ
+refused_line kind = codes "refused " ++ (error_word kind ++ (10 ∷ []))
+
+-- how many events were taken, how many were given out, and how many wait
+abbrev pub counts_line : ℕ → ℕ → ℕ → List ℕ
+counts_line taken given waiting =
+    codes "taken " ++ (decimal taken ++ (codes " given " ++ (decimal given ++ (codes " waiting " ++ (decimal waiting ++ (10 ∷ []))))))
+
+-- a list of paths behind this word
+abbrev pub paths_line : List ℕ → List PathValue → List ℕ
+paths_line word paths = word ++ (path_fields paths ++ (10 ∷ []))

@@ -1,0 +1,138 @@
+//! A script on a debouncer: its commands are run, and what comes of them is printed.
+use crate::path_set::PathSet;
+use crate::print::{push_batch, push_counts, push_event, push_list, push_refused};
+use crate::run::{Broken, write_full, write_last};
+use crate::script::Script;
+use notify_debouncer_full::{
+    Command, DebounceDataInner, DebouncedEvent, NoCache, PathBuf, Reply,
+};
+use std::alloc::Allocator;
+use std::io::Write;
+
+/// Runs the script's commands on a debouncer with no cache. Prints the replies, the counts, what
+/// waits, and three lists of paths: the reader's after the batches, the reader's after what waits
+/// too, and those after the events as they came.
+pub(crate) fn play_script<A: Allocator + Copy, O: Write>(
+    alloc: A,
+    script: Script<A>,
+    out: &mut O,
+) -> Result<(), Broken> {
+    let Script {
+        timeout,
+        start,
+        commands,
+    } = script;
+    let told = clone_commands(alloc, commands.as_slice())?;
+    let mut core = DebounceDataInner::new(alloc, NoCache::new(), timeout);
+    let replies = core.run(commands)?;
+    let mut text = String::new(alloc);
+    let played = print_replies(alloc, told, replies, &mut text, out)?;
+    push_counts(&mut text, core.taken(), core.given(), core.waiting())?;
+    let waiting = core.outlook()?;
+    print_events(&mut text, "wait", waiting.as_slice(), out)?;
+    push_paths_played(&mut text, set_of(alloc, start)?, &played, waiting.as_slice())?;
+    write_last(&mut text, out)
+}
+
+/// What was played of a script.
+#[derive(Drop)]
+struct Played<A: Allocator> {
+    /// The events of all batches.
+    handed: Vec<DebouncedEvent<A>, A>,
+    /// The accepted events, as they came.
+    accepted: Vec<DebouncedEvent<A>, A>,
+}
+
+/// Copies of the commands, since a run uses them up.
+fn clone_commands<A: Allocator + Copy>(
+    alloc: A,
+    commands: &[Command<A>],
+) -> Result<Vec<Command<A>, A>, Broken> {
+    let mut copies = Vec::with_capacity(alloc, commands.len())?;
+    for command in commands {
+        copies.push(command.try_clone(alloc)?)?;
+    }
+    Ok(copies)
+}
+
+/// The set of these paths.
+fn set_of<A: Allocator + Copy>(alloc: A, paths: Vec<PathBuf<A>, A>) -> Result<PathSet<A>, Broken> {
+    let mut set = PathSet::new(alloc);
+    for path in paths {
+        set.insert(path)?;
+    }
+    Ok(set)
+}
+
+/// Prints each command's reply, and sorts out what is to be played.
+fn print_replies<A: Allocator + Copy, O: Write>(
+    alloc: A,
+    commands: Vec<Command<A>, A>,
+    replies: Vec<Reply<A>, A>,
+    text: &mut String<A>,
+    out: &mut O,
+) -> Result<Played<A>, Broken> {
+    let mut played = Played {
+        handed: Vec::new(alloc),
+        accepted: Vec::new(alloc),
+    };
+    for (command, reply) in commands.into_iter().zip(replies) {
+        match (command, reply) {
+            (Command::Event(event, now, _), Reply::Taken(_)) => {
+                played.accepted.push(DebouncedEvent::new(event, now))?;
+            }
+            (Command::Tick(now), Reply::Batch(batch)) => {
+                push_batch(text, now, batch.len())?;
+                print_events(text, "event", batch.as_slice(), out)?;
+                append(&mut played.handed, batch)?;
+            }
+            (_, Reply::Refused(error)) => push_refused(text, &error.kind)?,
+            _ => {}
+        }
+        write_full(text, out)?;
+    }
+    Ok(played)
+}
+
+/// Puts the events behind the others.
+fn append<A: Allocator>(
+    events: &mut Vec<DebouncedEvent<A>, A>,
+    batch: Vec<DebouncedEvent<A>, A>,
+) -> Result<(), Broken> {
+    for event in batch {
+        events.push(event)?;
+    }
+    Ok(())
+}
+
+/// Prints a line for each event, which begins with `word`.
+fn print_events<A: Allocator, O: Write>(
+    text: &mut String<A>,
+    word: &str,
+    events: &[DebouncedEvent<A>],
+    out: &mut O,
+) -> Result<(), Broken> {
+    for event in events {
+        push_event(text, word, event)?;
+        write_full(text, out)?;
+    }
+    Ok(())
+}
+
+/// Puts the three lists of paths behind what stands in `text`.
+fn push_paths_played<A: Allocator + Copy>(
+    text: &mut String<A>,
+    start: PathSet<A>,
+    played: &Played<A>,
+    waiting: &[DebouncedEvent<A>],
+) -> Result<(), Broken> {
+    let mut reader = start.try_clone()?;
+    reader.play(played.handed.as_slice())?;
+    push_list(text, "reader", reader.to_list()?.as_slice())?;
+    reader.play(waiting)?;
+    push_list(text, "after", reader.to_list()?.as_slice())?;
+    let mut raw = start;
+    raw.play(played.accepted.as_slice())?;
+    push_list(text, "raw", raw.to_list()?.as_slice())?;
+    Ok(())
+}
