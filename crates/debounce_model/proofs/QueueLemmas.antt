@@ -1,21 +1,21 @@
 -- Laws of the queues, which the core and the laws of states cite.
 use Rattle.std.specs.Prelude.{if◌then◌else◌}
-use Rattle.std.proofs.Common.{rules, ◌≡◌, ℕ, Bool, true, false, cond, List, [], ◌∷◌, ◌++◌, refl, ap, sym, ◌∙◌, Option, Some, None, not, ◌&&◌}
+use Rattle.std.proofs.Common.{rules, ◌≡◌, ℕ, Bool, true, false, cond, List, [], ◌∷◌, ◌++◌, refl, ap, sym, ◌∙◌, Some, None, not, ◌&&◌}
 use Rattle.std.specs.Prelude.{slice_get}
 use Rattle.std.specs.Ordering.{is_eq}
 use Rattle.std.specs.declared.cmp.Ordering.TheVariants.{Equal}
-use Rattle.std.specs.Map.{lookup, set_value, keys_of}
+use Rattle.std.specs.Map.{set_value, keys_of}
 use Rattle.std.proofs.Common.{◌+◌, ◌<◌, suc, length, get_or, take, drop, add-one, append_assoc, drop-cons}
 use Rattle.std.proofs.Math.Seq.{take-suc}
-use Rattle.std.specs.BTreeMap.{is_at, insert_entry}
+use Rattle.std.specs.BTreeMap.{is_at}
 use Rattle.std.specs.List.Sorted.{IsStrictlySortedBy}
 use Rattle.std.proofs.lemmas.Map.Steps.{set_value_same}
-use Rattle.notify_types.specs.Path.{PathValue, path_cmp, path_eq, is_prefix, is_below}
+use Rattle.notify_types.specs.Path.{PathValue, path_cmp, is_prefix, is_below}
 use Rattle.notify_types.specs.PathLaws.{path_cmp_total, path_eq_equiv, path_eq_decides, path_matches_eq}
 use Rattle.notify_types.specs.Event.{Timed}
 use Rattle.debounce_model.specs.declared.case.Case.{Case}
 use Rattle.debounce_model.specs.Queues.{Queues, queue_at, push, appended, skips, with_queue, without_queue, without_below, was_created_at, removal, expired_beginning, rest_after, last_of_kind, place_list, rests, waits, is_front_due, is_any_due}
-use Rattle.debounce_model.specs.State.{AreQueues, IsNonempty, IsKeyed, case_queues, queues_after}
+use Rattle.debounce_model.specs.State.{AreQueues, IsNonempty, case_queues, queues_after}
 use Rattle.notify_types.specs.KindNumbers.{kind_eq}
 use Rattle.std.specs.List.{list_any}
 use Rattle.debounce_model.proofs.Entries.{insert_over, filter-insert_entry}
@@ -53,9 +53,10 @@ removal_of_created queues path x h = rw h refl
 pub beginning-more : (due : Timed → Bool) (xs : List Timed) (i : ℕ) (x : Timed) → i < length xs → x ≡ get_or xs i x → due x ≡ true → (take (i + 1) xs ++ expired_beginning due (drop (i + 1) xs) ≡ take i xs ++ expired_beginning due (drop i xs)) × (rest_after due (drop (i + 1) xs) ≡ rest_after due (drop i xs))
 beginning-more due xs i x h is old =
     let cut : drop i xs ≡ x ∷ drop (i + 1) xs = rw add-one (drop-cons xs i x h ∙ ap (λ y. y ∷ drop (suc i) xs) (sym is)) in
-    let front : take (i + 1) xs ≡ take i xs ++ x ∷ [] = rw add-one (take-suc xs i x h ∙ ap (λ y. take i xs ++ y ∷ []) (sym is)) in
-    ( rw (cut, front, old, append_assoc) refl
-    , rw (cut, old) refl )
+    let front : take (i + 1) xs ≡ take i xs ++ x ∷ [] = rw add-one (take-suc xs i x h ∙ ap (λ y. take i xs ++ y ∷ []) (sym is)) in (
+      rw (cut, front, old, append_assoc) refl,
+      rw (cut, old) refl,
+    )
 
 -- no more due events
 pub beginning-end : (due : Timed → Bool) (xs : List Timed) (i : ℕ) (x : Timed) → i < length xs → x ≡ get_or xs i x → due x ≡ false → (expired_beginning due (drop i xs) ≡ []) × (rest_after due (drop i xs) ≡ drop i xs)

@@ -1,11 +1,10 @@
 -- What an event and a tick keep of a state: the laws in the type of the core.
 use Rattle.std.proofs.Common.{◌≡◌, ℕ, ◌+◌, ◌≤◌, Bool, true, false, cond, List, [], ◌∷◌, ◌++◌, refl, ap, sym, ◌∙◌, Option, Some, None, not, arith, length, length-append}
 use Rattle.std.specs.Option.{option_map, unwrap_or}
-use Rattle.std.specs.Map.{lookup, remove_entry, keys_of, values_of}
-use Rattle.std.specs.BTreeMap.{is_at, insert_entry}
-use Rattle.std.specs.List.{AllByRecursion, sum_by, list_any}
+use Rattle.std.specs.Map.{keys_of, values_of}
+use Rattle.std.specs.BTreeMap.{is_at}
+use Rattle.std.specs.List.{list_any}
 use Rattle.std.specs.List.Sorted.{IsStrictlySortedBy}
-use Rattle.std.specs.declared.cmp.Ordering.TheVariants.{Equal}
 use Rattle.std.proofs.lemmas.Map.Entries.{sum_by-insert_entry, sum_by-remove_entry}
 use Rattle.notify_types.specs.Path.{PathValue, path_cmp, is_below}
 use Rattle.notify_types.specs.PathLaws.{path_cmp_total}
@@ -86,6 +85,7 @@ good-removal queues path x n g f = by (was_created_at (queue_at queues path))
   where
     replaced : AreGood (with_queue (without_below queues path) path (x ∷ [])) (n + 1)
     replaced = let b = good-below queues path n g in good-set (without_below queues path) path [] (x ∷ []) n (n + 1) b tt (f, tt) (omega (arith, b.bounded))
+
     by : (b : Bool) → AreGood (cond b (without_queue (without_below queues path) path) (with_queue (without_below queues path) path (x ∷ []))) (n + 1)
     by true = good-more _ n (n + 1) (good-without (without_below queues path) path n (good-below queues path n g)) (omega arith)
     by false = replaced
@@ -95,6 +95,7 @@ good-step case s x w = by x.event.paths refl
   where
     g : AreGood s.queues (waiting_in s.queues)
     g = record { kept = w.queues; ordered = w.ordered; bounded = omega arith }
+
     by : (ps : List PathValue) → x.event.paths ≡ ps → AreGood (queues_after case s.queues x ps) (waiting_in s.queues + 1)
     by [] e = good-more _ _ _ g (omega arith)
     by (p ∷ ps) e = at case

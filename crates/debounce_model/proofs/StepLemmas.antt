@@ -1,12 +1,8 @@
 -- Laws of what an event does with the cache, and of what takes no memory.
-use Rattle.std.proofs.Common.{◌≡◌, List, [], ◌∷◌, Bool, true, false, ◌&&◌, ◌||◌, Option, refl, inl, inr}
-use Rattle.std.specs.Prelude.{slice_get, Some}
+use Rattle.std.proofs.Common.{◌≡◌, Bool, true, false, ◌&&◌, ◌||◌, Option, refl, inr}
 use Rattle.notify_types.specs.Event.{Timed}
-use Rattle.notify_types.specs.Path.{PathValue}
-use Rattle.debounce_model.specs.declared.case.Case.{Case}
 use Rattle.debounce_model.specs.declared.file_id.FileId.{FileId}
 use Rattle.debounce_model.specs.Cache.{Rules, Plan, Answer, Make, Ask, CarriesOut, Begins}
-use Rattle.debounce_model.specs.Queues.{Queues}
 use Rattle.debounce_model.specs.State.{State, case_of}
 use Rattle.debounce_model.specs.Step.{takes_no_memory, grows_nothing, is_silent, calls_of}
 

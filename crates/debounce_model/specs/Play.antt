@@ -7,7 +7,7 @@ use Rattle.notify_types.specs.Event.{EventValue, Timed}
 use Rattle.notify_types.specs.Kinds.{is_creation, is_removal, is_rename}
 use Rattle.notify_types.specs.Path.{PathValue, path_cmp, is_prefix}
 use Rattle.notify_types.specs.declared.kind.EventKind.{EventKind}
-use Rattle.debounce_model.specs.Command.{CommandValue, EventCommand, TickCommand, ReplyValue, TakenReply, BatchReply, RefusedReply}
+use Rattle.debounce_model.specs.Command.{CommandValue, EventCommand, ReplyValue, TakenReply}
 
 -- a set of paths, in their order
 abbrev pub Paths : Type 0

@@ -1,5 +1,5 @@
 -- One event with what it does with the cache: taken, or refused.
-use Rattle.std.specs.Prelude.{◌≡◌, ◌≢◌, ℕ, ◌-◌, ◌^◌, Bool, true, false, ◌&&◌, ◌||◌, Option, None, List, [], ◌∷◌}
+use Rattle.std.specs.Prelude.{◌≡◌, ◌≢◌, ◌-◌, ◌^◌, Bool, true, false, ◌&&◌, ◌||◌, None, List, [], ◌∷◌}
 use Rattle.notify_types.specs.Errors.{ErrorValue, ErrorKindValue, FullKind, MemoryKind}
 use Rattle.notify_types.specs.Event.{EventValue, Timed}
 use Rattle.notify_types.specs.Path.{PathValue}

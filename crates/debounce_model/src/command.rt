@@ -55,9 +55,10 @@ impl<A: Allocator> PartialEq for Command<A> {
         ensures same { IsTrue result ↔ (command_value self.now ≡ command_value other.now) }
     {
         match (self, other) {
-            (Command::Event(event, now, exists), Command::Event(other_event, other_now, other_exists)) => {
-                event == other_event && now == other_now && exists == other_exists
-            }
+            (
+                Command::Event(event, now, exists),
+                Command::Event(other_event, other_now, other_exists),
+            ) => { event == other_event && now == other_now && exists == other_exists }
             (Command::Tick(now), Command::Tick(other_now)) => now == other_now,
             _ => false,
         }
@@ -95,7 +96,10 @@ impl<A: Allocator + Copy> Clone for Reply<A> {
     fn clone(&self) -> Result<Reply<A>, AllocError> {
         match self {
             Reply::Taken(answer) => Ok(Reply::Taken(*answer)),
-            Reply::Batch(batch) => Ok(Reply::Batch(clone_events(*batch.allocator(), batch.as_slice())?)),
+            Reply::Batch(batch) => Ok(Reply::Batch(clone_events(
+                *batch.allocator(),
+                batch.as_slice(),
+            )?)),
             Reply::Refused(error) => Ok(Reply::Refused(error.clone()?)),
         }
     }

@@ -4,7 +4,7 @@ use crate::print::{push_batch, push_counts, push_event, push_list, push_refused}
 use crate::run::{Broken, write_full, write_last};
 use crate::script::Script;
 use notify_debouncer_full::{
-    Command, DebounceDataInner, DebouncedEvent, NoCache, PathBuf, Reply,
+    Command, DebounceDataInner, DebouncedEvent, Moment, NoCache, PathBuf, Reply,
 };
 use std::alloc::Allocator;
 use std::io::Write;
@@ -77,32 +77,59 @@ fn print_replies<A: Allocator + Copy, O: Write>(
         accepted: Vec::new(alloc),
     };
     for (command, reply) in commands.into_iter().zip(replies) {
-        match (command, reply) {
-            (Command::Event(event, now, _), Reply::Taken(_)) => {
-                played.accepted.push(DebouncedEvent::new(event, now))?;
-            }
-            (Command::Tick(now), Reply::Batch(batch)) => {
-                push_batch(text, now, batch.len())?;
-                print_events(text, "event", batch.as_slice(), out)?;
-                append(&mut played.handed, batch)?;
-            }
-            (_, Reply::Refused(error)) => push_refused(text, &error.kind)?,
-            _ => {}
-        }
+        played.take(command, reply, text, out)?;
         write_full(text, out)?;
     }
     Ok(played)
 }
 
-/// Puts the events behind the others.
-fn append<A: Allocator>(
-    events: &mut Vec<DebouncedEvent<A>, A>,
-    batch: Vec<DebouncedEvent<A>, A>,
-) -> Result<(), Broken> {
-    for event in batch {
-        events.push(event)?;
+/// The moment of a command.
+fn moment_of<A: Allocator>(command: &Command<A>) -> Moment {
+    match command {
+        Command::Event(_, now, _) | Command::Tick(now) => *now,
     }
-    Ok(())
+}
+
+impl<A: Allocator> Played<A> {
+    /// Prints a command's reply.
+    fn take<O: Write>(
+        &mut self,
+        command: Command<A>,
+        reply: Reply<A>,
+        text: &mut String<A>,
+        out: &mut O,
+    ) -> Result<(), Broken> {
+        match reply {
+            Reply::Taken(_) => self.accept(command),
+            Reply::Batch(batch) => self.hand_out(moment_of(&command), batch, text, out),
+            Reply::Refused(error) => Ok(push_refused(text, &error.kind)?),
+        }
+    }
+
+    fn accept(&mut self, command: Command<A>) -> Result<(), Broken> {
+        match command {
+            Command::Event(event, now, _) => {
+                self.accepted.push(DebouncedEvent::new(event, now))?;
+                Ok(())
+            }
+            Command::Tick(_) => Ok(()),
+        }
+    }
+
+    fn hand_out<O: Write>(
+        &mut self,
+        now: Moment,
+        batch: Vec<DebouncedEvent<A>, A>,
+        text: &mut String<A>,
+        out: &mut O,
+    ) -> Result<(), Broken> {
+        push_batch(text, now, batch.len())?;
+        print_events(text, "event", batch.as_slice(), out)?;
+        for event in batch {
+            self.handed.push(event)?;
+        }
+        Ok(())
+    }
 }
 
 /// Prints a line for each event, which begins with `word`.

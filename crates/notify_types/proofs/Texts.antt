@@ -1,11 +1,11 @@
 -- Reading what a path prints gives the path again, and what is read is a path.
-use Rattle.std.proofs.Common.{◌≡◌, ℕ, Bool, true, false, not, ◌&&◌, ◌||◌, List, [], ◌∷◌, ◌++◌, map, length, get_or, refl, sym, ◌∙◌, ap, arith, cond}
-use Rattle.std.proofs.lemmas.Bool.{false≢true, and_parts, and_left, or_parts, not-true, cond-true, cond-false, cond_both, and_from, eqb-true, eqb-false, ne_eqb}
+use Rattle.std.proofs.Common.{◌≡◌, ℕ, Bool, true, false, not, ◌&&◌, ◌||◌, List, [], ◌∷◌, ◌++◌, map, length, get_or, refl, sym, ◌∙◌, ap}
+use Rattle.std.proofs.lemmas.Bool.{false≢true, and_parts, and_left, or_parts, not-true, cond-true, cond-false, cond_both, and_from, ne_eqb}
 use Rattle.std.specs.List.{filter}
 use Rattle.std.specs.Str.{bytes_eq}
 use Rattle.std.specs.Path.{path_components, path_names, leading_components, first_piece, later_pieces, root_dir, cur_dir, parent_dir, slash, dot, is_name, is_dot_at, has_no_slash}
 use Rattle.notify_types.specs.Path.{PartValue, RootPart, CurPart, ParentPart, NamePart, PathValue}
-use Rattle.notify_types.specs.PathText.{part_of, parts_of, part_text, wants_slash, slash_if, text_after, text_of, is_proper_name, is_inner, all_inner, is_path, IsPath}
+use Rattle.notify_types.specs.PathText.{part_of, parts_of, part_text, wants_slash, text_after, text_of, is_proper_name, is_inner, all_inner, is_path, IsPath}
 use lib.Dec.{eqb}
 use mathlib.Core.Path.{ap₂}
 use mathlib.Core.List.{append-nil}
