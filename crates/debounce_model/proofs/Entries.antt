@@ -16,6 +16,7 @@ use Rattle.std.proofs.lemmas.Map.Keys.{sorted_tail}
 use Rattle.std.proofs.lemmas.List.Sums.{sum_by-cons}
 use Rattle.std.proofs.lemmas.Map.Entries.{none_below_head}
 
+-- two options that are there hold the same
 Some-injective : {T : Type 0} {x y : T} → Some x ≡ Some y → x ≡ y
 Some-injective e = cc
 
@@ -48,10 +49,12 @@ module _ {K X : Type 0} {R : K → K → Ordering} (o : IsTotalOrder R) where
   abbrev AllAbove : K → List (K × X) → Type 0
   AllAbove k es = AllByRecursion (λ y. R k y ≡ Less) (keys_of es)
 
+  -- where all keys are above k, an insert goes in front
   insert_front : (es : List (K × X)) (k : K) (v : X) → AllAbove k es → insert_entry R es k v ≡ (k, v) ∷ es
   insert_front [] k v a = refl
   insert_front (e ∷ es) k v a = rw a.0 refl
 
+  -- what is left of entries above k is above k
   filter_above : (p : K → Bool) (es : List (K × X)) (k : K) → AllAbove k es → AllAbove k (filter (λ e. p e.0) es)
   filter_above p [] k a = a
   filter_above p (e ∷ es) k a = by (p e.0) (filter_above p es k a.1)
@@ -85,6 +88,7 @@ module _ {K X : Type 0} {R : K → K → Ordering} (o : IsTotalOrder R) where
 
   -- ---- what holds of each entry
 
+  -- what holds of each entry holds after an insert
   pub each-insert_entry : (P : K × X → Type 0) (es : List (K × X)) (k : K) (v : X) → AllByRecursion P es → P (k, v) → ((y : K) → R k y ≡ Equal → P (y, v)) → AllByRecursion P (insert_entry R es k v)
   each-insert_entry P [] k v a h t = (h, tt)
   each-insert_entry P (e ∷ es) k v a h t = by (R k e.0) refl (each-insert_entry P es k v a.1 h t)
@@ -94,6 +98,7 @@ module _ {K X : Type 0} {R : K → K → Ordering} (o : IsTotalOrder R) where
       by Equal q more = rw q (t e.0 q, a.1)
       by Greater q more = rw q (a.0, more)
 
+  -- .. after a filter
   pub each-filter : (P : K × X → Type 0) (p : K × X → Bool) (es : List (K × X)) → AllByRecursion P es → AllByRecursion P (filter p es)
   each-filter P p [] a = a
   each-filter P p (e ∷ es) a = by (p e) (each-filter P p es a.1)
@@ -102,6 +107,7 @@ module _ {K X : Type 0} {R : K → K → Ordering} (o : IsTotalOrder R) where
       by true h = (a.0, h)
       by false h = h
 
+  -- .. after a removal
   pub each-remove_entry : (P : K × X → Type 0) (test : K → Bool) (es : List (K × X)) → AllByRecursion P es → AllByRecursion P (remove_entry test es)
   each-remove_entry P test [] a = a
   each-remove_entry P test (e ∷ es) a = by (test e.0) (each-remove_entry P test es a.1)
@@ -122,6 +128,7 @@ module _ {K X : Type 0} {R : K → K → Ordering} (o : IsTotalOrder R) where
 
   -- ---- the keys still ascend
 
+  -- keys above x stay above x after an insert
   below-insert : (x : K) (es : List (K × X)) (k : K) (v : X) → AllByRecursion (λ y. R x y ≡ Less) (keys_of es) → R x k ≡ Less → AllByRecursion (λ y. R x y ≡ Less) (keys_of (insert_entry R es k v))
   below-insert x [] k v a h = (h, tt)
   below-insert x (e ∷ es) k v a h = by (R k e.0) (below-insert x es k v a.1 h)
@@ -131,6 +138,7 @@ module _ {K X : Type 0} {R : K → K → Ordering} (o : IsTotalOrder R) where
       by Equal more = a
       by Greater more = (a.0, more)
 
+  -- .. after a filter
   below-filter : (x : K) (p : K × X → Bool) (es : List (K × X)) → AllByRecursion (λ y. R x y ≡ Less) (keys_of es) → AllByRecursion (λ y. R x y ≡ Less) (keys_of (filter p es))
   below-filter x p [] a = a
   below-filter x p (e ∷ es) a = by (p e) (below-filter x p es a.1)
@@ -139,6 +147,7 @@ module _ {K X : Type 0} {R : K → K → Ordering} (o : IsTotalOrder R) where
       by true h = (a.0, h)
       by false h = h
 
+  -- .. after a removal
   below-remove : (x : K) (test : K → Bool) (es : List (K × X)) → AllByRecursion (λ y. R x y ≡ Less) (keys_of es) → AllByRecursion (λ y. R x y ≡ Less) (keys_of (remove_entry test es))
   below-remove x test [] a = a
   below-remove x test (e ∷ es) a = by (test e.0) (below-remove x test es a.1)
@@ -147,6 +156,7 @@ module _ {K X : Type 0} {R : K → K → Ordering} (o : IsTotalOrder R) where
       by true h = a.1
       by false h = (a.0, h)
 
+  -- the keys ascend after an insert
   pub sorted-insert_entry : (es : List (K × X)) (k : K) (v : X) → IsStrictlySortedBy R (keys_of es) → IsStrictlySortedBy R (keys_of (insert_entry R es k v))
   unfolding IsStrictlySortedBy
   sorted-insert_entry [] k v s = (tt, tt)
@@ -157,6 +167,7 @@ module _ {K X : Type 0} {R : K → K → Ordering} (o : IsTotalOrder R) where
       by Equal q more = rw q s
       by Greater q more = rw q (below-insert e.0 es k v s.0 (o.antisymm e.0 k ∙ rw q refl), more)
 
+  -- .. after a filter
   pub sorted-filter : (p : K × X → Bool) (es : List (K × X)) → IsStrictlySortedBy R (keys_of es) → IsStrictlySortedBy R (keys_of (filter p es))
   unfolding IsStrictlySortedBy
   sorted-filter p [] s = s
@@ -166,6 +177,7 @@ module _ {K X : Type 0} {R : K → K → Ordering} (o : IsTotalOrder R) where
       by true h = (below-filter e.0 p es s.0, h)
       by false h = h
 
+  -- .. after a removal
   pub sorted-remove_entry : (test : K → Bool) (es : List (K × X)) → IsStrictlySortedBy R (keys_of es) → IsStrictlySortedBy R (keys_of (remove_entry test es))
   unfolding IsStrictlySortedBy
   sorted-remove_entry test [] s = s
@@ -175,6 +187,7 @@ module _ {K X : Type 0} {R : K → K → Ordering} (o : IsTotalOrder R) where
       by true h = s.1
       by false h = (below-remove e.0 test es s.0, h)
 
+  -- keys above x stay above x after a change of values
   below-changed : (x : K) (changed : X → X) (stays : X → Bool) (es : List (K × X)) → AllByRecursion (λ y. R x y ≡ Less) (keys_of es) → AllByRecursion (λ y. R x y ≡ Less) (keys_of (changed_entries changed stays es))
   below-changed x changed stays [] a = a
   below-changed x changed stays (e ∷ es) a = by (stays e.1) (below-changed x changed stays es a.1)
@@ -183,6 +196,7 @@ module _ {K X : Type 0} {R : K → K → Ordering} (o : IsTotalOrder R) where
       by true h = (a.0, h)
       by false h = h
 
+  -- the keys ascend after a change of values
   pub sorted-changed : (changed : X → X) (stays : X → Bool) (es : List (K × X)) → IsStrictlySortedBy R (keys_of es) → IsStrictlySortedBy R (keys_of (changed_entries changed stays es))
   unfolding IsStrictlySortedBy
   sorted-changed changed stays [] s = s
@@ -194,6 +208,7 @@ module _ {K X : Type 0} {R : K → K → Ordering} (o : IsTotalOrder R) where
 
   -- ---- a sum over the values
 
+  -- a sum over fewer entries is no greater
   pub sum-filter : (f : X → ℕ) (p : K × X → Bool) (es : List (K × X)) → sum_by f (values_of (filter p es)) ≤ sum_by f (values_of es)
   sum-filter f p [] = omega arith
   sum-filter f p (e ∷ es) = let first = sum_by-cons f e.1 (values_of es) in by (p e) (sum-filter f p es)

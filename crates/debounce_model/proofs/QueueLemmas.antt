@@ -18,6 +18,7 @@ use Rattle.debounce_model.specs.Queues.{Queues, queue_at, push, appended, skips,
 use Rattle.debounce_model.specs.State.{AreQueues, IsNonempty, case_queues, queues_after}
 use Rattle.notify_types.specs.KindNumbers.{kind_eq}
 use Rattle.std.specs.List.{list_any}
+use Rattle.notify_types.proofs.Prefixes.{same_path}
 use Rattle.debounce_model.proofs.Entries.{insert_over, filter-insert_entry}
 
 -- a queue that takes an event is where `push` leaves it
@@ -35,10 +36,6 @@ not_below_itself p = rw (path_eq_equiv.refl p) (by (is_prefix p p))
     by : (b : Bool) → not (b && false) ≡ true
     by true = refl
     by false = refl
-
--- paths that compare equal are the same
-pub same_path : (p y : PathValue) → path_cmp p y ≡ Equal → p ≡ y
-same_path p y h = (path_eq_decides p y).0 (path_matches_eq p y ∙ ap is_eq h)
 
 -- a removal of what wasn't created may insert first and drop then
 pub removal_by_insert : (queues : Queues) (path : PathValue) (x : Timed) → IsStrictlySortedBy path_cmp (keys_of queues) → was_created_at (queue_at queues path) ≡ false → without_below (with_queue queues path (x ∷ [])) path ≡ removal queues path x

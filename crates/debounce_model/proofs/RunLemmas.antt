@@ -13,6 +13,7 @@ run-push r s m t [] (z ∷ ys) c y e step = absurd e
 run-push r s m t (x ∷ cs) [] c y e step = absurd e
 run-push r s m t (x ∷ cs) (z ∷ ys) c y (k, first, more) step = (k, first, run-push r k m t cs ys c y more step)
 
+-- a list of no length is empty
 nothing_left : {X : Type 0} (ys : List X) → length ys ≡ 0 → ys ≡ []
 nothing_left [] h = refl
 nothing_left (y ∷ ys) h = absurd (omega arith)

@@ -21,7 +21,7 @@ use Rattle.std.proofs.lemmas.List.Sorted.{length_permutation}
 use Rattle.notify_types.proofs.Lists.{length-map}
 use Rattle.debounce_model.specs.State.{State, IsFirst, IsKeyed, IsNonempty, AreQueues, IsWellFormed, case_of, event_step, queues_after, case_queues, is_expired, tick_step, IsBatch}
 use Rattle.debounce_model.proofs.Entries.{each-insert_entry, each-filter, each-remove_entry, each-lookup, sorted-insert_entry, sorted-filter, sorted-remove_entry, sorted-changed, sum-filter}
-use Rattle.debounce_model.proofs.QueueLemmas.{same_path}
+use Rattle.notify_types.proofs.Prefixes.{same_path}
 
 -- queues with all their laws, of at most n events
 pub record AreGood (queues : Queues) (n : ℕ) : Type 0 where
@@ -29,14 +29,17 @@ pub record AreGood (queues : Queues) (n : ℕ) : Type 0 where
   pub ordered : IsStrictlySortedBy path_cmp (keys_of queues)
   pub bounded : waiting_in queues ≤ n
 
+-- a keyed queue with a keyed event behind it is keyed
 keyed-append : (p : PathValue) (q : List Timed) (x : Timed) → IsKeyed p q → IsFirst p x.event.paths → IsKeyed p (q ++ x ∷ [])
 keyed-append p [] x k f = (f, tt)
 keyed-append p (y ∷ q) x k f = (k.0, keyed-append p q x k.1 f)
 
+-- a list with an event behind it is not empty
 nonempty-append : (q : List Timed) (x : Timed) → IsNonempty (q ++ x ∷ [])
 nonempty-append [] x = tt
 nonempty-append (y ∷ q) x = tt
 
+-- queues are good with a good queue set, where no more wait than may
 good-set : (queues : Queues) (path : PathValue) (old new : List Timed) (n m : ℕ) → AreGood queues n → IsNonempty new → IsKeyed path new → (length new + waiting_in queues ≤ m + unwrap_or (option_map length (queue_at queues path)) 0) → AreGood (with_queue queues path new) m
 good-set queues path old new n m g e k b = record {
   kept = each-insert_entry path_cmp_total _ queues path new g.kept (e, k) (λ y q. (e, rw (sym (same_path path y q)) k));
@@ -44,6 +47,7 @@ good-set queues path old new n m g e k b = record {
   bounded = omega (arith, sum_by-insert_entry length path_cmp_total queues path new g.ordered);
 }
 
+-- .. after a push
 good-push : (queues : Queues) (path : PathValue) (x : Timed) (n : ℕ) → AreGood queues n → IsFirst path x.event.paths → AreGood (push queues path x) (n + 1)
 good-push queues path x n g f = by (queue_at queues path) refl
   where
@@ -58,6 +62,7 @@ good-push queues path x n g f = by (queue_at queues path) refl
             let keyed : IsKeyed path q = rw (same_path path found.0 found.1) found.2.1 in
             good-set queues path q (q ++ x ∷ []) n (n + 1) g (nonempty-append q x) (keyed-append path q x keyed f) (rw h (omega (arith, g.bounded, length-append q (x ∷ []))))
 
+-- .. without those below a path
 good-below : (queues : Queues) (path : PathValue) (n : ℕ) → AreGood queues n → AreGood (without_below queues path) n
 good-below queues path n g =
     let p : PathValue × List Timed → Bool = λ e. not (is_below e.0 path) in
@@ -68,6 +73,7 @@ good-below queues path n g =
       bounded = omega (arith, fewer, g.bounded);
     }
 
+-- .. without one of them
 good-without : (queues : Queues) (path : PathValue) (n : ℕ) → AreGood queues n → AreGood (without_queue queues path) n
 good-without queues path n g =
     let fewer = sum_by-remove_entry length (is_at (path_cmp path)) queues in
@@ -77,9 +83,11 @@ good-without queues path n g =
       bounded = omega (arith, fewer, g.bounded);
     }
 
+-- .. where more may wait
 good-more : (queues : Queues) (n m : ℕ) → AreGood queues n → n ≤ m → AreGood queues m
 good-more queues n m g l = record { kept = g.kept; ordered = g.ordered; bounded = omega (arith, g.bounded) }
 
+-- .. after a removal
 good-removal : (queues : Queues) (path : PathValue) (x : Timed) (n : ℕ) → AreGood queues n → IsFirst path x.event.paths → AreGood (removal queues path x) (n + 1)
 good-removal queues path x n g f = by (was_created_at (queue_at queues path))
   where
@@ -90,6 +98,7 @@ good-removal queues path x n g f = by (was_created_at (queue_at queues path))
     by true = good-more _ n (n + 1) (good-without (without_below queues path) path n (good-below queues path n g)) (omega arith)
     by false = replaced
 
+-- .. after an event of any case
 good-step : (case : Case) (s : State) (x : Timed) → IsWellFormed s → AreGood (queues_after case s.queues x x.event.paths) (waiting_in s.queues + 1)
 good-step case s x w = by x.event.paths refl
   where
@@ -113,6 +122,7 @@ well_formed_event s x exists answer w =
 
 -- ---- a tick
 
+-- the last of each kind are no more than all
 length-last_of_kind : (xs : List Timed) → length (last_of_kind xs) ≤ length xs
 length-last_of_kind [] = omega arith
 length-last_of_kind (x ∷ xs) = by (list_any (λ y. kind_eq x.event.kind y.event.kind) xs) (length-last_of_kind xs)
@@ -121,6 +131,7 @@ length-last_of_kind (x ∷ xs) = by (list_any (λ y. kind_eq x.event.kind y.even
     by true h = omega arith
     by false h = omega arith
 
+-- the beginning and the rest together are the queue
 length-cut : (due : Timed → Bool) (xs : List Timed) → length (expired_beginning due xs) + length (rest_after due xs) ≡ length xs
 length-cut due [] = omega arith
 length-cut due (x ∷ xs) = by (due x) (length-cut due xs)
@@ -138,6 +149,7 @@ tick-bound due (e ∷ queues) = by (waits (rest_after due e.1)) refl (tick-bound
     by true w more = omega (arith, length-append (last_of_kind (expired_beginning due e.1)) (place_list due queues), length-last_of_kind (expired_beginning due e.1), length-cut due e.1, sum_by-cons length e.1 (values_of queues), sum_by-cons length (rest_after due e.1) (values_of (rests due queues)))
     by false w more = omega (arith, length-append (last_of_kind (expired_beginning due e.1)) (place_list due queues), length-last_of_kind (expired_beginning due e.1), length-cut due e.1, sum_by-cons length e.1 (values_of queues))
 
+-- the rest of a keyed queue is keyed
 keyed-rest : (due : Timed → Bool) (p : PathValue) (xs : List Timed) → IsKeyed p xs → IsKeyed p (rest_after due xs)
 keyed-rest due p [] k = k
 keyed-rest due p (x ∷ xs) k = by (due x) (keyed-rest due p xs k.1)
@@ -146,10 +158,12 @@ keyed-rest due p (x ∷ xs) k = by (due x) (keyed-rest due p xs k.1)
     by true h = h
     by false h = k
 
+-- a queue that waits for something is not empty
 nonempty-waits : (q : List Timed) → waits q ≡ true → IsNonempty q
 nonempty-waits [] h = cc
 nonempty-waits (x ∷ q) h = tt
 
+-- the rests of queues are queues
 kept-rests : (due : Timed → Bool) (queues : Queues) → AreQueues queues → AreQueues (rests due queues)
 kept-rests due [] a = a
 kept-rests due (e ∷ queues) a = by (waits (rest_after due e.1)) refl (kept-rests due queues a.1)
@@ -158,6 +172,7 @@ kept-rests due (e ∷ queues) a = by (waits (rest_after due e.1)) refl (kept-res
     by true w h = ((nonempty-waits (rest_after due e.1) w, keyed-rest due e.0 e.1 a.0.1), h)
     by false w h = h
 
+-- a batch is as long as its place list
 pub length-in_order : (xs ys : List Timed) → InBatchOrder xs ys → length ys ≡ length xs
 length-in_order xs ys o = ap length (sym o.events) ∙ length-map (λ k. k.event) o.ranked ∙ length_permutation (placed [] xs) o.ranked o.are ∙ length-placed [] xs
 

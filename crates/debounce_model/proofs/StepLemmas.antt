@@ -17,6 +17,7 @@ pub false_without : (b : Bool) → (b ≡ true → ⊥) → b ≡ false
 false_without true h = absurd (h refl)
 false_without false h = refl
 
+-- a conjunction with what is false is false
 and_false : (a b : Bool) → b ≡ false → (a && b) ≡ false
 and_false true b h = h
 and_false false b h = refl

@@ -7,9 +7,11 @@ use std::alloc::Global;
 use std::process::Abort;
 use std::test::Fail;
 
-const EXAMPLE: &str = "timeout 50\nstart /\nstart /d\nstart /d/x\nevent 7 Remove(Any) - /d\nevent 7 Create(Any) - /d\nevent 7 Create(Any) - /d/x\nevent 8 Remove(Any) - /d/x\ntick 40\ntick 100\n";
+const EXAMPLE: &str =
+    "timeout 50\nstart /\nstart /d\nstart /d/x\nevent 7 Remove(Any) - /d\nevent 7 Create(Any) - /d\nevent 7 Create(Any) - /d/x\nevent 8 Remove(Any) - /d/x\ntick 40\ntick 100\n";
 
-const PRINTED: &[u8] = b"batch 40 0\nbatch 100 2\nevent 7 Remove(Any) - /d\nevent 7 Create(Any) - /d\ntaken 4 given 2 waiting 0\nreader / /d\nafter / /d\nraw / /d\n";
+const PRINTED: &[u8] =
+    b"batch 40 0\nbatch 100 2\nevent 7 Remove(Any) - /d\nevent 7 Create(Any) - /d\ntaken 4 given 2 waiting 0\nreader / /d\nafter / /d\nraw / /d\n";
 
 /// Runs the script, and gives the status, the output and what was said on standard error.
 fn run(alloc: Global, script: &[u8]) -> (u8, Vec<u8>, Vec<u8>) {
@@ -144,7 +146,11 @@ fn says_that_memory_is_out(rt: HostRuntime) -> Result<(), Fail> {
         } else {
             assert_eq!(rt; status, 0);
             assert!(rt; err.is_empty());
-            done = if out.as_slice() == PRINTED { done + 1 } else { done };
+            done = if out.as_slice() == PRINTED {
+                done + 1
+            } else {
+                done
+            };
         }
     }
     assert!(rt; refused > 10);

@@ -25,6 +25,7 @@ fn timed(alloc: Global, text: &str, time: u128) -> Result<DebouncedEvent, Fail> 
 }
 
 const CREATE: EventKind = EventKind::Create(CreateKind::Any);
+
 const REMOVE: EventKind = EventKind::Remove(RemoveKind::Any);
 
 #[test]
@@ -86,10 +87,14 @@ fn paths_are_read_compared_and_hashed(rt: HostRuntime) -> Result<(), Fail> {
 #[test]
 fn events_are_built_and_copied(rt: HostRuntime) -> Result<(), Fail> {
     let alloc = rt.alloc();
-    let built = event(alloc, EventKind::Modify(ModifyKind::Name(RenameMode::From)), "/a")?
-        .set_tracker(7)
-        .set_info(String::from_str(alloc, "words")?)
-        .set_flag(Flag::Rescan);
+    let built = event(
+        alloc,
+        EventKind::Modify(ModifyKind::Name(RenameMode::From)),
+        "/a",
+    )?
+    .set_tracker(7)
+    .set_info(String::from_str(alloc, "words")?)
+    .set_flag(Flag::Rescan);
     assert_eq!(rt; built.tracker(), Some(7));
     assert_eq!(rt; built.info(), Some("words"));
     assert!(rt; built.need_rescan());
@@ -110,7 +115,10 @@ fn events_are_built_and_copied(rt: HostRuntime) -> Result<(), Fail> {
 fn errors_print_as_one_word(rt: HostRuntime) -> Result<(), Fail> {
     let alloc = rt.alloc();
     let table: [(ErrorKind, &str); 6] = [
-        (ErrorKind::Generic(String::from_str(alloc, "more")?), "Generic"),
+        (
+            ErrorKind::Generic(String::from_str(alloc, "more")?),
+            "Generic",
+        ),
         (ErrorKind::Io(io::ErrorKind::NotFound), "Io"),
         (ErrorKind::PathNotFound, "PathNotFound"),
         (ErrorKind::WatchNotFound, "WatchNotFound"),
@@ -223,7 +231,13 @@ fn a_reader_plays_a_batch(rt: HostRuntime) -> Result<(), Fail> {
 
 #[test]
 fn kinds_are_read_by_their_words(rt: HostRuntime) {
-    for word in ["Any", "Create(Folder)", "Modify(Name(Both))", "Access(Close(Write))", "Other"] {
+    for word in [
+        "Any",
+        "Create(Folder)",
+        "Modify(Name(Both))",
+        "Access(Close(Write))",
+        "Other",
+    ] {
         let kind = EventKind::from_word(word);
         assert!(rt; kind.is_some(), "{word}");
         assert!(rt; matches!(kind, Some(kind) if kind.word() == word), "{word}");

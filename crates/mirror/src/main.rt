@@ -29,7 +29,13 @@ fn run_script(rt: &HostRuntime, name: &str) -> u8 {
         Ok(file) => Source::Opened(file),
         Err(_) => Source::Missing,
     };
-    script_run(rt.alloc(), name, &mut source, &mut rt.stdout(), &mut rt.stderr())
+    script_run(
+        rt.alloc(),
+        name,
+        &mut source,
+        &mut rt.stdout(),
+        &mut rt.stderr(),
+    )
 }
 
 fn words_of(rt: &HostRuntime) -> io::Result<Vec<String>> {

@@ -30,7 +30,12 @@ pub(crate) fn play_script<A: Allocator + Copy, O: Write>(
     push_counts(&mut text, core.taken(), core.given(), core.waiting())?;
     let waiting = core.outlook()?;
     print_events(&mut text, "wait", waiting.as_slice(), out)?;
-    push_paths_played(&mut text, set_of(alloc, start)?, &played, waiting.as_slice())?;
+    push_paths_played(
+        &mut text,
+        set_of(alloc, start)?,
+        &played,
+        waiting.as_slice(),
+    )?;
     write_last(&mut text, out)
 }
 

@@ -16,16 +16,16 @@ returns-in-Some-get_mut-clause-ok g c =
     let path = c.in-Some.path.now in
     let x = c.args.event in
     on_ok_weaker c.append.result
-      (λ e. (c.get_mut.follows.holds c.append.new.self).0 ∙ ap (set_value (is_at (path_cmp path)) queues) e ∙ push_appended queues path x c.in-Some-get_mut.queue.now c.get_mut.ensures.ordered (sym (c.in-Some-get_mut.ensures.value)) ∙ queues_at_first Creation queues x x.event.paths path c.in-Some.ensures)
-      c.append.ensures.ok
+    (λ e. (c.get_mut.follows.holds c.append.new.self).0 ∙ ap (set_value (is_at (path_cmp path)) queues) e ∙ push_appended queues path x c.in-Some-get_mut.queue.now c.get_mut.ensures.ordered (sym (c.in-Some-get_mut.ensures.value)) ∙ queues_at_first Creation queues x x.event.paths path c.in-Some.ensures)
+    c.append.ensures.ok
 
 pub returns-in-Some-get_mut-clause-err : goal.returns-in-Some-get_mut-clause-err
 returns-in-Some-get_mut-clause-err g c =
     let queues = c.args.queues.now.entries in
     let path = c.in-Some.path.now in
     on_err_weaker c.append.result
-      (λ e. (c.get_mut.follows.holds c.append.new.self).0 ∙ ap (set_value (is_at (path_cmp path)) queues) e ∙ set_value_same (is_at (path_cmp path)) queues c.in-Some-get_mut.queue.now (sym (c.in-Some-get_mut.ensures.value)))
-      c.append.ensures.err
+    (λ e. (c.get_mut.follows.holds c.append.new.self).0 ∙ ap (set_value (is_at (path_cmp path)) queues) e ∙ set_value_same (is_at (path_cmp path)) queues c.in-Some-get_mut.queue.now (sym (c.in-Some-get_mut.ensures.value)))
+    c.append.ensures.err
 
 pub returns-clause-ok : goal.returns-clause-ok
 returns-clause-ok g c =

@@ -8,11 +8,11 @@ use Rattle.debounce_core.proofs.queues.waiting.Goals as goal
 pub overflow_add-count : goal.overflow_add-count
 overflow_add-count g c =
     let counted : waiting_in c.loop-path._path-iterator ≡ length c.in-Some.queue.now + waiting_in c.next.new.self =
-      ap waiting_in c.in-Some.ensures.steps ∙ sum_by-cons length c.in-Some.queue.now (values_of c.next.new.self) in
+    ap waiting_in c.in-Some.ensures.steps ∙ sum_by-cons length c.in-Some.queue.now (values_of c.next.new.self) in
     omega (arith, counted, c.loop-path.invariant, c.requires, ap length c.events.ensures, c.ranges.most.fits)
 
 pub loop-path-preserved : goal.loop-path-preserved
 loop-path-preserved g c =
     let counted : waiting_in c.loop-path._path-iterator ≡ length c.in-Some.queue.now + waiting_in c.next.new.self =
-      ap waiting_in c.in-Some.ensures.steps ∙ sum_by-cons length c.in-Some.queue.now (values_of c.next.new.self) in
+    ap waiting_in c.in-Some.ensures.steps ∙ sum_by-cons length c.in-Some.queue.now (values_of c.next.new.self) in
     omega (arith, counted, c.loop-path.invariant, ap length c.events.ensures)

@@ -12,7 +12,7 @@ loop-command-preserved g c =
     let e = c.in-Some.ensures.steps in
     record {
       ran =
-        rw (c.push_reserved.ensures.items, map-push command_value l.yielded c.in-Some.command, map-push reply_value l.replies.items c.step-reply.result)
+          rw (c.push_reserved.ensures.items, map-push command_value l.yielded c.in-Some.command, map-push reply_value l.replies.items c.step-reply.result)
           (run-push g.C.FileIdCache.rules _ _ _ (command_values l.yielded) (reply_values l.replies.items) (command_value c.in-Some.command) (reply_value c.step-reply.result) i.ran c.step-reply.ensures);
       left = rw (append_assoc, ← e.0) i.left;
       counted = omega (arith, ap length e.0, e.1, i.counted);
