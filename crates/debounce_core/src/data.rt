@@ -121,7 +121,9 @@ impl<C, A: Allocator + Copy> DebounceDataInner<C, A> {
     pub fn waiting(&self) -> u64
         ensures { result ≡ waiting self.now.state }
     {
-        self.queues.waiting(self.taken)
+        // The proof reads here that what was taken can be counted.
+        let _taken = self.taken();
+        self.queues.waiting()
     }
 
     /// Hands out what is expired at the moment: of each queue's expired beginning the last event of

@@ -1,5 +1,5 @@
 //! The queues of all paths.
-ghost use Rattle.std.specs.Prelude.{◌≡◌, ◌∷◌, ◌≤◌, [], OnOk, OnErr, IfOk, false};
+ghost use Rattle.std.specs.Prelude.{◌≡◌, ◌∷◌, ◌<◌, ◌^◌, [], OnOk, OnErr, IfOk, false};
 ghost use Rattle.debounce_model.specs.declared.case.Case.TheVariants.{Creation, Removal};
 ghost use Rattle.debounce_model.specs.Queues.{queue_at, was_created_at, place_list, rests, is_any_due, waiting_in, rest_after, waits};
 ghost use Rattle.debounce_model.specs.State.{queues_after};
@@ -81,11 +81,11 @@ impl<A: Allocator + Copy> Queues<A> {
     }
 
     /// How many events wait.
-    pub(crate) fn waiting(&self, most: u64) -> u64
-        requires { waiting_in self.now ≤ most }
+    pub(crate) fn waiting(&self) -> u64
+        requires { waiting_in self.now < 2 ^ 64 }
         ensures { result ≡ waiting_in self.now }
     {
-        waiting(&self.map, most)
+        waiting(&self.map)
     }
 }
 
@@ -100,8 +100,8 @@ fn is_any_due<A: Allocator>(queues: &QueueMap<A>, due: Due) -> bool
     false
 }
 
-fn waiting<A: Allocator>(queues: &QueueMap<A>, most: u64) -> u64
-    requires { waiting_in queues.now.entries ≤ most }
+fn waiting<A: Allocator>(queues: &QueueMap<A>) -> u64
+    requires { waiting_in queues.now.entries < 2 ^ 64 }
     ensures { result ≡ waiting_in queues.now.entries }
 {
     let mut count = 0;

@@ -1,9 +1,9 @@
 //! The run of a script over a reader and two writers.
-ghost use Rattle.std.specs.Prelude.{◌≡◌, ◌⊎◌, ◌<◌, [], map, IfOk, IfErr, IfSome, OnOk, OnErr};
+ghost use Rattle.std.specs.Prelude.{◌≡◌, ℕ, ◌⊎◌, ◌<◌, [], map, IfOk, IfErr, IfSome, OnOk, OnErr};
 ghost use Rattle.std.specs.Io.KnownBytes.{Keeps, Appends, append_known};
 ghost use Rattle.std.specs.String.{string_bytes, string_len};
 ghost use Rattle.notify_mirror.specs.Faults.{fault_status, fault_line, broken_status, IsRunFault};
-ghost use Rattle.notify_mirror.specs.Script.{Reads, script_of};
+ghost use Rattle.notify_mirror.specs.Script.{ScriptValue, Reads, Fails, script_of};
 ghost use Rattle.notify_mirror.specs.ScriptView.{script_value};
 ghost use Rattle.notify_mirror.specs.Usage.{is_usage};
 ghost use Rattle.notify_mirror.specs.declared.run.Broken.TheVariants.{Memory};
@@ -196,6 +196,9 @@ pub fn script_run<A: Allocator + Copy, R: Read, O: Write, E: Write>(
     out: &mut O,
     err: &mut E,
 ) -> u8
+    ensures reads { (result ≡ 0) ⊎ (result ≡ 6) → IfSome (R.remaining reader.old) (λ given. (script : ScriptValue) × (script_of given ≡ Reads script)) }
+    ensures fails { result ≡ 3 → IfSome (R.remaining reader.old) (λ given. (line : ℕ) × (script_of given ≡ Fails line)) }
+    ensures statuses { (result ≡ 0) ⊎ ((result ≡ 1) ⊎ ((result ≡ 3) ⊎ ((result ≡ 4) ⊎ (result ≡ 6)))) }
     ensures untouched { (result ≡ 1) ⊎ (result ≡ 3) → O.contents out.new ≡ O.contents out.old }
     ensures silent { (result ≡ 0) ⊎ (result ≡ 6) → E.contents err.new ≡ E.contents err.old }
 {

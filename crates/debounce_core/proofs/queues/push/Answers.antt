@@ -1,5 +1,5 @@
 -- The push, by what the first path has.
-use Rattle.std.proofs.Common.{◌≡◌, ◌∙◌, sym, ap, rules, ◌∷◌, [], None}
+use Rattle.std.proofs.Common.{◌≡◌, ◌∙◌, sym, ap, rules, None}
 use Rattle.std.specs.Map.{set_value}
 use Rattle.std.specs.BTreeMap.{is_at, insert_entry}
 use Rattle.std.proofs.lemmas.Result.{on_ok_weaker, on_err_weaker}

@@ -1,6 +1,6 @@
 -- The laws of the state are kept, and what is refused is as it was.
-use Rattle.std.proofs.Common.{◌≡◌, ◌∙◌, ap, sym}
-use Rattle.debounce_model.specs.State.{State, case_of, queues_after}
+use Rattle.std.proofs.Common.{◌∙◌, ap}
+use Rattle.debounce_model.specs.State.{State, queues_after}
 use Rattle.debounce_model.proofs.StateLemmas.{well_formed_event}
 use Rattle.debounce_core.proofs.data.DebounceDataInner.add_event.Goals as goal
 

@@ -1,7 +1,6 @@
 -- A tick with nothing due changes nothing; else the batch is that of the tick, and the laws are kept.
 use Rattle.std.proofs.Common.{◌≡◌, ◌∙◌, add-zero, sym, arith, refl, List}
 use Rattle.notify_types.specs.Event.{Timed}
-use Rattle.debounce_model.specs.Queues.{place_list, rests, is_any_due}
 use Rattle.debounce_model.specs.State.{State, IsBatch, is_expired}
 use Rattle.debounce_model.proofs.OrderUnique.{batch_of_none, in_order_none}
 use Rattle.debounce_model.proofs.QueueLemmas.{quiet}

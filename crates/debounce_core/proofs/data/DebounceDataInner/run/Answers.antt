@@ -1,5 +1,5 @@
 -- One more command.
-use Rattle.std.proofs.Common.{◌≡◌, ◌∙◌, ap, sym, arith, append_assoc, length, ◌++◌, ◌∷◌, []}
+use Rattle.std.proofs.Common.{ap, arith, append_assoc, length}
 use Rattle.debounce_model.specs.CommandView.{command_value, reply_value, command_values, reply_values}
 use Rattle.debounce_model.proofs.OrderLemmas.{map-push}
 use Rattle.debounce_model.proofs.RunLemmas.{run-push, all_taken}
