@@ -1,10 +1,10 @@
 -- What `parse` makes of a field without a plus is the number of the field.
-use Rattle.std.proofs.Common.{◌≡◌, ◌≢◌, ℕ, ◌<◌, ◌^◌, ◌∙◌, sym, ap, Bool, true, false, ◌&&◌, not, List, length, Option, Some, None, Result, Ok, Err, arith, refl, cond, ◌==◌}
+use Rattle.std.proofs.Common.{◌≡◌, ℕ, ◌<◌, ◌^◌, ◌∙◌, sym, ap, true, ◌&&◌, not, List, length, Some, None, Result, Ok, Err, arith, refl, ◌==◌}
 use Rattle.std.specs.Prelude.{nat_lt}
 use Rattle.std.specs.Result.{OkIff, result_ok}
 use Rattle.std.specs.Str.{all_ascii_digits}
 use Rattle.std.specs.Str.Parse.{digits_value}
-use Rattle.std.proofs.lemmas.Bool.{and_parts, and_from, not-true, cond-true, cond_both}
+use Rattle.std.proofs.lemmas.Bool.{and_parts, cond-true, cond_both}
 use Rattle.std.proofs.lemmas.Bool.Decides.{nat_tests}
 use Rattle.std.proofs.lemmas.Str.Parse.{IsNumeralModel, numerals_by_value, tells_all_ascii_digits}
 use Rattle.notify_mirror.specs.Script.{is_number, number_of}

@@ -1,5 +1,4 @@
-use Rattle.std.proofs.Common.{◌∙◌, ◌≢◌, ◌≡◌, sym, lit<, true≢false}
-use Rattle.std.specs.List.{slice_index}
+use Rattle.std.proofs.Common.{◌∙◌, sym, lit<, true≢false}
 use Rattle.std.proofs.lemmas.Str.Pattern.{starts_char}
 use Rattle.std.proofs.lemmas.Str.Parse.{parse_plain}
 use Rattle.notify_mirror.proofs.Numbers.{numerals, number_read}
