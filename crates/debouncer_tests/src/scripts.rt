@@ -129,8 +129,8 @@ fn stops_at_a_write_that_fails(rt: HostRuntime) {
 /// With too small a heap a run says so, and gives back what it took.
 #[test]
 fn says_that_memory_is_out(rt: HostRuntime) -> Result<(), Fail> {
-    let mut refused = 0;
-    let mut done = 0;
+    let mut refused = false;
+    let mut done = false;
     for size in (0..400).map(|k| k * 64) {
         let Ok(heap) = LocalHeap::new(rt.alloc(), size) else {
             continue;
@@ -141,20 +141,16 @@ fn says_that_memory_is_out(rt: HostRuntime) -> Result<(), Fail> {
         let status = script_run(&heap, "s", &mut reader, &mut out, &mut err);
         assert_eq!(rt; heap.used(), 0);
         if status == 4 {
-            refused += 1;
+            refused = true;
             assert_eq!(rt; err.as_slice(), b"mirror: out of memory\n".as_slice());
         } else {
             assert_eq!(rt; status, 0);
             assert!(rt; err.is_empty());
-            done = if out.as_slice() == PRINTED {
-                done + 1
-            } else {
-                done
-            };
+            done |= out.as_slice() == PRINTED;
         }
     }
-    assert!(rt; refused > 10);
-    assert!(rt; done > 10);
+    assert!(rt; refused);
+    assert!(rt; done);
     Ok(())
 }
 

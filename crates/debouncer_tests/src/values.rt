@@ -156,17 +156,28 @@ fn a_core_takes_events_and_hands_them_out(rt: HostRuntime) -> Result<(), Fail> {
     let mut core: DebounceDataInner<NoCache> = DebounceDataInner::new(alloc, NoCache::new(), 50);
     core.add_event(event(alloc, CREATE, "/a")?, 0, true)?;
     core.add_event(event(alloc, CREATE, "/b")?, 20, true)?;
-    assert_eq!(rt; core.answer(), None);
-    assert_eq!(rt; core.outlook()?.len(), 2);
-    assert_eq!(rt; core.debounced_events(49)?.len(), 0);
-    assert_eq!(rt; core.debounced_events(50)?.len(), 1);
-    assert_eq!(rt; core.taken(), 2);
-    assert_eq!(rt; core.given(), 1);
-    assert_eq!(rt; core.waiting(), 1);
-    let reply = core.step(Command::Tick(70));
+    let answer = core.answer();
+    assert_eq!(rt; answer, None);
+    let outlook = core.outlook()?;
+    assert_eq!(rt; outlook.len(), 2);
+    let early = core.debounced_events(49)?;
+    assert!(rt; early.is_empty());
+    let batch = core.debounced_events(50)?;
+    assert_eq!(rt; batch.len(), 1);
+    let counts = (core.taken(), core.given(), core.waiting());
+    assert_eq!(rt; counts, (2, 1, 1));
+    Ok(())
+}
+
+#[test]
+fn a_step_is_one_command(rt: HostRuntime) -> Result<(), Fail> {
+    let alloc = rt.alloc();
+    let mut core: DebounceDataInner<NoCache> = DebounceDataInner::new(alloc, NoCache::new(), 50);
+    let reply = core.step(Command::Event(event(alloc, CREATE, "/a")?, 0, true));
     let copy = reply.try_clone(alloc)?;
     assert!(rt; copy == reply);
-    assert!(rt; matches!(reply, Reply::Batch(batch) if batch.len() == 1));
+    let taken = Reply::Taken(None);
+    assert!(rt; reply == taken);
     Ok(())
 }
 
