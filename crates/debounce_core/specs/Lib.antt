@@ -1,2 +1,4 @@
 pub mod Due
 pub mod Groups
+pub mod SlotChange
+pub mod Target

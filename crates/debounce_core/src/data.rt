@@ -2,26 +2,27 @@
 ghost use Rattle.std.specs.Prelude.{◌≡◌, ◌≢◌, ◌+◌, ◌-◌, ◌^◌, ◌↔◌, [], true, false, None, IfOk, IfErr, OnOk, OnErr, IsOk, List};
 ghost use Rattle.notify_types.specs.Errors.{FullKind, out_of_memory};
 ghost use Rattle.notify_types.specs.Event.{Timed};
-ghost use Rattle.debounce_model.specs.Cache.{CarriesOut, Begins};
 ghost use Rattle.debounce_model.specs.CommandView.{command_value, reply_value, command_values, reply_values};
 ghost use Rattle.debounce_model.specs.Order.{InBatchOrder};
 ghost use Rattle.debounce_model.specs.Queues.{place_list};
-ghost use Rattle.debounce_model.specs.State.{State, empty_state, case_of, waiting, IsBatch, IsOutlook, tick_step, is_due as is_tick_due};
-ghost use Rattle.debounce_model.specs.Step.{IsTaken, IsRefused, calls_of, calls_after, is_silent, takes_no_memory};
+ghost use Rattle.debounce_model.specs.RenameSlot.{first_half};
+ghost use Rattle.debounce_model.specs.State.{empty_state, queues_after, slot_after, waiting, IsBatch, IsOutlook, tick_step, is_due as is_tick_due};
+ghost use Rattle.debounce_model.specs.Step.{IsTaken, IsRefused, grows_nothing, takes_no_memory};
 ghost use Rattle.debounce_model.specs.Run.{Step, Run};
 ghost use Rattle.debounce_core.specs.Due.{is_due};
 
 use crate::cache::FileIdCache;
+use crate::calls::{call_cache, event_case};
 use crate::emit::{Due, sort_events};
 use crate::queues::Queues;
+use crate::rename_slot::{RenameSlot, change_slot, first_half, slot_change};
 use debounce_model::case::Case;
 use debounce_model::command::{Command, Reply};
 use debounce_model::file_id::FileId;
 use notify_types::error::{Error, ErrorKind};
-use notify_types::event::{DebouncedEvent, Event, RecursiveMode};
-use notify_types::kind::EventKind;
+use notify_types::event::{DebouncedEvent, Event};
 use notify_types::time::Moment;
-use std::alloc::{Allocator, Global};
+use std::alloc::{AllocError, Allocator, Global};
 use std::marker::Model;
 
 /// A debouncer without a clock: what waits, how long it waits, and a cache of file numbers.
@@ -30,6 +31,7 @@ use std::marker::Model;
 #[derive(Drop)]
 pub struct DebounceDataInner<C, A: Allocator = Global> {
     queues: Queues<A>,
+    rename_slot: Option<RenameSlot<A>>,
     timeout: Moment,
     taken: u64,
     given: u64,
@@ -43,9 +45,9 @@ impl<C, A: Allocator> Model for DebounceDataInner<C, A> {
 
     ghost Value = { Core C };
 
-    ghost view = { λ a. record { state = record { queues = a.queues; timeout = a.timeout; taken = a.taken; given = a.given }; cache = a.cache; answer = a.answer } };
+    ghost view = { λ a. record { state = record { queues = a.queues; rename_slot = a.rename_slot; timeout = a.timeout; taken = a.taken; given = a.given }; cache = a.cache; answer = a.answer } };
 
-    ghost invariant = { λ a. IsWellFormed (record { queues = a.queues; timeout = a.timeout; taken = a.taken; given = a.given }) };
+    ghost invariant = { λ a. IsWellFormed (record { queues = a.queues; rename_slot = a.rename_slot; timeout = a.timeout; taken = a.taken; given = a.given }) };
 }
 
 impl<C, A: Allocator + Copy> DebounceDataInner<C, A> {
@@ -56,6 +58,7 @@ impl<C, A: Allocator + Copy> DebounceDataInner<C, A> {
     {
         DebounceDataInner {
             queues: Queues::new(alloc),
+            rename_slot: None,
             timeout,
             taken: 0,
             given: 0,
@@ -84,9 +87,9 @@ impl<C, A: Allocator + Copy> DebounceDataInner<C, A> {
             return Err(Error::new(self.alloc, ErrorKind::Full));
         }
         let event = DebouncedEvent::new(event, now);
-        let case = event_case(&event);
-        let answer = call_cache(&mut self.cache, case, &event)?;
-        match self.queues.take(case, event) {
+        let case = event_case(&event, exists);
+        let answer = call_cache(&mut self.cache, &self.rename_slot, case, &event)?;
+        match take_event(&mut self.queues, &mut self.rename_slot, case, event, answer) {
             Ok(()) => {
                 self.taken += 1;
                 self.answer = answer;
@@ -209,44 +212,24 @@ impl<C, A: Allocator + Copy> DebounceDataInner<C, A> {
     }
 }
 
-/// The case of the step table that the event falls in.
-fn event_case<A: Allocator>(event: &DebouncedEvent<A>) -> Case
-    ensures { result ≡ case_of event.now.event }
-{
-    if event.need_rescan() {
-        return Case::Ignored;
-    }
-    match event.kind() {
-        EventKind::Create(_) => Case::Creation,
-        EventKind::Remove(_) => Case::Removal,
-        _ => Case::Ignored,
-    }
-}
-
-/// Makes the calls of an event of this case on the cache, and returns the cache's answer.
-fn call_cache<A: Allocator, C: FileIdCache<A>>(
-    cache: &mut C,
+/// What an event of this case, with the cache's answer, makes of the queues and the rename slot. All
+/// that can fail comes before the first change.
+fn take_event<A: Allocator + Copy>(
+    queues: &mut Queues<A>,
+    slot: &mut Option<RenameSlot<A>>,
     case: Case,
-    event: &DebouncedEvent<A>,
-) -> Result<Option<FileId>, Error<A>>
-    ensures ok { IfOk result (λ answer. (s : State) → CarriesOut C.rules cache.old (calls_after case s event.now.event.paths) answer cache.new) }
-    ensures err { OnErr result ((s : State) → Begins C.rules cache.old (calls_after case s event.now.event.paths) cache.new) }
-    ensures memory { IfErr result (λ e. e ≡ out_of_memory) }
-    ensures silent { OnErr result ((s : State) → is_silent (calls_after case s event.now.event.paths) ≡ false) }
-    ensures sure { OnErr result (C.rules.refuses_nothing ≡ false) }
+    event: DebouncedEvent<A>,
+    answer: Option<FileId>,
+) -> Result<(), AllocError>
+    ensures queues { OnOk result (queues.new ≡ queues_after case queues.old event (first_half slot.old event.event answer) event.event.paths) }
+    ensures slot { OnOk result (slot.new ≡ slot_after case slot.old event answer event.event.paths) }
+    ensures err { OnErr result (queues.new ≡ queues.old) }
+    ensures kept { OnErr result (slot.new ≡ slot.old) }
+    ensures grown { OnErr result (grows_nothing case queues.old event event.event.paths ≡ false) }
 {
-    let Some(path) = event.first_path() else {
-        return Ok(None);
-    };
-    match case {
-        Case::Creation => {
-            cache.add_path(path, RecursiveMode::NonRecursive)?;
-            Ok(None)
-        }
-        Case::Removal => {
-            cache.remove_path(path)?;
-            Ok(None)
-        }
-        Case::Ignored => Ok(None),
-    }
+    let change = slot_change(case, &event, answer)?;
+    let half = first_half(slot, &event, answer);
+    queues.take(case, event, half)?;
+    change_slot(slot, change);
+    Ok(())
 }

@@ -13,8 +13,11 @@
 #![tactic(auto)]
 
 pub mod cache;
+mod calls;
 pub mod data;
 pub mod emit;
 mod keep;
 pub mod queue;
 mod queues;
+mod rename;
+mod rename_slot;

@@ -1,13 +1,17 @@
 //! The queue of one path.
-ghost use Rattle.std.specs.Prelude.{◌≡◌, ◌↔◌, ◌∷◌, [], OnOk, OnErr, IfOk, IfErr, IsTrue, false, length};
+ghost use Rattle.std.specs.Prelude.{◌≡◌, ◌↔◌, ◌∷◌, [], OnOk, OnErr, IfOk, IfErr, IsTrue, Some, false, is_some, length};
 ghost use Rattle.std.specs.Cmp.{partial_equiv_from_equiv};
 ghost use Rattle.notify_types.specs.Errors.{out_of_memory};
 ghost use Rattle.debounce_model.specs.Equality.{events_eq};
 ghost use Rattle.debounce_model.specs.EqualityLaws.{events_eq_equiv};
 ghost use Rattle.debounce_model.specs.Queues.{was_created, was_removed, appended, skips, creates, removes, is_front_due, rest_after, waits};
+ghost use Rattle.debounce_model.specs.Rename.{without_last, without_both, staying};
+ghost use Rattle.debounce_model.proofs.RenameMoves.{one_or_none};
 ghost use Rattle.debounce_core.specs.Due.{is_due};
+ghost use Rattle.debounce_core.specs.Target.{target_of};
 
 use crate::emit::{Due, expired_count};
+use crate::rename::{Target, drop_both, drop_last, were_created, were_removed};
 use notify_types::error::Error;
 use notify_types::event::{DebouncedEvent, clone_events};
 use notify_types::kind::{EventKind, ModifyKind, RenameMode};
@@ -15,7 +19,7 @@ use std::alloc::{AllocError, Allocator, Global};
 use std::marker::Model;
 
 /// Whether the path is there after an event of this kind.
-fn creates(kind: EventKind) -> bool
+pub(crate) fn creates(kind: EventKind) -> bool
     ensures { result ≡ creates kind }
 {
     matches!(
@@ -25,7 +29,7 @@ fn creates(kind: EventKind) -> bool
 }
 
 /// Whether the path is gone after an event of this kind.
-fn removes(kind: EventKind) -> bool
+pub(crate) fn removes(kind: EventKind) -> bool
     ensures { result ≡ removes kind }
 {
     matches!(
@@ -61,19 +65,26 @@ impl<A: Allocator> Queue<A> {
     pub fn was_created(&self) -> bool
         ensures { result ≡ was_created self.now }
     {
-        match self.events.first() {
-            None => false,
-            Some(first) => creates(first.kind()),
-        }
+        were_created(self.events.as_slice())
     }
 
     /// Whether the first event is a `Remove` or a `Modify(Name(From))`.
     pub fn was_removed(&self) -> bool
         ensures { result ≡ was_removed self.now }
     {
-        match self.events.first() {
-            None => false,
-            Some(first) => removes(first.kind()),
+        were_removed(self.events.as_slice())
+    }
+
+    /// What a rename to this queue's path finds.
+    pub(crate) fn as_target(&self) -> Target
+        ensures { result ≡ target_of (Some self.now) }
+    {
+        if self.was_created() {
+            Target::Free
+        } else if self.was_removed() {
+            Target::Removed
+        } else {
+            Target::Overridden
         }
     }
 
@@ -118,6 +129,21 @@ impl<A: Allocator> Queue<A> {
         }
         self.events.push(event)?;
         Ok(())
+    }
+
+    /// Drops all but what a rename leaves at its source, and returns whether there is such an event.
+    pub(crate) fn keep_staying(&mut self) -> bool
+        ensures kept { self.new ≡ one_or_none (staying (without_both (without_last self.old))) }
+        ensures stays { result ≡ is_some (staying (without_both (without_last self.old))) }
+    {
+        drop_last(&mut self.events);
+        drop_both(&mut self.events);
+        if were_removed(self.events.as_slice()) {
+            self.events.truncate(1);
+            return true;
+        }
+        self.events.clear();
+        false
     }
 
     /// Drops the due beginning, and returns whether something waits on.

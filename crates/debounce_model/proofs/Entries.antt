@@ -1,5 +1,5 @@
 -- Entries in the order of their keys.
-use Rattle.std.proofs.Common.{◌≡◌, ℕ, Bool, true, false, cond, List, [], ◌∷◌, refl, ap, sym, ◌∙◌, arith, Some, None, ◌≤◌}
+use Rattle.std.proofs.Common.{◌≡◌, ℕ, Bool, true, false, cond, List, [], ◌∷◌, refl, ap, sym, ◌∙◌, true≢false, arith, Some, None, ◌≤◌}
 use Rattle.std.specs.Prelude.{filter}
 use Rattle.std.specs.declared.cmp.Ordering.{Ordering}
 use Rattle.std.specs.declared.cmp.Ordering.TheVariants.{Less, Equal, Greater}
@@ -238,6 +238,110 @@ module _ {K X : Type 0} {R : K → K → Ordering} (o : IsTotalOrder R) where
       by Less q more = rw n refl
       by Equal q more = rw (is_at_other o k f e.0 n q) refl
       by Greater q more = ap (λ r. cond (is_eq (R f e.0)) (Some e.1) r) more
+
+  -- ---- two keys of one map
+
+  -- behind an entry whose key is equal to k all keys are above k
+  equal_above : (e : K × X) (es : List (K × X)) (k : K) → IsStrictlySortedBy R (keys_of (e ∷ es)) → R k e.0 ≡ Equal → AllAbove k es
+  unfolding IsStrictlySortedBy
+  equal_above e es k s q = all es s.0
+    where
+      all : (fs : List (K × X)) → AllByRecursion (λ y. R e.0 y ≡ Less) (keys_of fs) → AllAbove k fs
+      all [] a = tt
+      all (f ∷ fs) a = (o.congr k e.0 f.0 q ∙ a.0, all fs a.1)
+
+  -- where all keys are above k, nothing is at k
+  above_none : (es : List (K × X)) (k : K) → AllAbove k es → lookup (is_at (R k)) es ≡ None
+  above_none [] k a = refl
+  above_none (e ∷ es) k a = rw a.0 (above_none es k a.1)
+
+  -- at another key is what was there before something was taken out
+  pub lookup-remove_other : (es : List (K × X)) (k f : K) → is_eq (R f k) ≡ false → lookup (is_at (R f)) (remove_entry (is_at (R k)) es) ≡ lookup (is_at (R f)) es
+  lookup-remove_other [] k f n = refl
+  lookup-remove_other (e ∷ es) k f n = by (R k e.0) refl (lookup-remove_other es k f n)
+    where
+      by : (r : Ordering) → R k e.0 ≡ r → lookup (is_at (R f)) (remove_entry (is_at (R k)) es) ≡ lookup (is_at (R f)) es → lookup (is_at (R f)) (cond (is_eq r) es (e ∷ remove_entry (is_at (R k)) es)) ≡ lookup (is_at (R f)) (e ∷ es)
+      by Less q more = ap (λ r. cond (is_eq (R f e.0)) (Some e.1) r) more
+      by Equal q more = rw (is_at_other o k f e.0 n q) refl
+      by Greater q more = ap (λ r. cond (is_eq (R f e.0)) (Some e.1) r) more
+
+  -- a key that is below the first is nowhere
+  below_first : (e : K × X) (es : List (K × X)) (k : K) → IsStrictlySortedBy R (keys_of (e ∷ es)) → R k e.0 ≡ Less → lookup (is_at (R k)) es ≡ None
+  below_first e es k s q = let none : lookup (is_at (R k)) (e ∷ es) ≡ None = lookup-none (is_at (R k)) (e ∷ es) (none_below_head o k e es s q) in rw q at none
+
+  -- where something was taken out, nothing is
+  pub lookup-remove_same : (es : List (K × X)) (k : K) → IsStrictlySortedBy R (keys_of es) → lookup (is_at (R k)) (remove_entry (is_at (R k)) es) ≡ None
+  lookup-remove_same [] k s = refl
+  lookup-remove_same (e ∷ es) k s = by (R k e.0) refl (lookup-remove_same es k (sorted_tail R e.0 (keys_of es) s))
+    where
+      by : (r : Ordering) → R k e.0 ≡ r → lookup (is_at (R k)) (remove_entry (is_at (R k)) es) ≡ None → lookup (is_at (R k)) (cond (is_eq r) es (e ∷ remove_entry (is_at (R k)) es)) ≡ None
+      by Less q more = rw q more
+      by Equal q more = above_none es k (equal_above e es k s q)
+      by Greater q more = rw q more
+
+  -- the later of two inserts at one key counts
+  pub insert_insert_same : (es : List (K × X)) (k : K) (v w : X) → insert_entry R (insert_entry R es k w) k v ≡ insert_entry R es k v
+  insert_insert_same [] k v w = rw (to_itself o k) refl
+  insert_insert_same (e ∷ es) k v w = by (R k e.0) refl (insert_insert_same es k v w)
+    where
+      by : (r : Ordering) → R k e.0 ≡ r → insert_entry R (insert_entry R es k w) k v ≡ insert_entry R es k v → insert_entry R (match_ordering r ((k, w) ∷ e ∷ es) ((e.0, w) ∷ es) (e ∷ insert_entry R es k w)) k v ≡ match_ordering r ((k, v) ∷ e ∷ es) ((e.0, v) ∷ es) (e ∷ insert_entry R es k v)
+      by Less q more = rw (to_itself o k) refl
+      by Equal q more = rw q refl
+      by Greater q more = rw q (ap (λ r. e ∷ r) more)
+
+  -- the value of a key is set before or after an insert at another
+  pub set_insert : (es : List (K × X)) (k f : K) (v w : X) → is_eq (R f k) ≡ false → set_value (is_at (R f)) (insert_entry R es k v) w ≡ insert_entry R (set_value (is_at (R f)) es w) k v
+  set_insert [] k f v w n = rw n refl
+  set_insert (e ∷ es) k f v w n = by (R k e.0) refl (is_eq (R f e.0)) refl (set_insert es k f v w n)
+    where
+      by : (r : Ordering) → R k e.0 ≡ r → (b : Bool) → is_eq (R f e.0) ≡ b → set_value (is_at (R f)) (insert_entry R es k v) w ≡ insert_entry R (set_value (is_at (R f)) es w) k v → set_value (is_at (R f)) (match_ordering r ((k, v) ∷ e ∷ es) ((e.0, v) ∷ es) (e ∷ insert_entry R es k v)) w ≡ insert_entry R (cond b ((e.0, w) ∷ es) (e ∷ set_value (is_at (R f)) es w)) k v
+      by Less q true p more = rw (n, p, q) refl
+      by Less q false p more = rw (n, p, q) refl
+      by Equal q true p more = absurd (true≢false (sym p ∙ is_at_other o k f e.0 n q))
+      by Equal q false p more = rw (p, q) refl
+      by Greater q true p more = rw (p, q) refl
+      by Greater q false p more = rw (p, q) (ap (λ r. e ∷ r) more)
+
+  -- a key is taken out before or after an insert at another
+  pub remove_insert : (es : List (K × X)) (k f : K) (v : X) → IsStrictlySortedBy R (keys_of es) → is_eq (R f k) ≡ false → remove_entry (is_at (R f)) (insert_entry R es k v) ≡ insert_entry R (remove_entry (is_at (R f)) es) k v
+  remove_insert [] k f v s n = rw n refl
+  remove_insert (e ∷ es) k f v s n = by (R k e.0) refl (is_eq (R f e.0)) refl (remove_insert es k f v (sorted_tail R e.0 (keys_of es) s) n)
+    where
+      by : (r : Ordering) → R k e.0 ≡ r → (b : Bool) → is_eq (R f e.0) ≡ b → remove_entry (is_at (R f)) (insert_entry R es k v) ≡ insert_entry R (remove_entry (is_at (R f)) es) k v → remove_entry (is_at (R f)) (match_ordering r ((k, v) ∷ e ∷ es) ((e.0, v) ∷ es) (e ∷ insert_entry R es k v)) ≡ insert_entry R (cond b es (e ∷ remove_entry (is_at (R f)) es)) k v
+      by Less q true p more = rw (n, p, insert_front es k v (above_head e es k s q).1) refl
+      by Less q false p more = rw (n, p, q) refl
+      by Equal q true p more = absurd (true≢false (sym p ∙ is_at_other o k f e.0 n q))
+      by Equal q false p more = rw (p, q) refl
+      by Greater q true p more = rw p refl
+      by Greater q false p more = rw (p, q) (ap (λ r. e ∷ r) more)
+
+  -- nothing is taken out where nothing is
+  pub remove_absent : (es : List (K × X)) (test : K → Bool) → lookup test es ≡ None → remove_entry test es ≡ es
+  remove_absent [] test h = refl
+  remove_absent (e ∷ es) test h = by (test e.0) h (remove_absent es test)
+    where
+      by : (b : Bool) → cond b (Some e.1) (lookup test es) ≡ None → (lookup test es ≡ None → remove_entry test es ≡ es) → cond b es (e ∷ remove_entry test es) ≡ e ∷ es
+      by true h more = cc
+      by false h more = ap (λ r. e ∷ r) (more h)
+
+  -- it does not matter which value is taken out
+  pub remove_set : (es : List (K × X)) (test : K → Bool) (w : X) → remove_entry test (set_value test es w) ≡ remove_entry test es
+  remove_set [] test w = refl
+  remove_set (e ∷ es) test w = by (test e.0) refl (remove_set es test w)
+    where
+      by : (b : Bool) → test e.0 ≡ b → remove_entry test (set_value test es w) ≡ remove_entry test es → remove_entry test (cond b ((e.0, w) ∷ es) (e ∷ set_value test es w)) ≡ cond b es (e ∷ remove_entry test es)
+      by true p more = rw p refl
+      by false p more = rw p (ap (λ r. e ∷ r) more)
+
+  -- where the keys that compare equal are the same, an insert covers what was taken out
+  pub insert_removed : ((x y : K) → R x y ≡ Equal → x ≡ y) → (es : List (K × X)) (k : K) (v : X) → IsStrictlySortedBy R (keys_of es) → insert_entry R (remove_entry (is_at (R k)) es) k v ≡ insert_entry R es k v
+  insert_removed same [] k v s = refl
+  insert_removed same (e ∷ es) k v s = by (R k e.0) refl (insert_removed same es k v (sorted_tail R e.0 (keys_of es) s))
+    where
+      by : (r : Ordering) → R k e.0 ≡ r → insert_entry R (remove_entry (is_at (R k)) es) k v ≡ insert_entry R es k v → insert_entry R (cond (is_eq r) es (e ∷ remove_entry (is_at (R k)) es)) k v ≡ match_ordering r ((k, v) ∷ e ∷ es) ((e.0, v) ∷ es) (e ∷ insert_entry R es k v)
+      by Less q more = rw q (ap (λ r. (k, v) ∷ e ∷ r) (remove_absent es (is_at (R k)) (below_first e es k s q)))
+      by Equal q more = rw (insert_front es k v (equal_above e es k s q)) (ap (λ x. (x, v) ∷ es) (same k e.0 q))
+      by Greater q more = rw q (ap (λ r. e ∷ r) more)
 
 -- what `retain` leaves, by a closure that changes each value alike
 pub changed_from_retain : {F K V : Type 0} (T : F → K → V → Bool → V → F → Type 0) (changed : V → V) (stays : V → Bool) (f : F) → ((k : K) (v : V) (b : Bool) (w : V) (f' : F) → T f k v b w f' → (b ≡ stays v) × (w ≡ changed v) × (f' ≡ f)) → (es kept : List (K × V)) → RetainsPairs T f es kept → kept ≡ changed_entries changed stays es

@@ -1,9 +1,7 @@
 -- Laws of the queues, which the core and the laws of states cite.
 use Rattle.std.specs.Prelude.{if◌then◌else◌}
-use Rattle.std.proofs.Common.{rules, ◌≡◌, ℕ, Bool, true, false, cond, List, [], ◌∷◌, ◌++◌, refl, ap, sym, ◌∙◌, Some, None, not, ◌&&◌}
+use Rattle.std.proofs.Common.{rules, ◌≡◌, ℕ, Bool, true, false, cond, List, [], ◌∷◌, ◌++◌, refl, ap, sym, ◌∙◌, Option, Some, None, not, ◌&&◌}
 use Rattle.std.specs.Prelude.{slice_get}
-use Rattle.std.specs.Ordering.{is_eq}
-use Rattle.std.specs.declared.cmp.Ordering.TheVariants.{Equal}
 use Rattle.std.specs.Map.{set_value, keys_of}
 use Rattle.std.proofs.Common.{◌+◌, ◌<◌, suc, length, get_or, take, drop, add-one, append_assoc, drop-cons}
 use Rattle.std.proofs.Math.Seq.{take-suc}
@@ -11,7 +9,7 @@ use Rattle.std.specs.BTreeMap.{is_at}
 use Rattle.std.specs.List.Sorted.{IsStrictlySortedBy}
 use Rattle.std.proofs.lemmas.Map.Steps.{set_value_same}
 use Rattle.notify_types.specs.Path.{PathValue, path_cmp, is_prefix, is_below}
-use Rattle.notify_types.specs.PathLaws.{path_cmp_total, path_eq_equiv, path_eq_decides, path_matches_eq}
+use Rattle.notify_types.specs.PathLaws.{path_cmp_total, path_eq_equiv}
 use Rattle.notify_types.specs.Event.{Timed}
 use Rattle.debounce_model.specs.declared.case.Case.{Case}
 use Rattle.debounce_model.specs.Queues.{Queues, queue_at, push, appended, skips, with_queue, without_queue, without_below, was_created_at, removal, expired_beginning, rest_after, last_of_kind, place_list, rests, waits, is_front_due, is_any_due}
@@ -81,8 +79,8 @@ first-cons [] x h = cc
 first-cons (y ∷ ys) x h = let e : y ≡ x = cc in (ys, ap (λ z. z ∷ ys) e)
 
 -- what an event makes of the queues, where it has a first path
-pub queues_at_first : (case : Case) (queues : Queues) (x : Timed) (ps : List PathValue) (p : PathValue) → Some p ≡ slice_get ps 0 → case_queues case queues p x ≡ queues_after case queues x ps
-queues_at_first case queues x ps p h = let c = first-cons ps p (sym h) in ap (queues_after case queues x) (sym c.1)
+pub queues_at_first : (case : Case) (queues : Queues) (x : Timed) (half : Option (PathValue × ℕ)) (ps : List PathValue) (p : PathValue) → Some p ≡ slice_get ps 0 → case_queues case queues p x half ≡ queues_after case queues x half ps
+queues_at_first case queues x half ps p h = let c = first-cons ps p (sym h) in ap (queues_after case queues x half) (sym c.1)
 
 -- a push where the path has no queue
 pub push-new : (queues : Queues) (path : PathValue) (x : Timed) → queue_at queues path ≡ None → with_queue queues path (x ∷ []) ≡ push queues path x

@@ -1,123 +1,94 @@
 -- What an event and a tick keep of a state: the laws in the type of the core.
-use Rattle.std.proofs.Common.{◌≡◌, ℕ, ◌+◌, ◌≤◌, Bool, true, false, cond, List, [], ◌∷◌, ◌++◌, refl, ap, sym, ◌∙◌, Option, Some, None, not, arith, length, length-append}
-use Rattle.std.specs.Option.{option_map, unwrap_or}
-use Rattle.std.specs.Map.{keys_of, values_of}
-use Rattle.std.specs.BTreeMap.{is_at}
+use Rattle.std.proofs.Common.{◌≡◌, ℕ, ◌+◌, ◌≤◌, Bool, true, false, cond, List, [], ◌∷◌, ◌++◌, refl, ap, sym, ◌∙◌, Option, Some, None, is_some, true≢false, arith, length, length-append}
+use Rattle.std.specs.Map.{values_of}
 use Rattle.std.specs.List.{list_any}
-use Rattle.std.specs.List.Sorted.{IsStrictlySortedBy}
-use Rattle.std.proofs.lemmas.Map.Entries.{sum_by-insert_entry, sum_by-remove_entry}
-use Rattle.notify_types.specs.Path.{PathValue, path_cmp, is_below}
-use Rattle.notify_types.specs.PathLaws.{path_cmp_total}
-use Rattle.notify_types.specs.Event.{Timed}
-use Rattle.debounce_model.specs.declared.file_id.FileId.{FileId}
-use Rattle.debounce_model.specs.declared.case.Case.{Case}
-use Rattle.debounce_model.specs.declared.case.Case.TheVariants.{Creation, Removal, Ignored}
-use Rattle.debounce_model.specs.Queues.{Queues, queue_at, push, skips, pushed_on, with_queue, without_below, without_queue, removal, was_created_at, last_of_kind, expired_beginning, rest_after, rests, place_list, waits, waiting_in}
-use Rattle.notify_types.specs.KindNumbers.{kind_eq}
-use Rattle.debounce_model.specs.Order.{InBatchOrder, placed}
-use Rattle.debounce_model.proofs.OrderLemmas.{length-placed}
 use Rattle.std.proofs.lemmas.List.Sums.{sum_by-cons}
 use Rattle.std.proofs.lemmas.List.Sorted.{length_permutation}
 use Rattle.notify_types.proofs.Lists.{length-map}
-use Rattle.debounce_model.specs.State.{State, IsFirst, IsKeyed, IsNonempty, AreQueues, IsWellFormed, case_of, event_step, queues_after, case_queues, is_expired, tick_step, IsBatch}
-use Rattle.debounce_model.proofs.Entries.{each-insert_entry, each-filter, each-remove_entry, each-lookup, sorted-insert_entry, sorted-filter, sorted-remove_entry, sorted-changed, sum-filter}
-use Rattle.notify_types.proofs.Prefixes.{same_path}
+use Rattle.notify_types.specs.Event.{Timed}
+use Rattle.notify_types.specs.KindNumbers.{kind_eq}
+use Rattle.notify_types.specs.Kinds.{is_removal}
+use Rattle.notify_types.specs.Path.{PathValue}
+use Rattle.notify_types.specs.PathLaws.{path_cmp_total}
+use Rattle.notify_types.specs.declared.kind.EventKind.{EventKind}
+use Rattle.notify_types.specs.declared.kind.EventKind.TheVariants.{Any, Access, Create, Modify, Remove, Other}
+use Rattle.notify_types.specs.declared.kind.ModifyKind.TheVariants as modify
+use Rattle.notify_types.specs.declared.kind.RenameMode.TheVariants as rename
+use Rattle.debounce_model.specs.declared.case.Case.{Case}
+use Rattle.debounce_model.specs.declared.case.Case.TheVariants.{Creation, Removal, RenameFrom, RenameTo, Plain, Ignored}
+use Rattle.debounce_model.specs.declared.file_id.FileId.{FileId}
+use Rattle.debounce_model.specs.Order.{InBatchOrder, placed}
+use Rattle.debounce_model.specs.Queues.{Queues, is_name_kind, last_of_kind, expired_beginning, rest_after, rests, place_list, waits, waiting_in}
+use Rattle.debounce_model.specs.Rename.{is_both, is_both_mode}
+use Rattle.debounce_model.specs.RenameSlot.{first_half}
+use Rattle.debounce_model.specs.State.{State, IsFirst, IsKeyed, IsNonempty, HasNoBoth, IsBothFirst, IsBothBehind, IsBothInFront, AreQueues, IsWellFormed, kind_case, case_of, renamed_to, event_step, queues_after, case_queues, is_expired, tick_step, IsBatch}
+use Rattle.debounce_model.proofs.Entries.{sorted-changed}
+use Rattle.debounce_model.proofs.GoodQueues.{AreGood, good-more, good-push, good-removal}
+use Rattle.debounce_model.proofs.OrderLemmas.{length-placed}
+use Rattle.debounce_model.proofs.RenameLemmas.{good-joined}
 
--- queues with all their laws, of at most n events
-pub record AreGood (queues : Queues) (n : ℕ) : Type 0 where
-  pub kept : AreQueues queues
-  pub ordered : IsStrictlySortedBy path_cmp (keys_of queues)
-  pub bounded : waiting_in queues ≤ n
+-- ---- an event
 
--- a keyed queue with a keyed event behind it is keyed
-keyed-append : (p : PathValue) (q : List Timed) (x : Timed) → IsKeyed p q → IsFirst p x.event.paths → IsKeyed p (q ++ x ∷ [])
-keyed-append p [] x k f = (f, tt)
-keyed-append p (y ∷ q) x k f = (k.0, keyed-append p q x k.1 f)
+-- a case that is not ignored
+abbrev acts : Case → Bool
+acts Creation = true
+acts Removal = true
+acts RenameFrom = true
+acts RenameTo = true
+acts Plain = true
+acts Ignored = false
 
--- a list with an event behind it is not empty
-nonempty-append : (q : List Timed) (x : Timed) → IsNonempty (q ++ x ∷ [])
-nonempty-append [] x = tt
-nonempty-append (y ∷ q) x = tt
+-- a joined rename that comes in is ignored
+not_both : (k : EventKind) (exists : Bool) → acts (kind_case k exists) ≡ true → is_name_kind is_both_mode k ≡ false
+not_both Any exists h = refl
+not_both (Access k) exists h = refl
+not_both (Create k) exists h = refl
+not_both (Modify modify.Any) exists h = refl
+not_both (Modify (modify.Data d)) exists h = refl
+not_both (Modify (modify.Metadata m)) exists h = refl
+not_both (Modify (modify.Name rename.Any)) exists h = refl
+not_both (Modify (modify.Name rename.To)) exists h = refl
+not_both (Modify (modify.Name rename.From)) exists h = refl
+not_both (Modify (modify.Name rename.Both)) exists h = absurd (true≢false (sym h))
+not_both (Modify (modify.Name rename.Other)) exists h = refl
+not_both (Modify modify.Other) exists h = refl
+not_both (Remove k) exists h = refl
+not_both Other exists h = refl
 
--- queues are good with a good queue set, where no more wait than may
-good-set : (queues : Queues) (path : PathValue) (old new : List Timed) (n m : ℕ) → AreGood queues n → IsNonempty new → IsKeyed path new → (length new + waiting_in queues ≤ m + unwrap_or (option_map length (queue_at queues path)) 0) → AreGood (with_queue queues path new) m
-good-set queues path old new n m g e k b = record {
-  kept = each-insert_entry path_cmp_total _ queues path new g.kept (e, k) (λ y q. (e, rw (sym (same_path path y q)) k));
-  ordered = sorted-insert_entry path_cmp_total queues path new g.ordered;
-  bounded = omega (arith, sum_by-insert_entry length path_cmp_total queues path new g.ordered);
-}
-
--- .. after a push
-good-push : (queues : Queues) (path : PathValue) (x : Timed) (n : ℕ) → AreGood queues n → IsFirst path x.event.paths → AreGood (push queues path x) (n + 1)
-good-push queues path x n g f = by (queue_at queues path) refl
+-- .. with a flag or without
+not_both_event : (x : Timed) (exists : Bool) → acts (case_of x.event exists) ≡ true → is_both x ≡ false
+not_both_event x exists h = by (is_some x.event.attrs.flag) h
   where
-    by : (o : Option (List Timed)) → queue_at queues path ≡ o → AreGood (pushed_on queues path x o) (n + 1)
-    by None h = good-set queues path [] (x ∷ []) n (n + 1) g tt (f, tt) (rw h (omega (arith, g.bounded)))
-    by (Some q) h = at (skips q x)
-      where
-        at : (b : Bool) → AreGood (cond b queues (with_queue queues path (q ++ x ∷ []))) (n + 1)
-        at true = record { kept = g.kept; ordered = g.ordered; bounded = omega (arith, g.bounded) }
-        at false =
-            let found = each-lookup path_cmp_total (λ e. IsNonempty e.1 × IsKeyed e.0 e.1) queues path q g.kept h in
-            let keyed : IsKeyed path q = rw (same_path path found.0 found.1) found.2.1 in
-            good-set queues path q (q ++ x ∷ []) n (n + 1) g (nonempty-append q x) (keyed-append path q x keyed f) (rw h (omega (arith, g.bounded, length-append q (x ∷ []))))
+    by : (b : Bool) → acts (cond b Ignored (kind_case x.event.kind exists)) ≡ true → is_both x ≡ false
+    by true h = absurd (true≢false (sym h))
+    by false h = not_both x.event.kind exists h
 
--- .. without those below a path
-good-below : (queues : Queues) (path : PathValue) (n : ℕ) → AreGood queues n → AreGood (without_below queues path) n
-good-below queues path n g =
-    let p : PathValue × List Timed → Bool = λ e. not (is_below e.0 path) in
-    let fewer = sum-filter path_cmp_total length p queues in
-    record {
-      kept = each-filter path_cmp_total _ p queues g.kept;
-      ordered = sorted-filter path_cmp_total p queues g.ordered;
-      bounded = omega (arith, fewer, g.bounded);
-    }
-
--- .. without one of them
-good-without : (queues : Queues) (path : PathValue) (n : ℕ) → AreGood queues n → AreGood (without_queue queues path) n
-good-without queues path n g =
-    let fewer = sum_by-remove_entry length (is_at (path_cmp path)) queues in
-    record {
-      kept = each-remove_entry path_cmp_total _ (is_at (path_cmp path)) queues g.kept;
-      ordered = sorted-remove_entry path_cmp_total (is_at (path_cmp path)) queues g.ordered;
-      bounded = omega (arith, fewer, g.bounded);
-    }
-
--- .. where more may wait
-good-more : (queues : Queues) (n m : ℕ) → AreGood queues n → n ≤ m → AreGood queues m
-good-more queues n m g l = record { kept = g.kept; ordered = g.ordered; bounded = omega (arith, g.bounded) }
-
--- .. after a removal
-good-removal : (queues : Queues) (path : PathValue) (x : Timed) (n : ℕ) → AreGood queues n → IsFirst path x.event.paths → AreGood (removal queues path x) (n + 1)
-good-removal queues path x n g f = by (was_created_at (queue_at queues path))
-  where
-    replaced : AreGood (with_queue (without_below queues path) path (x ∷ [])) (n + 1)
-    replaced = let b = good-below queues path n g in good-set (without_below queues path) path [] (x ∷ []) n (n + 1) b tt (f, tt) (omega (arith, b.bounded))
-
-    by : (b : Bool) → AreGood (cond b (without_queue (without_below queues path) path) (with_queue (without_below queues path) path (x ∷ []))) (n + 1)
-    by true = good-more _ n (n + 1) (good-without (without_below queues path) path n (good-below queues path n g)) (omega arith)
-    by false = replaced
+-- queues are good after the second half of a rename
+good-renamed : (queues : Queues) (path : PathValue) (x : Timed) (half : Option (PathValue × ℕ)) (n : ℕ) → AreGood queues n → is_both x ≡ false → IsFirst path x.event.paths → AreGood (renamed_to queues path x half) (n + 1)
+good-renamed queues path x None n g b f = good-push queues path x n g b f
+good-renamed queues path x (Some (from, time)) n g b f = good-joined queues from path time x.event.attrs n g
 
 -- .. after an event of any case
-good-step : (case : Case) (s : State) (x : Timed) → IsWellFormed s → AreGood (queues_after case s.queues x x.event.paths) (waiting_in s.queues + 1)
-good-step case s x w = by x.event.paths refl
+good-step : (case : Case) (queues : Queues) (x : Timed) (half : Option (PathValue × ℕ)) (n : ℕ) → AreGood queues n → (acts case ≡ true → is_both x ≡ false) → AreGood (queues_after case queues x half x.event.paths) (n + 1)
+good-step case queues x half n g b = by x.event.paths refl
   where
-    g : AreGood s.queues (waiting_in s.queues)
-    g = record { kept = w.queues; ordered = w.ordered; bounded = omega arith }
-
-    by : (ps : List PathValue) → x.event.paths ≡ ps → AreGood (queues_after case s.queues x ps) (waiting_in s.queues + 1)
-    by [] e = good-more _ _ _ g (omega arith)
-    by (p ∷ ps) e = at case
+    by : (ps : List PathValue) → x.event.paths ≡ ps → AreGood (queues_after case queues x half ps) (n + 1)
+    by [] e = good-more queues n (n + 1) g (omega arith)
+    by (p ∷ ps) e = at case b
       where
-        at : (c : Case) → AreGood (case_queues c s.queues p x) (waiting_in s.queues + 1)
-        at Creation = good-push s.queues p x _ g (rw e refl)
-        at Removal = good-removal s.queues p x _ g (rw e refl)
-        at Ignored = good-more _ _ _ g (omega arith)
+        at : (c : Case) → (acts c ≡ true → is_both x ≡ false) → AreGood (case_queues c queues p x half) (n + 1)
+        at Creation b = good-push queues p x n g (b refl) (rw e refl)
+        at Removal b = good-removal queues p x n g (b refl) (rw e refl)
+        at RenameFrom b = good-push queues p x n g (b refl) (rw e refl)
+        at RenameTo b = good-renamed queues p x half n g (b refl) (rw e refl)
+        at Plain b = good-push queues p x n g (b refl) (rw e refl)
+        at Ignored b = good-more queues n (n + 1) g (omega arith)
 
 -- an event keeps the laws of a state
 pub well_formed_event : (s : State) (x : Timed) (exists : Bool) (answer : Option FileId) → IsWellFormed s → IsWellFormed (event_step s x exists answer)
 well_formed_event s x exists answer w =
-    let g = good-step (case_of x.event) s x w in
+    let before : AreGood s.queues (waiting_in s.queues) = record { kept = w.queues; ordered = w.ordered; bounded = omega arith } in
+    let g = good-step (case_of x.event exists) s.queues x (first_half s.rename_slot x.event answer) (waiting_in s.queues) before (not_both_event x exists) in
     record { queues = g.kept; ordered = g.ordered; bounded = omega (arith, g.bounded, w.bounded) }
 
 -- ---- a tick
@@ -158,6 +129,48 @@ keyed-rest due p (x ∷ xs) k = by (due x) (keyed-rest due p xs k.1)
     by true h = h
     by false h = k
 
+-- without joined renames none stands behind the front
+in_front-less : (xs : List Timed) → HasNoBoth xs → IsBothInFront xs
+in_front-less [] k = tt
+in_front-less (x ∷ xs) k = by (is_removal x.event.kind) (first xs k.1)
+  where
+    first : (ys : List Timed) → HasNoBoth ys → IsBothFirst ys
+    first [] k = tt
+    first (y ∷ ys) k = k.1
+
+    by : (b : Bool) → IsBothFirst xs → IsBothBehind b xs
+    by true f = f
+    by false f = k.1
+
+-- a joined rename stays in front without the first event
+in_front-tail : (x : Timed) (xs : List Timed) → IsBothInFront (x ∷ xs) → IsBothInFront xs
+in_front-tail x xs k = by (is_removal x.event.kind) k
+  where
+    behind : (ys : List Timed) → IsBothFirst ys → IsBothInFront ys
+    behind [] k = tt
+    behind (y ∷ ys) k = at (is_removal y.event.kind) (in_first ys k)
+      where
+        in_first : (zs : List Timed) → HasNoBoth zs → IsBothFirst zs
+        in_first [] k = tt
+        in_first (z ∷ zs) k = k.1
+
+        at : (b : Bool) → IsBothFirst ys → IsBothBehind b ys
+        at true f = f
+        at false f = k
+
+    by : (b : Bool) → IsBothBehind b xs → IsBothInFront xs
+    by true k = behind xs k
+    by false k = in_front-less xs k
+
+-- .. in the rest
+in_front-rest : (due : Timed → Bool) (xs : List Timed) → IsBothInFront xs → IsBothInFront (rest_after due xs)
+in_front-rest due [] k = k
+in_front-rest due (x ∷ xs) k = by (due x) (in_front-rest due xs (in_front-tail x xs k))
+  where
+    by : (b : Bool) → IsBothInFront (rest_after due xs) → IsBothInFront (cond b (rest_after due xs) (x ∷ xs))
+    by true h = h
+    by false h = k
+
 -- a queue that waits for something is not empty
 nonempty-waits : (q : List Timed) → waits q ≡ true → IsNonempty q
 nonempty-waits [] h = cc
@@ -169,7 +182,7 @@ kept-rests due [] a = a
 kept-rests due (e ∷ queues) a = by (waits (rest_after due e.1)) refl (kept-rests due queues a.1)
   where
     by : (b : Bool) → waits (rest_after due e.1) ≡ b → AreQueues (rests due queues) → AreQueues (cond b ((e.0, rest_after due e.1) ∷ rests due queues) (rests due queues))
-    by true w h = ((nonempty-waits (rest_after due e.1) w, keyed-rest due e.0 e.1 a.0.1), h)
+    by true w h = ((nonempty-waits (rest_after due e.1) w, keyed-rest due e.0 e.1 a.0.1, in_front-rest due e.1 a.0.2), h)
     by false w h = h
 
 -- a batch is as long as its place list

@@ -23,5 +23,5 @@ and_false true b h = h
 and_false false b h = refl
 
 -- an event that lets the queues grow takes memory
-pub growth_takes_memory : (calm : Bool) (s : State) (x : Timed) (exists : Bool) → grows_nothing (case_of x.event) s.queues x x.event.paths ≡ false → takes_no_memory calm s x exists ≡ false
-growth_takes_memory calm s x exists h = and_false (calm || is_silent (calls_of s x.event exists)) (grows_nothing (case_of x.event) s.queues x x.event.paths) h
+pub growth_takes_memory : (calm : Bool) (s : State) (x : Timed) (exists : Bool) → grows_nothing (case_of x.event exists) s.queues x x.event.paths ≡ false → takes_no_memory calm s x exists ≡ false
+growth_takes_memory calm s x exists h = and_false (calm || is_silent (calls_of s x.event exists)) (grows_nothing (case_of x.event exists) s.queues x x.event.paths) h

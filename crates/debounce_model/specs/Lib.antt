@@ -7,6 +7,8 @@ pub mod Command
 pub mod CommandView
 pub mod Equality
 pub mod EqualityLaws
+pub mod Rename
+pub mod RenameSlot
 pub mod State
 pub mod Step
 pub mod Run

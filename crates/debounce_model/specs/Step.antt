@@ -1,14 +1,16 @@
 -- One event with what it does with the cache: taken, or refused.
-use Rattle.std.specs.Prelude.{◌≡◌, ◌≢◌, ◌-◌, ◌^◌, Bool, true, false, ◌&&◌, ◌||◌, None, List, [], ◌∷◌}
+use Rattle.std.specs.Prelude.{◌≡◌, ◌≢◌, ◌-◌, ◌^◌, ℕ, Bool, true, false, ◌&&◌, ◌||◌, Option, Some, None, List, [], ◌∷◌}
 use Rattle.notify_types.specs.Errors.{ErrorValue, ErrorKindValue, FullKind, MemoryKind}
 use Rattle.notify_types.specs.Event.{EventValue, Timed}
 use Rattle.notify_types.specs.Path.{PathValue}
 use Rattle.notify_types.specs.declared.event.RecursiveMode.{RecursiveMode}
 use Rattle.notify_types.specs.declared.event.RecursiveMode.TheVariants.{NonRecursive}
 use Rattle.debounce_model.specs.declared.case.Case.{Case}
-use Rattle.debounce_model.specs.declared.case.Case.TheVariants.{Creation, Removal, Ignored}
+use Rattle.debounce_model.specs.declared.case.Case.TheVariants.{Creation, Removal, RenameFrom, RenameTo, Plain, Ignored}
+use Rattle.debounce_model.specs.declared.file_id.FileId.{FileId}
 use Rattle.debounce_model.specs.Cache.{Rules, AddPath, RemovePath, Plan, Answer, Make, Ask, CarriesOut, Begins}
 use Rattle.debounce_model.specs.Queues.{Queues, queue_at, skips_at, was_created_at}
+use Rattle.debounce_model.specs.RenameSlot.{first_half}
 use Rattle.debounce_model.specs.State.{State, Core, case_of, event_step}
 
 -- ---- the calls of an event on the cache
@@ -17,20 +19,34 @@ use Rattle.debounce_model.specs.State.{State, Core, case_of, event_step}
 abbrev pub recursive_mode : State → PathValue → RecursiveMode
 recursive_mode s path = NonRecursive
 
+-- a path of which the cache has no number is added in this mode
+abbrev pub add_missing : PathValue → RecursiveMode → Option FileId → Plan
+add_missing path mode None = Make (AddPath path mode) (Answer None)
+add_missing path mode (Some number) = Answer None
+
+-- a second half with this number takes the first half's path, where there is one, out of the cache
+abbrev pub remove_half : Option (PathValue × ℕ) → Option FileId → Plan
+remove_half None number = Answer number
+remove_half (Some (from, time)) number = Make (RemovePath from) (Answer number)
+
 -- the calls of an event of this case, with this first path
-abbrev pub case_calls : Case → State → PathValue → Plan
-case_calls Creation s path = Make (AddPath path (recursive_mode s path)) (Answer None)
-case_calls Removal s path = Make (RemovePath path) (Answer None)
-case_calls Ignored s path = Answer None
+abbrev pub case_calls : Case → State → EventValue → PathValue → Plan
+case_calls Creation s e path = Make (AddPath path (recursive_mode s path)) (Answer None)
+case_calls Removal s e path = Make (RemovePath path) (Answer None)
+case_calls RenameFrom s e path = Ask path (λ number. Make (RemovePath path) (Answer number))
+case_calls RenameTo s e path =
+    Make (AddPath path (recursive_mode s path)) (Ask path (λ number. remove_half (first_half s.rename_slot e number) number))
+case_calls Plain s e path = Ask path (add_missing path (recursive_mode s path))
+case_calls Ignored s e path = Answer None
 
 -- .. with these paths: without paths none
-abbrev pub calls_after : Case → State → List PathValue → Plan
-calls_after case s [] = Answer None
-calls_after case s (path ∷ paths) = case_calls case s path
+abbrev pub calls_after : Case → State → EventValue → List PathValue → Plan
+calls_after case s e [] = Answer None
+calls_after case s e (path ∷ paths) = case_calls case s e path
 
 -- the calls of an event, whose first path exists or not
 abbrev pub calls_of : State → EventValue → Bool → Plan
-calls_of s e exists = calls_after (case_of e) s e.paths
+calls_of s e exists = calls_after (case_of e exists) s e e.paths
 
 -- ---- what takes no memory
 
@@ -39,6 +55,9 @@ calls_of s e exists = calls_after (case_of e) s e.paths
 abbrev pub case_grows_nothing : Case → Queues → PathValue → Timed → Bool
 case_grows_nothing Creation queues path x = skips_at (queue_at queues path) x
 case_grows_nothing Removal queues path x = was_created_at (queue_at queues path)
+case_grows_nothing RenameFrom queues path x = false
+case_grows_nothing RenameTo queues path x = false
+case_grows_nothing Plain queues path x = skips_at (queue_at queues path) x
 case_grows_nothing Ignored queues path x = true
 
 -- .. with these paths: without paths nothing grows
@@ -55,7 +74,7 @@ is_silent (Ask path next) = false
 -- an event takes no memory, with a cache that refuses nothing or any other
 abbrev pub takes_no_memory : Bool → State → Timed → Bool → Bool
 takes_no_memory refuses_nothing s x exists =
-    (refuses_nothing || is_silent (calls_of s x.event exists)) && grows_nothing (case_of x.event) s.queues x x.event.paths
+    (refuses_nothing || is_silent (calls_of s x.event exists)) && grows_nothing (case_of x.event exists) s.queues x x.event.paths
 
 -- ---- taken, or refused
 

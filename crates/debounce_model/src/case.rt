@@ -7,6 +7,12 @@ pub enum Case {
     Creation,
     /// Something was removed.
     Removal,
+    /// The first half of a rename: the path has its old name no more.
+    RenameFrom,
+    /// The second half of a rename: the path has its new name.
+    RenameTo,
+    /// Something else happened to what is there.
+    Plain,
     /// The event is taken, and nothing else happens.
     Ignored,
 }

@@ -18,3 +18,5 @@ pub use Rattle.debounce_model.specs.Step
 pub use Rattle.debounce_model.specs.Run
 pub use Rattle.debounce_model.specs.Play
 pub use Rattle.notify_types.specs.Below
+pub use Rattle.debounce_model.specs.Rename
+pub use Rattle.debounce_model.specs.RenameSlot

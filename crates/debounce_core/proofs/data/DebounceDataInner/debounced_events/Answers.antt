@@ -28,7 +28,7 @@ returns-then-not-is_any_due-clause-ok g c =
 pub overflow_add-self : goal.overflow_add-self
 overflow_add-self g c =
     let a = c.self.inside in
-    let s : State = record { queues = a.queues; timeout = a.timeout; taken = a.taken; given = a.given } in
+    let s : State = record { queues = a.queues; rename_slot = a.rename_slot; timeout = a.timeout; taken = a.taken; given = a.given } in
     let b = c.in_ok-batch.batch in
     let batch : IsBatch s c.args.now b.items = rw (← c.self.view_is) at c.in_ok-batch.ensures.order in
     let kept = well_formed-tick s c.args.now b.items c.self.invariant batch in
@@ -37,7 +37,7 @@ overflow_add-self g c =
 pub invariant_of-self : goal.invariant_of-self
 invariant_of-self g c =
     let a = c.self.inside in
-    let s : State = record { queues = a.queues; timeout = a.timeout; taken = a.taken; given = a.given } in
+    let s : State = record { queues = a.queues; rename_slot = a.rename_slot; timeout = a.timeout; taken = a.taken; given = a.given } in
     let b = c.in_ok-batch.batch in
     let batch : IsBatch s c.args.now b.items = rw (← c.self.view_is) at c.in_ok-batch.ensures.order in
     rw (c.trim.ensures, c.len.ensures, b.ok.0) (well_formed-tick s c.args.now b.items c.self.invariant batch)
@@ -45,14 +45,14 @@ invariant_of-self g c =
 pub returns-clause-batch : goal.returns-clause-batch
 returns-clause-batch g c =
     let a = c.self.inside in
-    let s : State = record { queues = a.queues; timeout = a.timeout; taken = a.taken; given = a.given } in
+    let s : State = record { queues = a.queues; rename_slot = a.rename_slot; timeout = a.timeout; taken = a.taken; given = a.given } in
     let batch : IsBatch s c.args.now c.in_ok-batch.batch.items = rw (← c.self.view_is) at c.in_ok-batch.ensures.order in
     rw (← c.self.view_is) batch
 
 pub returns-clause-only : goal.returns-clause-only
 returns-clause-only g c =
     let a = c.self.inside in
-    let s : State = record { queues = a.queues; timeout = a.timeout; taken = a.taken; given = a.given } in
+    let s : State = record { queues = a.queues; rename_slot = a.rename_slot; timeout = a.timeout; taken = a.taken; given = a.given } in
     let only : (other : List Timed) → IsBatch s c.args.now other → other ≡ c.in_ok-batch.batch.items = rw (← c.self.view_is) at c.in_ok-batch.ensures.only in
     rw (← c.self.view_is) only
 
