@@ -1,3 +1,4 @@
+pub mod DataView
 pub mod Due
 pub mod Groups
 pub mod SlotChange

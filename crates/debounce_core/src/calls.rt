@@ -9,11 +9,13 @@ ghost use Rattle.debounce_model.specs.Step.{calls_after, remove_half, is_silent}
 
 use crate::cache::FileIdCache;
 use crate::rename_slot::{RenameSlot, first_half};
+use crate::roots::mode_in;
 use debounce_model::case::Case;
 use debounce_model::file_id::FileId;
 use notify_types::error::Error;
 use notify_types::event::{DebouncedEvent, RecursiveMode};
 use notify_types::kind::{EventKind, ModifyKind, RenameMode};
+use notify_types::path::PathBuf;
 use std::alloc::Allocator;
 
 /// The case of the step table that the event falls in.
@@ -21,7 +23,7 @@ pub(crate) fn event_case<A: Allocator>(event: &DebouncedEvent<A>, exists: bool) 
     ensures { result ≡ case_of event.now.event exists }
 {
     if event.need_rescan() {
-        return Case::Ignored;
+        return Case::Rescan;
     }
     match event.kind() {
         EventKind::Create(_) => Case::Creation,
@@ -48,22 +50,27 @@ fn rename_case(mode: RenameMode, exists: bool) -> Case
 /// Makes the calls of an event of this case on the cache, and returns the cache's answer.
 pub(crate) fn call_cache<A: Allocator, C: FileIdCache<A>>(
     cache: &mut C,
+    roots: &[(PathBuf<A>, RecursiveMode)],
     slot: &Option<RenameSlot<A>>,
     case: Case,
     event: &DebouncedEvent<A>,
 ) -> Result<Option<FileId>, Error<A>>
-    ensures ok { IfOk result (λ answer. (s : State) → s.rename_slot ≡ slot.now → CarriesOut C.rules cache.old (calls_after case s event.now.event event.now.event.paths) answer cache.new) }
-    ensures err { OnErr result ((s : State) → s.rename_slot ≡ slot.now → Begins C.rules cache.old (calls_after case s event.now.event event.now.event.paths) cache.new) }
+    ensures ok { IfOk result (λ answer. (s : State) → s.roots ≡ roots.now → s.rename_slot ≡ slot.now → CarriesOut C.rules cache.old (calls_after case s event.now.event event.now.event.paths) answer cache.new) }
+    ensures err { OnErr result ((s : State) → s.roots ≡ roots.now → s.rename_slot ≡ slot.now → Begins C.rules cache.old (calls_after case s event.now.event event.now.event.paths) cache.new) }
     ensures memory { IfErr result (λ e. e ≡ out_of_memory) }
     ensures silent { OnErr result ((s : State) → is_silent (calls_after case s event.now.event event.now.event.paths) ≡ false) }
     ensures sure { OnErr result (C.rules.refuses_nothing ≡ false) }
 {
+    if case == Case::Rescan {
+        cache.rescan(roots)?;
+        return Ok(None);
+    }
     let Some(path) = event.first_path() else {
         return Ok(None);
     };
     match case {
         Case::Creation => {
-            cache.add_path(path, RecursiveMode::NonRecursive)?;
+            cache.add_path(path, mode_in(roots, path))?;
             Ok(None)
         }
         Case::Removal => {
@@ -76,7 +83,7 @@ pub(crate) fn call_cache<A: Allocator, C: FileIdCache<A>>(
             Ok(number)
         }
         Case::RenameTo => {
-            cache.add_path(path, RecursiveMode::NonRecursive)?;
+            cache.add_path(path, mode_in(roots, path))?;
             let number = cache.cached_file_id(path);
             if let Some((from, _)) = first_half(slot, event, number) {
                 cache.remove_path(from)?;
@@ -85,10 +92,10 @@ pub(crate) fn call_cache<A: Allocator, C: FileIdCache<A>>(
         }
         Case::Plain => {
             if cache.cached_file_id(path).is_none() {
-                cache.add_path(path, RecursiveMode::NonRecursive)?;
+                cache.add_path(path, mode_in(roots, path))?;
             }
             Ok(None)
         }
-        Case::Ignored => Ok(None),
+        Case::Rescan | Case::Ignored => Ok(None),
     }
 }

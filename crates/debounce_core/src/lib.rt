@@ -21,3 +21,5 @@ pub mod queue;
 mod queues;
 mod rename;
 mod rename_slot;
+mod rescan_slot;
+mod roots;

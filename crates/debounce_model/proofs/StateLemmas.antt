@@ -1,5 +1,5 @@
 -- What an event and a tick keep of a state: the laws in the type of the core.
-use Rattle.std.proofs.Common.{◌≡◌, ℕ, ◌+◌, ◌≤◌, Bool, true, false, cond, List, [], ◌∷◌, ◌++◌, refl, ap, sym, ◌∙◌, Option, Some, None, is_some, true≢false, arith, length, length-append}
+use Rattle.std.proofs.Common.{◌≡◌, ℕ, ◌+◌, ◌≤◌, Bool, true, false, ◌||◌, cond, List, [], ◌∷◌, ◌++◌, refl, ap, sym, ◌∙◌, Option, Some, None, is_some, true≢false, arith, length, length-append}
 use Rattle.std.specs.Map.{values_of}
 use Rattle.std.specs.List.{list_any}
 use Rattle.std.proofs.lemmas.List.Sums.{sum_by-cons}
@@ -15,22 +15,24 @@ use Rattle.notify_types.specs.declared.kind.EventKind.TheVariants.{Any, Access, 
 use Rattle.notify_types.specs.declared.kind.ModifyKind.TheVariants as modify
 use Rattle.notify_types.specs.declared.kind.RenameMode.TheVariants as rename
 use Rattle.debounce_model.specs.declared.case.Case.{Case}
-use Rattle.debounce_model.specs.declared.case.Case.TheVariants.{Creation, Removal, RenameFrom, RenameTo, Plain, Ignored}
+use Rattle.debounce_model.specs.declared.case.Case.TheVariants.{Rescan, Creation, Removal, RenameFrom, RenameTo, Plain, Ignored}
 use Rattle.debounce_model.specs.declared.file_id.FileId.{FileId}
 use Rattle.debounce_model.specs.Order.{InBatchOrder, placed}
-use Rattle.debounce_model.specs.Queues.{Queues, is_name_kind, last_of_kind, expired_beginning, rest_after, rests, place_list, waits, waiting_in}
+use Rattle.debounce_model.specs.Queues.{Queues, is_name_kind, last_of_kind, expired_beginning, rest_after, rests, place_list, waits, waiting_in, is_any_due}
 use Rattle.debounce_model.specs.Rename.{is_both, is_both_mode}
 use Rattle.debounce_model.specs.RenameSlot.{first_half}
-use Rattle.debounce_model.specs.State.{State, IsFirst, IsKeyed, IsNonempty, HasNoBoth, IsBothFirst, IsBothBehind, IsBothInFront, AreQueues, IsWellFormed, kind_case, case_of, renamed_to, event_step, queues_after, case_queues, is_expired, tick_step, IsBatch}
+use Rattle.debounce_model.specs.State.{State, IsFirst, IsKeyed, IsNonempty, HasNoBoth, IsBothFirst, IsBothBehind, IsBothInFront, AreQueues, IsWellFormed, kind_case, case_of, renamed_to, rescan_after, held, due_of, rest_of, places, is_slot_due, event_step, queues_after, case_queues, is_expired, tick_step, IsBatch}
 use Rattle.debounce_model.proofs.Entries.{sorted-changed}
 use Rattle.debounce_model.proofs.GoodQueues.{AreGood, good-more, good-push, good-removal}
 use Rattle.debounce_model.proofs.OrderLemmas.{length-placed}
+use Rattle.debounce_model.proofs.QueueLemmas.{quiet}
 use Rattle.debounce_model.proofs.RenameLemmas.{good-joined}
 
 -- ---- an event
 
--- a case that is not ignored
+-- a case that may change the queues
 abbrev acts : Case → Bool
+acts Rescan = false
 acts Creation = true
 acts Removal = true
 acts RenameFrom = true
@@ -38,7 +40,7 @@ acts RenameTo = true
 acts Plain = true
 acts Ignored = false
 
--- a joined rename that comes in is ignored
+-- a joined rename that comes in changes no queue
 not_both : (k : EventKind) (exists : Bool) → acts (kind_case k exists) ≡ true → is_name_kind is_both_mode k ≡ false
 not_both Any exists h = refl
 not_both (Access k) exists h = refl
@@ -59,7 +61,7 @@ not_both Other exists h = refl
 not_both_event : (x : Timed) (exists : Bool) → acts (case_of x.event exists) ≡ true → is_both x ≡ false
 not_both_event x exists h = by (is_some x.event.attrs.flag) h
   where
-    by : (b : Bool) → acts (cond b Ignored (kind_case x.event.kind exists)) ≡ true → is_both x ≡ false
+    by : (b : Bool) → acts (cond b Rescan (kind_case x.event.kind exists)) ≡ true → is_both x ≡ false
     by true h = absurd (true≢false (sym h))
     by false h = not_both x.event.kind exists h
 
@@ -77,6 +79,7 @@ good-step case queues x half n g b = by x.event.paths refl
     by (p ∷ ps) e = at case b
       where
         at : (c : Case) → (acts c ≡ true → is_both x ≡ false) → AreGood (case_queues c queues p x half) (n + 1)
+        at Rescan b = good-more queues n (n + 1) g (omega arith)
         at Creation b = good-push queues p x n g (b refl) (rw e refl)
         at Removal b = good-removal queues p x n g (b refl) (rw e refl)
         at RenameFrom b = good-push queues p x n g (b refl) (rw e refl)
@@ -84,12 +87,27 @@ good-step case queues x half n g b = by x.event.paths refl
         at Plain b = good-push queues p x n g (b refl) (rw e refl)
         at Ignored b = good-more queues n (n + 1) g (omega arith)
 
+-- .. and with the rescan slot one more waits at most
+event-bound : (case : Case) (queues : Queues) (slot : Option Timed) (x : Timed) (half : Option (PathValue × ℕ)) → waiting_in (queues_after case queues x half x.event.paths) ≤ waiting_in queues + 1 → waiting_in (queues_after case queues x half x.event.paths) + held (rescan_after case slot x) ≤ waiting_in queues + held slot + 1
+event-bound Rescan queues slot x half b = by x.event.paths
+  where
+    by : (ps : List PathValue) → waiting_in (queues_after Rescan queues x half ps) + 1 ≤ waiting_in queues + held slot + 1
+    by [] = omega arith
+    by (p ∷ ps) = omega arith
+event-bound Creation queues slot x half b = omega (arith, b)
+event-bound Removal queues slot x half b = omega (arith, b)
+event-bound RenameFrom queues slot x half b = omega (arith, b)
+event-bound RenameTo queues slot x half b = omega (arith, b)
+event-bound Plain queues slot x half b = omega (arith, b)
+event-bound Ignored queues slot x half b = omega (arith, b)
+
 -- an event keeps the laws of a state
 pub well_formed_event : (s : State) (x : Timed) (exists : Bool) (answer : Option FileId) → IsWellFormed s → IsWellFormed (event_step s x exists answer)
 well_formed_event s x exists answer w =
     let before : AreGood s.queues (waiting_in s.queues) = record { kept = w.queues; ordered = w.ordered; bounded = omega arith } in
-    let g = good-step (case_of x.event exists) s.queues x (first_half s.rename_slot x.event answer) (waiting_in s.queues) before (not_both_event x exists) in
-    record { queues = g.kept; ordered = g.ordered; bounded = omega (arith, g.bounded, w.bounded) }
+    let half = first_half s.rename_slot x.event answer in
+    let g = good-step (case_of x.event exists) s.queues x half (waiting_in s.queues) before (not_both_event x exists) in
+    record { queues = g.kept; ordered = g.ordered; bounded = omega (arith, event-bound (case_of x.event exists) s.queues s.rescan_slot x half g.bounded, w.bounded) }
 
 -- ---- a tick
 
@@ -189,10 +207,35 @@ kept-rests due (e ∷ queues) a = by (waits (rest_after due e.1)) refl (kept-res
 pub length-in_order : (xs ys : List Timed) → InBatchOrder xs ys → length ys ≡ length xs
 length-in_order xs ys o = ap length (sym o.events) ∙ length-map (λ k. k.event) o.ranked ∙ length_permutation (placed [] xs) o.ranked o.are ∙ length-placed [] xs
 
+-- the event of a slot is due or stays
+held-cut : (due : Timed → Bool) (slot : Option Timed) → length (due_of due slot) + held (rest_of due slot) ≡ held slot
+held-cut due None = omega arith
+held-cut due (Some x) = by (due x)
+  where
+    by : (b : Bool) → length (cond b (x ∷ []) []) + held (cond b None (Some x)) ≡ 1
+    by true = omega arith
+    by false = omega arith
+
 -- a tick keeps the laws of a state
 pub well_formed-tick : (s : State) (now : ℕ) (batch : List Timed) → IsWellFormed s → IsBatch s now batch → IsWellFormed (tick_step s now batch)
 well_formed-tick s now batch w b = record {
   queues = kept-rests (is_expired s.timeout now) s.queues w.queues;
   ordered = sorted-changed path_cmp_total (rest_after (is_expired s.timeout now)) (λ q. waits (rest_after (is_expired s.timeout now) q)) s.queues w.ordered;
-  bounded = omega (arith, w.bounded, tick-bound (is_expired s.timeout now) s.queues, length-in_order (place_list (is_expired s.timeout now) s.queues) batch b);
+  bounded = omega (arith, w.bounded, tick-bound (is_expired s.timeout now) s.queues, held-cut (is_expired s.timeout now) s.rescan_slot, length-append (due_of (is_expired s.timeout now) s.rescan_slot) (place_list (is_expired s.timeout now) s.queues), length-in_order (places (is_expired s.timeout now) s) batch b);
 }
+
+-- a slot whose event is not due keeps it
+quiet_slot : (due : Timed → Bool) (slot : Option Timed) → is_slot_due due slot ≡ false → (due_of due slot ≡ []) × (rest_of due slot ≡ slot)
+quiet_slot due None h = (refl, refl)
+quiet_slot due (Some x) h = (rw h refl, rw h refl)
+
+-- where nothing is due, nothing is handed out and everything waits on
+pub quiet_state : (due : Timed → Bool) (s : State) → AreQueues s.queues → (is_slot_due due s.rescan_slot || is_any_due due s.queues) ≡ false → (places due s ≡ []) × (rests due s.queues ≡ s.queues) × (rest_of due s.rescan_slot ≡ s.rescan_slot)
+quiet_state due s a h = by (is_slot_due due s.rescan_slot) refl h
+  where
+    by : (b : Bool) → is_slot_due due s.rescan_slot ≡ b → (b || is_any_due due s.queues) ≡ false → (places due s ≡ []) × (rests due s.queues ≡ s.queues) × (rest_of due s.rescan_slot ≡ s.rescan_slot)
+    by true e h = absurd (true≢false h)
+    by false e h =
+        let slot = quiet_slot due s.rescan_slot e in
+        let queues = quiet due s.queues a h in
+        (rw (slot.0, queues.0) refl, queues.1, slot.1)

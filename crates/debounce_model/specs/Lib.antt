@@ -9,7 +9,9 @@ pub mod Equality
 pub mod EqualityLaws
 pub mod Rename
 pub mod RenameSlot
+pub mod Roots
 pub mod State
 pub mod Step
 pub mod Run
 pub mod Play
+pub mod Kept

@@ -1,10 +1,10 @@
 -- Runs of commands.
-use Rattle.std.specs.Prelude.{◌≡◌, true, List, [], ◌∷◌}
+use Rattle.std.specs.Prelude.{◌≡◌, true, List, [], ◌∷◌, ◌++◌}
 use Rattle.notify_types.specs.Errors.{out_of_memory}
 use Rattle.debounce_model.specs.Cache.{Rules}
-use Rattle.debounce_model.specs.Command.{CommandValue, EventCommand, TickCommand, ReplyValue, TakenReply, BatchReply, RefusedReply}
+use Rattle.debounce_model.specs.Command.{CommandValue, EventCommand, ErrorCommand, RootCommand, UnrootCommand, ErrorsCommand, TickCommand, ReplyValue, TakenReply, NotedReply, RootedReply, UnrootedReply, ErrorsReply, BatchReply, RefusedReply}
 use Rattle.debounce_model.specs.State.{Core, IsBatch, tick_step, is_due}
-use Rattle.debounce_model.specs.Step.{IsTaken, IsRefused}
+use Rattle.debounce_model.specs.Step.{IsTaken, IsRefused, IsRooted, IsRootRefused, IsUnrooted, IsUnrootRefused}
 
 module _ {C : Type 0} where
   -- from s the command may have this reply and leave t
@@ -13,6 +13,15 @@ module _ {C : Type 0} where
       IsTaken r s (record { event = event; time = now }) exists t × (answer ≡ t.answer)
   Step r s (EventCommand event now exists) (RefusedReply error) t =
       IsRefused r s (record { event = event; time = now }) exists error t
+  Step r s (ErrorCommand error) NotedReply t =
+      t ≡ record s { state = record s.state { errors = s.state.errors ++ error ∷ [] } }
+  Step r s (ErrorCommand error) (RefusedReply refusal) t = (refusal ≡ out_of_memory) × (t ≡ s)
+  Step r s (RootCommand path mode) RootedReply t = IsRooted r s path mode t
+  Step r s (RootCommand path mode) (RefusedReply error) t = IsRootRefused r s path mode error t
+  Step r s (UnrootCommand path) UnrootedReply t = IsUnrooted r s path t
+  Step r s (UnrootCommand path) (RefusedReply error) t = IsUnrootRefused r s path error t
+  Step r s ErrorsCommand (ErrorsReply errors) t =
+      (errors ≡ s.state.errors) × (t ≡ record s { state = record s.state { errors = [] } })
   Step r s (TickCommand now) (BatchReply batch) t =
       IsBatch s.state now batch × (t ≡ record s { state = tick_step s.state now batch })
   Step r s (TickCommand now) (RefusedReply error) t = (error ≡ out_of_memory) × (is_due s.state now ≡ true) × (t ≡ s)
