@@ -1,13 +1,12 @@
 -- What a script says: a timeout, the paths to start from, and commands, each a line of text.
-use Rattle.std.specs.Prelude.{ℕ, ◌+◌, ◌==◌, ◌^◌, nat_lt, Bool, true, false, not, ◌&&◌, ◌||◌, Option, Some, None, List, [], ◌∷◌, ◌++◌, length, map, codes, if◌then◌else◌}
-use Rattle.std.specs.List.{list_any, slice_split}
-use Rattle.std.specs.Option.{option_map}
+use Rattle.std.specs.Prelude.{ℕ, ◌+◌, ◌==◌, ◌^◌, nat_eq, nat_lt, Bool, true, false, not, ◌&&◌, ◌||◌, Option, Some, None, is_some, List, [], ◌∷◌, ◌++◌, length, drop, map, codes, if◌then◌else◌}
+use Rattle.std.specs.List.{list_any, slice_split, starts_with}
+use Rattle.std.specs.Option.{option_map, option_and_then}
 use Rattle.std.specs.Str.{bytes_eq, all_ascii_digits, is_utf8}
 use Rattle.std.specs.Str.Lines.{lines}
 use Rattle.std.specs.Str.Parse.{digits_value}
 use Rattle.notify_types.specs.Event.{AttributesValue, no_attributes}
 use Rattle.notify_types.specs.KindWords.{kind_of_word}
-use Rattle.notify_types.specs.Kinds.{is_creation, is_removal}
 use Rattle.notify_types.specs.Path.{PathValue}
 use Rattle.notify_types.specs.PathText.{parts_of}
 use Rattle.notify_types.specs.declared.kind.EventKind.{EventKind}
@@ -29,35 +28,80 @@ pub record ScriptValue : Type 0 where
 
 -- ---- what a field says
 
--- one decimal digit or more, without a sign, that write a number of 128 bits
-abbrev pub is_number : List ℕ → Bool
-is_number digits = all_ascii_digits digits && (not (length digits == 0) && nat_lt (digits_value 10 digits) (2 ^ 128))
+-- a text with nothing in it: a field between two spaces side by side, or a word between two commas
+abbrev pub is_empty : List ℕ → Bool
+is_empty text = length text == 0
 
--- the number of a field
-abbrev pub number_of : List ℕ → Option ℕ
-number_of field = if is_number field then Some (digits_value 10 field) else None
+-- one decimal digit or more, without a sign, that write a number of so many bits
+abbrev pub is_number : ℕ → List ℕ → Bool
+is_number bits digits = all_ascii_digits digits && (not (is_empty digits) && nat_lt (digits_value 10 digits) (2 ^ bits))
+
+-- the number that a text writes, of so many bits
+abbrev pub number_of : ℕ → List ℕ → Option ℕ
+number_of bits text = if is_number bits text then Some (digits_value 10 text) else None
+
+-- the moment of a field
+abbrev pub moment_of : List ℕ → Option ℕ
+moment_of field = number_of 128 field
 
 -- the path of a field: two quotes are the empty path
 abbrev pub path_of : List ℕ → PathValue
 path_of field = if bytes_eq field (codes "\"\"") then [] else parts_of field
 
--- a kind, where a script may name it: a creation or a removal
-abbrev pub script_kind : Option EventKind → Option EventKind
-script_kind None = None
-script_kind (Some kind) = if is_creation kind || is_removal kind then Some kind else None
-
 -- the kind of a field
 abbrev pub kind_of : List ℕ → Option EventKind
-kind_of field = script_kind (kind_of_word field)
+kind_of field = kind_of_word field
 
 -- what options say: the event's attributes, and whether its first path exists
 pub record OptionsValue : Type 0 where
   pub attrs : AttributesValue
   pub exists : Bool
 
--- the options of a field: `-` for none
+-- no option is given
+abbrev pub no_options : OptionsValue
+no_options = record { attrs = no_attributes; exists = false }
+
+-- the options with this tracker too, where they have none yet
+abbrev pub with_tracker : OptionsValue → Option ℕ → Option OptionsValue
+with_tracker options None = None
+with_tracker options (Some tracker) =
+    if is_some options.attrs.tracker then None
+    else Some (record options { attrs = record options.attrs { tracker = Some tracker } })
+
+-- the options with this info too, which isn't empty, where they have none yet
+abbrev pub with_info : OptionsValue → List ℕ → Option OptionsValue
+with_info options info =
+    if is_empty info || is_some options.attrs.info then None
+    else Some (record options { attrs = record options.attrs { info = Some info } })
+
+-- the options with a path that exists, where they don't say so yet
+abbrev pub with_exists : OptionsValue → Option OptionsValue
+with_exists options = if options.exists then None else Some (record options { exists = true })
+
+-- what stands behind this beginning of a word
+abbrev pub behind : List ℕ → List ℕ → List ℕ
+behind beginning word = drop (length beginning) word
+
+-- the options with one word more: `tracker=N`, `info=W` or `exists`
+abbrev pub with_word : OptionsValue → List ℕ → Option OptionsValue
+with_word options word =
+    if starts_with nat_eq word (codes "tracker=") then with_tracker options (number_of 64 (behind (codes "tracker=") word))
+    else (if starts_with nat_eq word (codes "info=") then with_info options (behind (codes "info=") word)
+    else (if bytes_eq word (codes "exists") then with_exists options
+    else None))
+
+-- the options with these words too, one after the other
+abbrev pub with_words : OptionsValue → List (List ℕ) → Option OptionsValue
+with_words options [] = Some options
+with_words options (word ∷ words) = option_and_then (λ more. with_words more words) (with_word options word)
+
+-- the words of an options field, between commas
+abbrev pub words_of : List ℕ → List (List ℕ)
+words_of field = slice_split (λ b. b == 44) field
+
+-- the options of a field: `-` for none, or words between commas, each at most once
 abbrev pub options_of : List ℕ → Option OptionsValue
-options_of field = if bytes_eq field (codes "-") then Some (record { attrs = no_attributes; exists = false }) else None
+options_of field = if bytes_eq field (codes "-") then Some no_options else with_words no_options (words_of field)
 
 -- ---- what a line says
 
@@ -68,7 +112,7 @@ fields_of line = slice_split (λ b. b == 32) line
 -- `timeout N`, by the fields behind its word
 abbrev pub timeout_line : List (List ℕ) → Option LineValue
 timeout_line [] = None
-timeout_line (moment ∷ []) = option_map TimeoutLine (number_of moment)
+timeout_line (moment ∷ []) = option_map TimeoutLine (moment_of moment)
 timeout_line (moment ∷ next ∷ fields) = None
 
 -- `start P`, by the fields behind its word
@@ -90,12 +134,12 @@ abbrev pub event_line : List (List ℕ) → Option LineValue
 event_line [] = None
 event_line (moment ∷ []) = None
 event_line (moment ∷ kind ∷ []) = None
-event_line (moment ∷ kind ∷ options ∷ paths) = event_with (number_of moment) (kind_of kind) (options_of options) (map path_of paths)
+event_line (moment ∷ kind ∷ options ∷ paths) = event_with (moment_of moment) (kind_of kind) (options_of options) (map path_of paths)
 
 -- `tick N`, by the fields behind its word
 abbrev pub tick_line : List (List ℕ) → Option LineValue
 tick_line [] = None
-tick_line (moment ∷ []) = option_map (λ now. CommandLine (TickCommand now)) (number_of moment)
+tick_line (moment ∷ []) = option_map (λ now. CommandLine (TickCommand now)) (moment_of moment)
 tick_line (moment ∷ next ∷ fields) = None
 
 -- the line that begins with this word
@@ -112,11 +156,7 @@ abbrev pub line_with : List (List ℕ) → Option LineValue
 line_with [] = None
 line_with (word ∷ fields) = worded_line word fields
 
--- a field with nothing in it: two spaces side by side, or one at an end
-abbrev pub is_empty : List ℕ → Bool
-is_empty field = length field == 0
-
--- what a line says, if it says anything
+-- what a line says, if it says anything; none of its fields may be empty
 abbrev pub line_of : List ℕ → Option LineValue
 line_of line = if list_any is_empty (fields_of line) then None else line_with (fields_of line)
 

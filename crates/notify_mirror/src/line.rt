@@ -1,7 +1,7 @@
 //! One line of a script.
-ghost use Rattle.std.specs.Prelude.{◌≡◌, map, IfOk, IfErr};
+ghost use Rattle.std.specs.Prelude.{◌≡◌, map, IfOk, IfErr, OnOk};
 ghost use Rattle.std.specs.List.{list_any};
-ghost use Rattle.notify_mirror.specs.Script.{number_of, path_of, kind_of, options_of, fields_of, timeout_line, start_line, event_line, tick_line, worded_line, is_empty, line_of};
+ghost use Rattle.notify_mirror.specs.Script.{number_of, moment_of, path_of, kind_of, no_options, with_tracker, with_info, with_exists, with_word, options_of, fields_of, timeout_line, start_line, event_line, tick_line, worded_line, is_empty, line_of};
 ghost use Rattle.notify_mirror.specs.ScriptView.{line_value, options_value};
 ghost use Rattle.notify_mirror.specs.declared.line.LineFault.TheVariants.{Memory};
 
@@ -48,9 +48,71 @@ struct Options<A: Allocator> {
     exists: bool,
 }
 
+impl<A: Allocator> Options<A> {
+    fn none() -> Options<A>
+        ensures { options_value result ≡ no_options }
+    {
+        Options {
+            attrs: EventAttributes::default(),
+            exists: false,
+        }
+    }
+
+    fn take_tracker(&mut self, digits: &str) -> Result<(), LineFault>
+        ensures ok { OnOk result (with_tracker (options_value self.old) (number_of 64 digits.now) ≡ Some (options_value self.new)) }
+        ensures err { IfErr result (λ e. with_tracker (options_value self.old) (number_of 64 digits.now) ≡ None) }
+    {
+        let tracker = read_tracker(digits)?;
+        if self.attrs.tracker.is_some() {
+            return Err(LineFault::NotCommand);
+        }
+        self.attrs.tracker = Some(tracker);
+        Ok(())
+    }
+
+    fn take_info(&mut self, alloc: A, info: &str) -> Result<(), LineFault>
+        ensures ok { OnOk result (with_info (options_value self.old) info.now ≡ Some (options_value self.new)) }
+        ensures err { IfErr result (λ e. e ≡ LineFault.NotCommand → with_info (options_value self.old) info.now ≡ None) }
+    {
+        if info.is_empty() || self.attrs.info.is_some() {
+            return Err(LineFault::NotCommand);
+        }
+        self.attrs.info = Some(String::from_str(alloc, info)?);
+        Ok(())
+    }
+
+    fn take_exists(&mut self) -> Result<(), LineFault>
+        ensures ok { OnOk result (with_exists (options_value self.old) ≡ Some (options_value self.new)) }
+        ensures err { IfErr result (λ e. with_exists (options_value self.old) ≡ None) }
+    {
+        if self.exists {
+            return Err(LineFault::NotCommand);
+        }
+        self.exists = true;
+        Ok(())
+    }
+
+    /// Takes one word more.
+    fn take_word(&mut self, alloc: A, word: &str) -> Result<(), LineFault>
+        ensures ok { OnOk result (with_word (options_value self.old) word.now ≡ Some (options_value self.new)) }
+        ensures err { IfErr result (λ e. e ≡ LineFault.NotCommand → with_word (options_value self.old) word.now ≡ None) }
+    {
+        if let Some(digits) = word.strip_prefix("tracker=") {
+            return self.take_tracker(digits);
+        }
+        if let Some(info) = word.strip_prefix("info=") {
+            return self.take_info(alloc, info);
+        }
+        match word {
+            "exists" => self.take_exists(),
+            _ => Err(LineFault::NotCommand),
+        }
+    }
+}
+
 /// The number that these digits write.
 pub fn read_number(field: &str) -> Option<u128>
-    ensures { result ≡ number_of field.now }
+    ensures { result ≡ number_of 128 field.now }
 {
     // `parse` alone would take a plus.
     if field.starts_with('+') {
@@ -60,10 +122,18 @@ pub fn read_number(field: &str) -> Option<u128>
 }
 
 fn read_moment(field: &str) -> Result<Moment, LineFault>
-    ensures ok { IfOk result (λ moment. number_of field.now ≡ Some moment) }
-    ensures err { IfErr result (λ e. number_of field.now ≡ None) }
+    ensures ok { IfOk result (λ moment. moment_of field.now ≡ Some moment) }
+    ensures err { IfErr result (λ e. moment_of field.now ≡ None) }
 {
     read_number(field).ok_or(LineFault::NotCommand)
+}
+
+fn read_tracker(digits: &str) -> Result<u64, LineFault>
+    ensures ok { IfOk result (λ tracker. number_of 64 digits.now ≡ Some tracker) }
+    ensures err { IfErr result (λ e. number_of 64 digits.now ≡ None) }
+{
+    let number = read_number(digits).ok_or(LineFault::NotCommand)?;
+    u64::try_from(number).map_err(|_| LineFault::NotCommand)
 }
 
 fn read_path<A: Allocator + Copy>(alloc: A, field: &str) -> Result<PathBuf<A>, LineFault>
@@ -94,23 +164,21 @@ fn read_kind(field: &str) -> Result<EventKind, LineFault>
     ensures ok { IfOk result (λ kind. kind_of field.now ≡ Some kind) }
     ensures err { IfErr result (λ e. kind_of field.now ≡ None) }
 {
-    match EventKind::from_word(field) {
-        Some(kind) if kind.is_creation() || kind.is_removal() => Ok(kind),
-        _ => Err(LineFault::NotCommand),
-    }
+    EventKind::from_word(field).ok_or(LineFault::NotCommand)
 }
 
-fn read_options<A: Allocator>(field: &str) -> Result<Options<A>, LineFault>
+fn read_options<A: Allocator + Copy>(alloc: A, field: &str) -> Result<Options<A>, LineFault>
     ensures ok { IfOk result (λ options. options_of field.now ≡ Some (options_value options)) }
-    ensures err { IfErr result (λ e. options_of field.now ≡ None) }
+    ensures err { IfErr result (λ e. e ≡ LineFault.NotCommand → options_of field.now ≡ None) }
 {
-    if field != "-" {
-        return Err(LineFault::NotCommand);
+    let mut options = Options::none();
+    if field == "-" {
+        return Ok(options);
     }
-    Ok(Options {
-        attrs: EventAttributes::default(),
-        exists: false,
-    })
+    for word in field.split(',') {
+        options.take_word(alloc, word)?;
+    }
+    Ok(options)
 }
 
 fn read_timeout<A: Allocator>(fields: &[&str]) -> Result<Line<A>, LineFault>
@@ -142,7 +210,7 @@ fn read_event<A: Allocator + Copy>(alloc: A, fields: &[&str]) -> Result<Line<A>,
     };
     let moment = read_moment(moment)?;
     let kind = read_kind(kind)?;
-    let Options { attrs, exists } = read_options(options)?;
+    let Options { attrs, exists } = read_options(alloc, options)?;
     let paths = read_paths(alloc, names)?;
     let event = Event { kind, paths, attrs };
     Ok(Line::Command(Command::Event(event, moment, exists)))
