@@ -20,3 +20,5 @@ pub use Rattle.debounce_model.specs.Play
 pub use Rattle.notify_types.specs.Below
 pub use Rattle.debounce_model.specs.Rename
 pub use Rattle.debounce_model.specs.RenameSlot
+pub use Rattle.debounce_model.specs.Roots
+pub use Rattle.debounce_model.specs.Kept
