@@ -49,7 +49,7 @@ fn takes_any_layout_that_the_format_allows(rt: HostRuntime) {
 
 #[test]
 fn names_the_first_line_that_fails(rt: HostRuntime) {
-    let table: [(&[u8], u64); 27] = [
+    let table: [(&[u8], u64); 36] = [
         // empty_script
         (b"", 1),
         // tick_without_a_moment
@@ -76,10 +76,18 @@ fn names_the_first_line_that_fails(rt: HostRuntime) {
         (b"timeout 50\nTick 1\n", 2),
         (b"timeout 50\nevent 1 Create(Any)\n", 2),
         (b"timeout 50\nevent 1 Create - /a\n", 2),
-        // What comes in later stages: other kinds, options, counts.
-        (b"timeout 50\nevent 1 Modify(Any) - /a\n", 2),
-        (b"timeout 50\nevent 1 Create(Any) exists /a\n", 2),
-        (b"timeout 50\ncounts 1 0\n", 2),
+        (b"timeout 50\nevent 1 Modify(Name) - /a\n", 2),
+        (b"timeout 50\nevent 1 Any exists,exists /a\n", 2),
+        (b"timeout 50\nevent 1 Any rescan, /a\n", 2),
+        (b"timeout 50\nevent 1 Any info= /a\n", 2),
+        (b"timeout 50\nevent 1 Any tracker=18446744073709551616 /a\n", 2),
+        (b"timeout 50\ncounts 1 2\n", 2),
+        (b"timeout 50\nstart /\ncounts 1 1\n", 3),
+        (b"timeout 50\ncounts 1 1\ncounts 1 1\n", 3),
+        (b"timeout 50\nerror Full\n", 2),
+        (b"timeout 50\nroot recursive /a\n", 2),
+        (b"timeout 50\nunroot\n", 2),
+        (b"timeout 50\nerrors 1\n", 2),
     ];
     for (script, line) in table {
         let (status, out, err) = run(rt.alloc(), script);

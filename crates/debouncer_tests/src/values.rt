@@ -153,7 +153,7 @@ fn queues_look_at_their_front(rt: HostRuntime) -> Result<(), Fail> {
 #[test]
 fn a_core_takes_events_and_hands_them_out(rt: HostRuntime) -> Result<(), Fail> {
     let alloc = rt.alloc();
-    let mut core: DebounceDataInner<NoCache> = DebounceDataInner::new(alloc, NoCache::new(), 50);
+    let mut core = no_core(alloc);
     core.add_event(event(alloc, CREATE, "/a")?, 0, true)?;
     core.add_event(event(alloc, CREATE, "/b")?, 20, true)?;
     let answer = core.answer();
@@ -172,7 +172,7 @@ fn a_core_takes_events_and_hands_them_out(rt: HostRuntime) -> Result<(), Fail> {
 #[test]
 fn a_step_is_one_command(rt: HostRuntime) -> Result<(), Fail> {
     let alloc = rt.alloc();
-    let mut core: DebounceDataInner<NoCache> = DebounceDataInner::new(alloc, NoCache::new(), 50);
+    let mut core = no_core(alloc);
     let reply = core.step(Command::Event(event(alloc, CREATE, "/a")?, 0, true));
     let copy = reply.try_clone(alloc)?;
     assert!(rt; copy == reply);
@@ -184,19 +184,99 @@ fn a_step_is_one_command(rt: HostRuntime) -> Result<(), Fail> {
 #[test]
 fn a_run_gives_one_reply_a_command(rt: HostRuntime) -> Result<(), Fail> {
     let alloc = rt.alloc();
-    let mut core: DebounceDataInner<NoCache> = DebounceDataInner::new(alloc, NoCache::new(), 50);
+    let mut core = no_core(alloc);
     let mut commands = Vec::new(alloc);
     commands.push(Command::Event(event(alloc, CREATE, "/a")?, 0, true))?;
     commands.push(Command::Event(event(alloc, REMOVE, "/a")?, 1, false))?;
+    commands.push(Command::Error(Error::new(alloc, ErrorKind::PathNotFound)))?;
+    commands.push(Command::Root(path(alloc, "/")?, RecursiveMode::Recursive))?;
+    commands.push(Command::Unroot(path(alloc, "/")?))?;
+    commands.push(Command::Errors)?;
     commands.push(Command::Tick(100))?;
     for command in &commands {
         assert!(rt; *command == command.try_clone(alloc)?);
     }
     let replies = core.run(commands)?;
-    assert_eq!(rt; replies.len(), 3);
-    assert!(rt; replies[0] == Reply::Taken(None));
-    assert!(rt; replies[1] == Reply::Taken(None));
-    assert!(rt; replies[2] == Reply::Batch(Vec::new(alloc)));
+    let mut errors = Vec::new(alloc);
+    errors.push(Error::new(alloc, ErrorKind::PathNotFound))?;
+    let wanted = [
+        Reply::Taken(None),
+        Reply::Taken(None),
+        Reply::Noted,
+        Reply::Rooted,
+        Reply::Unrooted,
+        Reply::Errors(errors),
+        Reply::Batch(Vec::new(alloc)),
+    ];
+    assert_eq!(rt; replies.len(), wanted.len());
+    for (reply, wanted) in replies.iter().zip(wanted.iter()) {
+        assert!(rt; reply == wanted);
+    }
+    Ok(())
+}
+
+fn no_core(alloc: Global) -> DebounceDataInner<NoCache> {
+    DebounceDataInner::new(alloc, NoCache::new(), 50)
+}
+
+#[test]
+fn roots_give_their_modes(rt: HostRuntime) -> Result<(), Fail> {
+    let alloc = rt.alloc();
+    let mut core = no_core(alloc);
+    core.add_root(&path(alloc, "/a")?, RecursiveMode::Recursive)?;
+    core.add_root(&path(alloc, "/a/b")?, RecursiveMode::NonRecursive)?;
+    core.add_root(&path(alloc, "/a")?, RecursiveMode::NonRecursive)?;
+    let below = path(alloc, "/a/b/c")?;
+    let mode = core.recursive_mode(&below);
+    assert_eq!(rt; mode, RecursiveMode::Recursive);
+    let mode = core.recursive_mode(&path(alloc, "/ab")?);
+    assert_eq!(rt; mode, RecursiveMode::NonRecursive);
+    core.remove_root(&path(alloc, "/a")?)?;
+    let mode = core.recursive_mode(&below);
+    assert_eq!(rt; mode, RecursiveMode::NonRecursive);
+    Ok(())
+}
+
+#[test]
+fn root_beside_a_longer_name(rt: HostRuntime) -> Result<(), Fail> {
+    let alloc = rt.alloc();
+    let mut core = no_core(alloc);
+    core.add_root(&path(alloc, "/a")?, RecursiveMode::Recursive)?;
+    core.add_root(&path(alloc, "/ab")?, RecursiveMode::Recursive)?;
+    core.remove_root(&path(alloc, "/a")?)?;
+    let mode = core.recursive_mode(&path(alloc, "/a/b")?);
+    assert_eq!(rt; mode, RecursiveMode::NonRecursive);
+    let mode = core.recursive_mode(&path(alloc, "/ab/c")?);
+    assert_eq!(rt; mode, RecursiveMode::Recursive);
+    Ok(())
+}
+
+#[test]
+fn errors_are_kept_until_asked_for(rt: HostRuntime) -> Result<(), Fail> {
+    let alloc = rt.alloc();
+    let mut core = no_core(alloc);
+    core.add_error(Error::new(alloc, ErrorKind::PathNotFound))?;
+    core.add_error(Error::new(alloc, ErrorKind::WatchNotFound))?;
+    let pending = core.pending_errors().len();
+    assert_eq!(rt; pending, 2);
+    let errors = core.errors();
+    assert_eq!(rt; errors.len(), 2);
+    let pending = core.pending_errors().len();
+    assert_eq!(rt; pending, 0);
+    Ok(())
+}
+
+#[test]
+fn a_full_core_refuses_the_next_event(rt: HostRuntime) -> Result<(), Fail> {
+    let alloc = rt.alloc();
+    let cache = NoCache::new();
+    let mut core: DebounceDataInner<NoCache> =
+        DebounceDataInner::with_counts(alloc, cache, 50, u64::MAX, 0);
+    let refused = core.add_event(event(alloc, CREATE, "/a")?, 0, true);
+    let full = Err(Error::new(alloc, ErrorKind::Full));
+    assert!(rt; refused == full);
+    let waiting = core.waiting();
+    assert_eq!(rt; waiting, 0);
     Ok(())
 }
 
