@@ -32,9 +32,9 @@ has_rename commands replies = list_any tells_rename (accepted commands replies)
 abbrev pub takes_away : PathValue → EventValue → Bool
 takes_away path e = is_event is_removal (λ p. is_prefix p path) e
 
--- a creation, or an event of this kind
+-- without a flag, a creation or an event of this kind
 abbrev pub stands_for : EventKind → Timed → Bool
-stands_for kind x = is_creation x.event.kind || kind_eq kind x.event.kind
+stands_for kind x = not (is_some x.event.attrs.flag) && (is_creation x.event.kind || kind_eq kind x.event.kind)
 
 -- .. waits in the queue of the path
 abbrev pub is_waiting : PathValue → EventKind → State → Bool

@@ -1,0 +1,308 @@
+-- Queues whose events each told something at the queue's path, and what is found in them.
+use Rattle.std.proofs.Common.{rules, arith, length, ◌≡◌, Bool, true, false, cond, not, ◌&&◌, ◌||◌, List, [], ◌∷◌, ◌++◌, refl, ap, sym, ◌∙◌, subst, Option, Some, None, is_some, true≢false}
+use Rattle.std.specs.List.{list_any, AllByRecursion}
+use Rattle.std.specs.Map.{values_of}
+use Rattle.std.specs.BTreeMap.{is_at}
+use Rattle.std.specs.Ordering.{is_eq}
+use Rattle.std.proofs.lemmas.List.Sums.{sum_by-cons}
+use Rattle.std.proofs.lemmas.List.Folds.{list_any-append}
+use Rattle.std.proofs.lemmas.Map.Entries.{lookup-filter-keys}
+use Rattle.notify_types.specs.Event.{Timed}
+use Rattle.notify_types.specs.KindNumbers.{kind_eq, kind_eq_decides}
+use Rattle.notify_types.specs.Kinds.{is_creation, is_removal, is_plain, is_skippable}
+use Rattle.notify_types.specs.Path.{PathValue, path_eq, path_cmp, is_prefix, is_below}
+use Rattle.notify_types.specs.PathLaws.{path_cmp_total, path_eq_decides, path_matches_eq}
+use Rattle.notify_types.specs.declared.kind.EventKind.{EventKind}
+use Rattle.notify_types.specs.declared.kind.EventKind.TheVariants as kinds
+use Rattle.notify_types.specs.declared.kind.ModifyKind.TheVariants as modify
+use Rattle.notify_types.specs.declared.kind.RenameMode.TheVariants as rename
+use Rattle.notify_types.proofs.Prefixes.{same_path, prefix_itself}
+use Rattle.debounce_model.specs.Kept.{has_first, stands_for, is_among}
+use Rattle.debounce_model.specs.Queues.{Queues, queue_at, with_queue, without_queue, without_below, waiting_in, creates, was_created, was_created_at, skips, push, pushed_on, removal, expired_beginning, rest_after, last_of_kind, place_list, waits, rests}
+use Rattle.debounce_model.specs.Rename.{events_at}
+use Rattle.debounce_model.proofs.Entries.{each-insert_entry, each-filter, each-remove_entry, each-lookup, lookup-insert_same, lookup-insert_other, lookup-remove_other}
+
+-- ---- events that told something
+
+-- a kind of class creation, removal or plain
+abbrev pub tells : EventKind → Bool
+tells k = is_creation k || (is_removal k || is_plain k)
+
+-- an event without a flag that told this path first, in one of these classes
+pub record IsTold (path : PathValue) (x : Timed) : Type 0 where
+  pub unflagged : is_some x.event.attrs.flag ≡ false
+  pub class : tells x.event.kind ≡ true
+  pub first : has_first (λ p. path_eq p path) x.event.paths ≡ true
+
+-- each event of a queue told its path
+abbrev pub AreTold : PathValue → List Timed → Type 0
+AreTold path events = AllByRecursion (IsTold path) events
+
+-- .. of each queue
+abbrev pub AreAllTold : Queues → Type 0
+AreAllTold queues = AllByRecursion (λ e. AreTold e.0 e.1) queues
+
+-- a kind that stands for a change of another kind
+abbrev fits : EventKind → EventKind → Bool
+fits kind k = is_creation k || kind_eq kind k
+
+-- whatever comes first, a test or true is true
+pub or_true : (a : Bool) → (a || true) ≡ true
+or_true true = refl
+or_true false = refl
+
+-- a kind that told something, after which its path is there, is a creation
+creates_told : (k : EventKind) → tells k ≡ true → creates k ≡ true → is_creation k ≡ true
+creates_told (kinds.Modify (modify.Name rename.To)) t c = t
+creates_told k t c = c
+
+-- ---- one queue
+
+module _ (path : PathValue) (kind : EventKind) where
+  -- an event that told something stands for a change by its kind
+  stands : (x : Timed) → IsTold path x → fits kind x.event.kind ≡ true → stands_for kind x ≡ true
+  stands x t h = rw t.unflagged h
+
+  -- what was created holds a creation
+  created_holds : (xs : List Timed) → AreTold path xs → was_created xs ≡ true → list_any (stands_for kind) xs ≡ true
+  created_holds [] t h = absurd (true≢false (sym h))
+  created_holds (x ∷ xs) t h = rw (stands x t.0 (rw (creates_told x.event.kind t.0.class h) refl)) refl
+
+  -- of a kind that stands for a change also each event of that kind does
+  same_kind : (k : EventKind) (xs : List Timed) → AreTold path xs → fits kind k ≡ true → list_any (λ y. kind_eq k y.event.kind) xs ≡ true → list_any (stands_for kind) xs ≡ true
+  same_kind k [] t f h = absurd (true≢false (sym h))
+  same_kind k (x ∷ xs) t f h = by (kind_eq k x.event.kind) refl (same_kind k xs t.1 f)
+    where
+      by : (b : Bool) → kind_eq k x.event.kind ≡ b → (list_any (λ y. kind_eq k y.event.kind) xs ≡ true → list_any (stands_for kind) xs ≡ true) → list_any (stands_for kind) (x ∷ xs) ≡ true
+      by true e more = rw (stands x t.0 (subst (λ j. fits kind j ≡ true) ((kind_eq_decides k x.event.kind).0 e) f)) refl
+      by false e more = rw (more (rw e at h)) (or_true (stands_for kind x))
+
+  -- what stands for a change is still among the last of each kind
+  last_among : (xs : List Timed) → AreTold path xs → list_any (stands_for kind) xs ≡ true → is_among path kind (last_of_kind xs) ≡ true
+  last_among [] t h = h
+  last_among (x ∷ xs) t h = by (list_any (λ y. kind_eq x.event.kind y.event.kind) xs) (stands_for kind x) refl refl (last_among xs t.1)
+    where
+      by : (b c : Bool) → list_any (λ y. kind_eq x.event.kind y.event.kind) xs ≡ b → stands_for kind x ≡ c → (list_any (stands_for kind) xs ≡ true → is_among path kind (last_of_kind xs) ≡ true) → is_among path kind (cond b (last_of_kind xs) (x ∷ last_of_kind xs)) ≡ true
+      by true true e s more = more (same_kind x.event.kind xs t.1 (rw t.0.unflagged at s) e)
+      by true false e s more = more (rw s at h)
+      by false true e s more = rw (t.0.first, s) refl
+      by false false e s more = rw (more (rw s at h)) (or_true _)
+
+-- what told something still did so in the beginning of a queue
+told-beginning : (path : PathValue) (due : Timed → Bool) (xs : List Timed) → AreTold path xs → AreTold path (expired_beginning due xs)
+told-beginning path due [] t = t
+told-beginning path due (x ∷ xs) t = by (due x) (told-beginning path due xs t.1)
+  where
+    by : (b : Bool) → AreTold path (expired_beginning due xs) → AreTold path (cond b (x ∷ expired_beginning due xs) [])
+    by true h = (t.0, h)
+    by false h = tt
+
+-- .. in the rest
+told-rest : (path : PathValue) (due : Timed → Bool) (xs : List Timed) → AreTold path xs → AreTold path (rest_after due xs)
+told-rest path due [] t = t
+told-rest path due (x ∷ xs) t = by (due x) (told-rest path due xs t.1)
+  where
+    by : (b : Bool) → AreTold path (rest_after due xs) → AreTold path (cond b (rest_after due xs) (x ∷ xs))
+    by true h = h
+    by false h = t
+
+-- .. with one more event
+told-append : (path : PathValue) (xs : List Timed) (x : Timed) → AreTold path xs → IsTold path x → AreTold path (xs ++ x ∷ [])
+told-append path [] x t h = (h, tt)
+told-append path (y ∷ xs) x t h = (t.0, told-append path xs x t.1 h)
+
+-- three tests, in another order
+or_swapped : (a b c : Bool) → (a || (b || c)) ≡ (b || (a || c))
+or_swapped true true c = refl
+or_swapped true false c = refl
+or_swapped false b c = refl
+
+-- what is found in a queue is found in its rest or in its beginning
+found-cut : (f due : Timed → Bool) (xs : List Timed) → list_any f xs ≡ (list_any f (rest_after due xs) || list_any f (expired_beginning due xs))
+found-cut f due [] = refl
+found-cut f due (x ∷ xs) = by (due x) (found-cut f due xs)
+  where
+    whole : (b : Bool) → b ≡ (b || false)
+    whole true = refl
+    whole false = refl
+
+    by : (b : Bool) → list_any f xs ≡ (list_any f (rest_after due xs) || list_any f (expired_beginning due xs)) → list_any f (x ∷ xs) ≡ (list_any f (cond b (rest_after due xs) (x ∷ xs)) || list_any f (cond b (x ∷ expired_beginning due xs) []))
+    by true h = ap (λ r. f x || r) h ∙ or_swapped (f x) _ _
+    by false h = whole (list_any f (x ∷ xs))
+
+-- ---- the queues
+
+-- paths that the order ties are one
+tied : (path p : PathValue) → is_eq (path_cmp path p) ≡ true → path ≡ p
+tied path p e = (path_eq_decides path p).0 (path_matches_eq path p ∙ e)
+
+module _ (f : Timed → Bool) (path : PathValue) where
+  -- what is found at a path is found at one that the order ties to it
+  found-tied : (queues : Queues) (p : PathValue) → is_eq (path_cmp path p) ≡ true → list_any f (events_at queues path) ≡ true → list_any f (events_at queues p) ≡ true
+  found-tied queues p e h = subst (λ q. list_any f (events_at queues q) ≡ true) (tied path p e) h
+
+  -- what is found at a path is still found where a queue is set that has it, too
+  found-set : (queues : Queues) (p : PathValue) (new : List Timed) → (is_eq (path_cmp path p) ≡ true → list_any f new ≡ true) → list_any f (events_at queues path) ≡ true → list_any f (events_at (with_queue queues p new) path) ≡ true
+  found-set queues p new t h = by (is_eq (path_cmp path p)) refl
+    where
+      by : (b : Bool) → is_eq (path_cmp path p) ≡ b → list_any f (events_at (with_queue queues p new) path) ≡ true
+      by true e = let here = t e in rw (tied path p e, lookup-insert_same path_cmp_total queues p new) here
+      by false e = rw (lookup-insert_other path_cmp_total queues p path new e) h
+
+  -- .. after a push
+  pub found-push : (queues : Queues) (p : PathValue) (x : Timed) → list_any f (events_at queues path) ≡ true → list_any f (events_at (push queues p x) path) ≡ true
+  found-push queues p x h = by (queue_at queues p) refl
+    where
+      by : (o : Option (List Timed)) → queue_at queues p ≡ o → list_any f (events_at (pushed_on queues p x o) path) ≡ true
+      by None e = found-set queues p (x ∷ []) (λ i. absurd (true≢false (sym (rw e at (found-tied queues p i h))))) h
+      by (Some q) e = at (skips q x)
+        where
+          more : is_eq (path_cmp path p) ≡ true → list_any f (q ++ x ∷ []) ≡ true
+          more i = list_any-append f q (x ∷ []) ∙ ap (λ b. b || list_any f (x ∷ [])) (rw e at (found-tied queues p i h))
+
+          at : (b : Bool) → list_any f (events_at (cond b queues (with_queue queues p (q ++ x ∷ []))) path) ≡ true
+          at true = h
+          at false = found-set queues p (q ++ x ∷ []) more h
+
+  -- .. after a removal of what is no prefix of the path
+  pub found-removal : (queues : Queues) (p : PathValue) (x : Timed) → is_prefix p path ≡ false → list_any f (events_at queues path) ≡ true → list_any f (events_at (removal queues p x) path) ≡ true
+  found-removal queues p x n h = by (was_created_at (queue_at queues p))
+    where
+      apart : (b : Bool) → is_eq (path_cmp path p) ≡ b → is_eq (path_cmp path p) ≡ false
+      apart true e = absurd (true≢false (sym (prefix_itself p) ∙ subst (λ q. is_prefix p q ≡ false) (tied path p e) n))
+      apart false e = e
+
+      left : queue_at (without_below queues p) path ≡ queue_at queues path
+      left = lookup-filter-keys (is_at (path_cmp path)) (λ k. not (is_below k p)) true (λ k e. rw (← tied path k e, n) refl) queues
+
+      by : (b : Bool) → list_any f (events_at (cond b (without_queue (without_below queues p) p) (with_queue (without_below queues p) p (x ∷ []))) path) ≡ true
+      by true = rw (lookup-remove_other path_cmp_total (without_below queues p) p path (apart _ refl), left) h
+      by false = rw (lookup-insert_other path_cmp_total (without_below queues p) p path (x ∷ []) (apart _ refl), left) h
+
+-- what is found in a list makes it wait
+waits-found : (f : Timed → Bool) (xs : List Timed) → list_any f xs ≡ true → waits xs ≡ true
+waits-found f [] h = h
+waits-found f (x ∷ xs) h = search rules
+
+-- one of three tests passes where the first or the second does
+or_left : (a b c : Bool) → (a || b) ≡ true → (a || (b || c)) ≡ true
+or_left true b c h = refl
+or_left false true c h = refl
+or_left false false c h = absurd (true≢false (sym h))
+
+-- .. where the first or the third does
+or_between : (a b c : Bool) → (a || c) ≡ true → (a || (b || c)) ≡ true
+or_between true b c h = refl
+or_between false b c h = rw h (or_true b)
+
+-- at a tick, what stands for a change stays or is handed out
+pub found-rests : (due : Timed → Bool) (queues : Queues) (path : PathValue) (kind : EventKind) → AreAllTold queues → list_any (stands_for kind) (events_at queues path) ≡ true → (list_any (stands_for kind) (events_at (rests due queues) path) || is_among path kind (place_list due queues)) ≡ true
+found-rests due [] path kind t h = absurd (true≢false (sym h))
+found-rests due (e ∷ queues) path kind t h = rw (list_any-append (λ x. has_first (λ p. path_eq p path) x.event.paths && stands_for kind x) (last_of_kind (expired_beginning due e.1)) (place_list due queues)) (by (waits rest) refl (is_eq (path_cmp path e.0)) refl (found-rests due queues path kind t.1))
+  where
+    rest : List Timed
+    rest = rest_after due e.1
+
+    handed : Bool
+    handed = is_among path kind (last_of_kind (expired_beginning due e.1))
+
+    later : Bool
+    later = is_among path kind (place_list due queues)
+
+    here : is_eq (path_cmp path e.0) ≡ true → (list_any (stands_for kind) rest || handed) ≡ true
+    here i = at (list_any (stands_for kind) rest) (rw (found-cut (stands_for kind) due e.1) at (rw i at h))
+      where
+        told : AreTold path e.1
+        told = subst (λ q. AreTold q e.1) (sym (tied path e.0 i)) t.0
+
+        at : (b : Bool) → (b || list_any (stands_for kind) (expired_beginning due e.1)) ≡ true → (b || handed) ≡ true
+        at true g = refl
+        at false g = last_among path kind (expired_beginning due e.1) (told-beginning path due e.1 told) g
+
+    nothing : waits rest ≡ false → (b : Bool) → list_any (stands_for kind) rest ≡ b → b ≡ false
+    nothing w true g = absurd (true≢false (sym (waits-found (stands_for kind) rest g) ∙ w))
+    nothing w false g = refl
+
+    by : (w : Bool) → waits rest ≡ w → (b : Bool) → is_eq (path_cmp path e.0) ≡ b → (list_any (stands_for kind) (events_at queues path) ≡ true → (list_any (stands_for kind) (events_at (rests due queues) path) || later) ≡ true) → (list_any (stands_for kind) (events_at (cond w ((e.0, rest) ∷ rests due queues) (rests due queues)) path) || (handed || later)) ≡ true
+    by true w true i more = rw i (or_left _ handed later (here i))
+    by false w true i more = rw (rw (nothing w _ refl) at (here i)) (or_true _)
+    by true w false i more = rw i (or_between _ handed later (more (rw i at h)))
+    by false w false i more = or_between _ handed later (more (rw i at h))
+
+-- ---- all queues still told something
+
+-- .. where one is set that did
+told-set : (queues : Queues) (p : PathValue) (new : List Timed) → AreAllTold queues → AreTold p new → AreAllTold (with_queue queues p new)
+told-set queues p new t h = each-insert_entry path_cmp_total (λ e. AreTold e.0 e.1) queues p new t h (λ y q. rw (sym (same_path p y q)) h)
+
+-- what waits at a path told something there
+told-found : (queues : Queues) (p : PathValue) (q : List Timed) → AreAllTold queues → queue_at queues p ≡ Some q → AreTold p q
+told-found queues p q t h =
+    let found = each-lookup path_cmp_total (λ e. AreTold e.0 e.1) queues p q t h in
+    rw (same_path p found.0 found.1) found.2
+
+-- .. after a push
+pub told-push : (queues : Queues) (p : PathValue) (x : Timed) → AreAllTold queues → IsTold p x → AreAllTold (push queues p x)
+told-push queues p x t h = by (queue_at queues p) refl
+  where
+    by : (o : Option (List Timed)) → queue_at queues p ≡ o → AreAllTold (pushed_on queues p x o)
+    by None e = told-set queues p (x ∷ []) t (h, tt)
+    by (Some q) e = at (skips q x)
+      where
+        at : (b : Bool) → AreAllTold (cond b queues (with_queue queues p (q ++ x ∷ [])))
+        at true = t
+        at false = told-set queues p (q ++ x ∷ []) t (told-append p q x (told-found queues p q t e) h)
+
+-- .. after a removal
+pub told-removal : (queues : Queues) (p : PathValue) (x : Timed) → AreAllTold queues → IsTold p x → AreAllTold (removal queues p x)
+told-removal queues p x t h = by (was_created_at (queue_at queues p))
+  where
+    left : AreAllTold (without_below queues p)
+    left = each-filter path_cmp_total (λ e. AreTold e.0 e.1) (λ e. not (is_below e.0 p)) queues t
+
+    by : (b : Bool) → AreAllTold (cond b (without_queue (without_below queues p) p) (with_queue (without_below queues p) p (x ∷ [])))
+    by true = each-remove_entry path_cmp_total (λ e. AreTold e.0 e.1) (is_at (path_cmp p)) (without_below queues p) left
+    by false = told-set (without_below queues p) p (x ∷ []) left (h, tt)
+
+-- .. after a tick
+pub told-rests : (due : Timed → Bool) (queues : Queues) → AreAllTold queues → AreAllTold (rests due queues)
+told-rests due [] t = t
+told-rests due (e ∷ queues) t = by (waits (rest_after due e.1)) (told-rests due queues t.1)
+  where
+    by : (b : Bool) → AreAllTold (rests due queues) → AreAllTold (cond b ((e.0, rest_after due e.1) ∷ rests due queues) (rests due queues))
+    by true h = (told-rest e.0 due e.1 t.0, h)
+    by false h = h
+
+-- .. where nothing waits
+pub told-none : (queues : Queues) → waiting_in queues ≡ 0 → AreAllTold queues
+told-none [] h = tt
+told-none (e ∷ queues) h = (by e.1 (omega (arith, sum_by-cons length e.1 (values_of queues))), told-none queues (omega (arith, sum_by-cons length e.1 (values_of queues))))
+  where
+    by : (xs : List Timed) → length xs ≡ 0 → AreTold e.0 xs
+    by [] l = tt
+    by (x ∷ xs) l = absurd (omega arith)
+
+-- ---- an event that was just pushed
+
+-- an event that told a change stands for it once it is pushed
+pub found-pushed : (queues : Queues) (p : PathValue) (x : Timed) → AreAllTold queues → IsTold p x → list_any (stands_for x.event.kind) (events_at (push queues p x) p) ≡ true
+found-pushed queues p x t h = by (queue_at queues p) refl
+  where
+    f : Timed → Bool
+    f = stands_for x.event.kind
+
+    itself : f x ≡ true
+    itself = stands p x.event.kind x h (rw ((kind_eq_decides x.event.kind x.event.kind).1 refl) (or_true (is_creation x.event.kind)))
+
+    last : (xs : List Timed) → list_any f (xs ++ x ∷ []) ≡ true
+    last xs = list_any-append f xs (x ∷ []) ∙ rw itself (or_true (list_any f xs))
+
+    by : (o : Option (List Timed)) → queue_at queues p ≡ o → list_any f (events_at (pushed_on queues p x o) p) ≡ true
+    by None e = rw (lookup-insert_same path_cmp_total queues p (x ∷ [])) (last [])
+    by (Some q) e = at (was_created q) refl (is_skippable x.event.kind)
+      where
+        at : (c : Bool) → was_created q ≡ c → (k : Bool) → list_any f (events_at (cond (k && c) queues (with_queue queues p (q ++ x ∷ []))) p) ≡ true
+        at true c true = rw e (created_holds p x.event.kind q (told-found queues p q t e) c)
+        at true c false = rw (lookup-insert_same path_cmp_total queues p (q ++ x ∷ [])) (last q)
+        at false c true = rw (lookup-insert_same path_cmp_total queues p (q ++ x ∷ [])) (last q)
+        at false c false = rw (lookup-insert_same path_cmp_total queues p (q ++ x ∷ [])) (last q)

@@ -1,0 +1,198 @@
+-- What one command makes of the queues, and that it loses no change.
+use Rattle.std.proofs.Common.{◌≡◌, ℕ, Bool, true, false, cond, not, ◌&&◌, ◌||◌, List, [], ◌∷◌, map, refl, ap, sym, ◌∙◌, Option, is_some, true≢false}
+use Rattle.std.specs.List.{list_any}
+use Rattle.std.proofs.lemmas.List.Folds.{list_any-append}
+use Rattle.std.proofs.lemmas.List.Sorted.{list_any-IsPermutation}
+use Rattle.notify_types.specs.Errors.{ErrorKindValue, FullKind, MemoryKind}
+use Rattle.notify_types.specs.Event.{EventValue, Timed}
+use Rattle.notify_types.specs.Kinds.{is_creation, is_removal, is_rename, is_plain}
+use Rattle.notify_types.specs.Path.{PathValue, path_eq, is_prefix}
+use Rattle.notify_types.specs.PathLaws.{path_eq_equiv, path_eq_decides}
+use Rattle.notify_types.specs.declared.kind.EventKind.{EventKind}
+use Rattle.notify_types.specs.declared.kind.EventKind.TheVariants as kinds
+use Rattle.notify_types.specs.declared.kind.ModifyKind.TheVariants as modify
+use Rattle.notify_types.specs.declared.kind.RenameMode.TheVariants as rename
+use Rattle.debounce_model.specs.declared.case.Case.TheVariants.{Rescan}
+use Rattle.debounce_model.specs.declared.file_id.FileId.{FileId}
+use Rattle.debounce_model.specs.Cache.{Rules}
+use Rattle.debounce_model.specs.Command.{CommandValue, EventCommand, ErrorCommand, RootCommand, UnrootCommand, ErrorsCommand, TickCommand, ReplyValue, TakenReply, NotedReply, RootedReply, UnrootedReply, ErrorsReply, BatchReply, RefusedReply}
+use Rattle.debounce_model.specs.Kept.{has_first, tells_rename, takes_away, stands_for, is_among, is_handed_out, tells_change}
+use Rattle.debounce_model.specs.Order.{InBatchOrder, placed}
+use Rattle.debounce_model.specs.Play.{accepted}
+use Rattle.debounce_model.specs.Queues.{Queues, push, removal, place_list, rests}
+use Rattle.debounce_model.specs.Rename.{events_at}
+use Rattle.debounce_model.specs.RenameSlot.{first_half}
+use Rattle.debounce_model.specs.Run.{Step}
+use Rattle.debounce_model.specs.State.{Core, State, kind_case, case_of, case_queues, queues_after, is_expired, places, due_of, IsBatch}
+use Rattle.debounce_model.specs.Step.{IsRefusedFor}
+use Rattle.debounce_model.proofs.OrderLemmas.{events-placed}
+use Rattle.debounce_model.proofs.KeptQueues.{IsTold, AreAllTold, tells, or_true, found-push, found-removal, found-rests, found-pushed, told-push, told-removal, told-rests}
+
+-- ---- a batch
+
+-- a test of images
+any-map : {X Y : Type 0} (f : Y → Bool) (g : X → Y) (xs : List X) → list_any f (map g xs) ≡ list_any (λ x. f (g x)) xs
+any-map f g [] = refl
+any-map f g (x ∷ xs) = ap (λ b. f (g x) || b) (any-map f g xs)
+
+-- a batch passes a test where its place list does
+any-batch : (f : Timed → Bool) (xs batch : List Timed) → InBatchOrder xs batch → list_any f xs ≡ list_any f batch
+any-batch f xs batch o =
+    ap (list_any f) (sym (events-placed [] xs))
+    ∙ any-map f (λ k. k.event) (placed [] xs)
+    ∙ list_any-IsPermutation (λ k. f k.event) (placed [] xs) o.ranked o.are
+    ∙ sym (any-map f (λ k. k.event) o.ranked)
+    ∙ ap (list_any f) o.events
+
+-- ---- what a command makes of the queues
+
+-- from these queues a command with this reply leaves those: the same; a push or a removal, of an event that told
+-- its first path; or what a tick leaves
+pub data Effect (command : CommandValue) (reply : ReplyValue) (before after : Queues) : Type 0 where
+  Stays : after ≡ before → Effect command reply before after
+  Pushed : (p : PathValue) → (x : Timed) → IsTold p x → after ≡ push before p x → Effect command reply before after
+  Removed : (p : PathValue) → (x : Timed) → IsTold p x → is_removal x.event.kind ≡ true → accepted (command ∷ []) (reply ∷ []) ≡ x.event ∷ [] → after ≡ removal before p x → Effect command reply before after
+  Rested : (due : Timed → Bool) → ((path : PathValue) (kind : EventKind) → is_among path kind (place_list due before) ≡ true → is_handed_out path kind (reply ∷ []) ≡ true) → after ≡ rests due before → Effect command reply before after
+
+-- ---- an event
+
+-- what an event of a kind that is no rename makes of the queues, by its class
+queues_by_class : (k : EventKind) (exists : Bool) (queues : Queues) (p : PathValue) (x : Timed) (half : Option (PathValue × ℕ)) → is_rename k ≡ false → case_queues (kind_case k exists) queues p x half ≡ cond (is_creation k || is_plain k) (push queues p x) (cond (is_removal k) (removal queues p x) queues)
+queues_by_class (kinds.Modify (modify.Name rename.Any)) exists queues p x half h = absurd (true≢false h)
+queues_by_class (kinds.Modify (modify.Name rename.To)) exists queues p x half h = absurd (true≢false h)
+queues_by_class (kinds.Modify (modify.Name rename.From)) exists queues p x half h = absurd (true≢false h)
+queues_by_class k exists queues p x half h = refl
+
+-- a test and true
+and_true : (b : Bool) → (b && true) ≡ b
+and_true true = refl
+and_true false = refl
+
+-- a kind of class creation or plain tells something
+tells_class : (k : EventKind) → (is_creation k || is_plain k) ≡ true → tells k ≡ true
+tells_class k h = by (is_creation k) (is_removal k) h
+  where
+    by : (c r : Bool) → (c || is_plain k) ≡ true → (c || (r || is_plain k)) ≡ true
+    by true r h = refl
+    by false true h = refl
+    by false false h = h
+
+module _ (event : EventValue) (now : ℕ) (exists : Bool) (queues : Queues) (half : Option (PathValue × ℕ)) (p : PathValue) (ps : List PathValue) (names : event.paths ≡ p ∷ ps) (calm : tells_rename event ≡ false) where
+  -- what an event that is no rename makes of the queues, by its flag and its class
+  event_queues : queues_after (case_of event exists) queues (record { event = event; time = now }) half (p ∷ ps) ≡ cond (is_some event.attrs.flag) queues (cond (is_creation event.kind || is_plain event.kind) (push queues p (record { event = event; time = now })) (cond (is_removal event.kind) (removal queues p (record { event = event; time = now })) queues))
+  event_queues = by (is_some event.attrs.flag) refl
+    where
+      x : Timed
+      x = record { event = event; time = now }
+
+      by : (b : Bool) → is_some event.attrs.flag ≡ b → case_queues (cond b Rescan (kind_case event.kind exists)) queues p x half ≡ cond b queues (cond (is_creation event.kind || is_plain event.kind) (push queues p x) (cond (is_removal event.kind) (removal queues p x) queues))
+      by true f = refl
+      by false f = queues_by_class event.kind exists queues p x half (sym (and_true (is_rename event.kind)) ∙ rw (f, names) at calm)
+
+  -- an event without a flag that tells something told its first path
+  told_first : is_some event.attrs.flag ≡ false → tells event.kind ≡ true → IsTold p (record { event = event; time = now })
+  told_first f t = record { unflagged = f; class = t; first = rw names (path_eq_equiv.refl p) }
+
+  -- such an event stays out, is pushed, or removes
+  event_effect : (answer : Option FileId) → Effect (EventCommand event now exists) (TakenReply answer) queues (queues_after (case_of event exists) queues (record { event = event; time = now }) half (p ∷ ps))
+  event_effect answer = rw event_queues (by (is_some event.attrs.flag) (is_creation event.kind || is_plain event.kind) (is_removal event.kind) refl refl refl)
+    where
+      x : Timed
+      x = record { event = event; time = now }
+
+      by : (f c r : Bool) → is_some event.attrs.flag ≡ f → (is_creation event.kind || is_plain event.kind) ≡ c → is_removal event.kind ≡ r → Effect (EventCommand event now exists) (TakenReply answer) queues (cond f queues (cond c (push queues p x) (cond r (removal queues p x) queues)))
+      by true c r f k g = Stays refl
+      by false true r f k g = Pushed p x (told_first f (tells_class event.kind k)) refl
+      by false false true f k g = Removed p x (told_first f (rw g (or_true (is_creation event.kind)))) g refl refl
+      by false false false f k g = Stays refl
+
+  -- what such an event tells is found
+  pub change_found : tells_change event ≡ true → AreAllTold queues → list_any (stands_for event.kind) (events_at (queues_after (case_of event exists) queues (record { event = event; time = now }) half (p ∷ ps)) p) ≡ true
+  change_found h t = rw event_queues (by (is_some event.attrs.flag) (is_creation event.kind || is_plain event.kind) refl refl h)
+    where
+      x : Timed
+      x = record { event = event; time = now }
+
+      by : (f c : Bool) → is_some event.attrs.flag ≡ f → (is_creation event.kind || is_plain event.kind) ≡ c → (not f && c) ≡ true → list_any (stands_for event.kind) (events_at (cond f queues (cond c (push queues p x) (cond (is_removal event.kind) (removal queues p x) queues))) p) ≡ true
+      by true c f k h = absurd (true≢false (sym h))
+      by false true f k h = found-pushed queues p x t (told_first f (tells_class event.kind k))
+      by false false f k h = absurd (true≢false (sym h))
+
+-- ---- any command
+
+-- where neither of two tests passes, each fails
+pub neither : (a b : Bool) → (a || b) ≡ false → (a ≡ false) × (b ≡ false)
+neither true b h = absurd (true≢false h)
+neither false b h = (refl, h)
+
+-- what a taken event makes of the queues
+taken_effect : (event : EventValue) (now : ℕ) (exists : Bool) (answer : Option FileId) (queues : Queues) (half : Option (PathValue × ℕ)) → tells_rename event ≡ false → Effect (EventCommand event now exists) (TakenReply answer) queues (queues_after (case_of event exists) queues (record { event = event; time = now }) half event.paths)
+taken_effect event now exists answer queues half calm = by event.paths refl
+  where
+    by : (ps : List PathValue) → event.paths ≡ ps → Effect (EventCommand event now exists) (TakenReply answer) queues (queues_after (case_of event exists) queues (record { event = event; time = now }) half ps)
+    by [] e = Stays refl
+    by (p ∷ ps) e = event_effect event now exists queues half p ps e calm answer
+
+-- a refused event leaves the queues
+refused_stays : {C : Type 0} (r : Rules C) (s t : Core C) (x : Timed) (exists : Bool) (kind : ErrorKindValue) → IsRefusedFor r s x exists kind t → t.state.queues ≡ s.state.queues
+refused_stays r s t x exists FullKind h = ap (λ k. k.state.queues) h.1
+refused_stays r s t x exists MemoryKind h = ap (λ k. k.state.queues) h.2
+refused_stays r s t x exists kind h = absurd h
+
+-- what is handed out of the queues is in the batch
+handed_in_batch : (s : State) (now : ℕ) (batch : List Timed) (path : PathValue) (kind : EventKind) → IsBatch s now batch → is_among path kind (place_list (is_expired s.timeout now) s.queues) ≡ true → is_handed_out path kind (BatchReply batch ∷ []) ≡ true
+handed_in_batch s now batch path kind b h =
+    let among : list_any f batch ≡ true = sym (any-batch f (places due s) batch b) ∙ list_any-append f (due_of due s.rescan_slot) (place_list due s.queues) ∙ rw h (or_true (list_any f (due_of due s.rescan_slot))) in
+    rw among refl
+  where
+    due : Timed → Bool
+    due = is_expired s.timeout now
+
+    f : Timed → Bool
+    f x = has_first (λ p. path_eq p path) x.event.paths && stands_for kind x
+
+-- what a command makes of the queues, where it is no accepted rename
+pub step_effect : {C : Type 0} (r : Rules C) (s t : Core C) (command : CommandValue) (reply : ReplyValue) → Step r s command reply t → list_any tells_rename (accepted (command ∷ []) (reply ∷ [])) ≡ false → Effect command reply s.state.queues t.state.queues
+step_effect r s t (EventCommand event now exists) (TakenReply answer) h n =
+    rw (ap (λ k. k.queues) h.0.state) (taken_effect event now exists answer s.state.queues (first_half s.state.rename_slot event t.answer) (neither (tells_rename event) false n).0)
+step_effect r s t (EventCommand event now exists) (RefusedReply error) h n = Stays (refused_stays r s t (record { event = event; time = now }) exists error.kind h.1)
+step_effect r s t (ErrorCommand error) NotedReply h n = Stays (ap (λ k. k.state.queues) h)
+step_effect r s t (ErrorCommand error) (RefusedReply refusal) h n = Stays (ap (λ k. k.state.queues) h.1)
+step_effect r s t (RootCommand path mode) RootedReply h n = Stays (ap (λ k. k.state.queues) h.0)
+step_effect r s t (RootCommand path mode) (RefusedReply error) h n = Stays (ap (λ k. k.state.queues) h.2.0)
+step_effect r s t (UnrootCommand path) UnrootedReply h n = Stays (ap (λ k. k.state.queues) h.0)
+step_effect r s t (UnrootCommand path) (RefusedReply error) h n = Stays (ap (λ k. k.state.queues) h.2.0)
+step_effect r s t ErrorsCommand (ErrorsReply errors) h n = Stays (ap (λ k. k.state.queues) h.1)
+step_effect r s t (TickCommand now) (BatchReply batch) h n = Rested (is_expired s.state.timeout now) (λ path kind. handed_in_batch s.state now batch path kind h.0) (ap (λ k. k.state.queues) h.1)
+step_effect r s t (TickCommand now) (RefusedReply error) h n = Stays (ap (λ k. k.state.queues) h.2)
+step_effect r s t command reply h n = absurd h
+
+-- ---- what it keeps
+
+module _ (command : CommandValue) (reply : ReplyValue) (before after : Queues) where
+  -- all queues still told something
+  pub told_after : Effect command reply before after → AreAllTold before → AreAllTold after
+  told_after (Stays e) t = rw e t
+  told_after (Pushed p x h e) t = rw e (told-push before p x t h)
+  told_after (Removed p x h k a e) t = rw e (told-removal before p x t h)
+  told_after (Rested due handed e) t = rw e (told-rests due before t)
+
+-- where p is a prefix of the path, so is the first of paths that begin with p
+first_prefix : (p path : PathValue) (ps : List PathValue) → is_prefix p path ≡ true → has_first (λ q. path_eq q p) ps ≡ true → has_first (λ q. is_prefix q path) ps ≡ true
+first_prefix p path [] i h = h
+first_prefix p path (q ∷ qs) i h = rw ((path_eq_decides q p).0 h) i
+
+-- what stands for a change at a path stays there, or is handed out, unless a removal takes the path away
+pub found_after : (path : PathValue) (kind : EventKind) (command : CommandValue) (reply : ReplyValue) (before after : Queues) → Effect command reply before after → AreAllTold before → list_any (stands_for kind) (events_at before path) ≡ true → (list_any (takes_away path) (accepted (command ∷ []) (reply ∷ [])) || (list_any (stands_for kind) (events_at after path) || is_handed_out path kind (reply ∷ []))) ≡ true
+found_after path kind command reply before after (Stays e) t h = rw (e, h) (or_true _)
+found_after path kind command reply before after (Pushed p x l e) t h = rw (e, found-push (stands_for kind) path before p x h) (or_true _)
+found_after path kind command reply before after (Removed p x l k a e) t h = by (is_prefix p path) refl
+  where
+    by : (b : Bool) → is_prefix p path ≡ b → (list_any (takes_away path) (accepted (command ∷ []) (reply ∷ [])) || (list_any (stands_for kind) (events_at after path) || is_handed_out path kind (reply ∷ []))) ≡ true
+    by true i = rw (a, l.unflagged, k, first_prefix p path x.event.paths i l.first) refl
+    by false i = rw (e, found-removal (stands_for kind) path before p x i h) (or_true _)
+found_after path kind command reply before after (Rested due handed e) t h = by (list_any (stands_for kind) (events_at (rests due before) path)) refl (found-rests due before path kind t h)
+  where
+    by : (b : Bool) → list_any (stands_for kind) (events_at (rests due before) path) ≡ b → (b || is_among path kind (place_list due before)) ≡ true → (list_any (takes_away path) (accepted (command ∷ []) (reply ∷ [])) || (list_any (stands_for kind) (events_at after path) || is_handed_out path kind (reply ∷ []))) ≡ true
+    by true i g = rw (e, i) (or_true _)
+    by false i g = rw (e, i, handed path kind g) (or_true _)
