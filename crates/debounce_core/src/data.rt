@@ -3,6 +3,7 @@ ghost use Rattle.std.specs.Prelude.{◌≡◌, ◌≢◌, ◌≤◌, ◌-◌, �
 ghost use Rattle.notify_types.specs.Errors.{FullKind, out_of_memory};
 ghost use Rattle.notify_types.specs.Event.{Timed};
 ghost use Rattle.debounce_model.specs.CommandView.{command_value, reply_value, command_values, reply_values};
+ghost use Rattle.debounce_model.specs.Kept.{has_rename, is_kept};
 ghost use Rattle.debounce_model.specs.Order.{InBatchOrder};
 ghost use Rattle.debounce_model.specs.Queues.{is_any_due};
 ghost use Rattle.debounce_model.specs.RenameSlot.{first_half};
@@ -326,12 +327,17 @@ impl<C, A: Allocator + Copy> DebounceDataInner<C, A> {
     /// Carries out the commands in order, and gives one reply for each. A refused command changes
     /// nothing in the queues and counts, and the run goes on behind it.
     ///
+    /// No change is lost: where nothing waited before and no rename was accepted, each accepted
+    /// creation or plain event at a path that no later accepted removal takes away is found again, in
+    /// the path's queue or in a later batch, as a creation or an event of its kind.
+    ///
     /// Room for the replies is taken before the first command; where that is refused, nothing has
     /// changed.
     pub fn run(&mut self, commands: Vec<Command<A>, A>) -> Result<Vec<Reply<A>, A>, Error<A>>
     where
         C: FileIdCache<A>,
         ensures run { IfOk result (λ replies. Run C.rules self.old (command_values commands.items) (reply_values replies.items) self.new) }
+        ensures kept { IfOk result (λ replies. waiting self.old.state ≡ 0 → has_rename (command_values commands.items) (reply_values replies.items) ≡ false → is_kept (command_values commands.items) (reply_values replies.items) self.new.state ≡ true) }
         ensures err { IfErr result (λ e. (e ≡ out_of_memory) × (self.new ≡ self.old)) }
     {
         let Ok(mut replies) = Vec::with_capacity(self.alloc, commands.len()) else {

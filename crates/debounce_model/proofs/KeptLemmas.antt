@@ -12,7 +12,7 @@ use Rattle.debounce_model.specs.Kept.{tells_rename, has_rename, takes_away, is_a
 use Rattle.debounce_model.specs.Play.{accepted}
 use Rattle.debounce_model.specs.RenameSlot.{first_half}
 use Rattle.debounce_model.specs.Run.{Step, Run}
-use Rattle.debounce_model.specs.State.{Core, IsWellFormed, waiting, case_of, queues_after}
+use Rattle.debounce_model.specs.State.{Core, waiting, case_of, queues_after}
 use Rattle.debounce_model.proofs.KeptQueues.{AreAllTold, told-none}
 use Rattle.debounce_model.proofs.KeptSteps.{step_effect, told_after, found_after, change_found, neither}
 
@@ -95,5 +95,5 @@ kept r s t (EventCommand event now exists ∷ cs) (TakenReply answer ∷ ys) (m,
 kept r s t (c ∷ cs) (y ∷ ys) (m, step, more) told calm = kept r m t cs ys more (told_after c y s.state.queues m.state.queues (step_effect r s m c y step refl) told) calm
 
 -- in a run without an accepted rename, from a core that waits for nothing, no change is lost
-pub no_change_is_lost : {C : Type 0} (r : Rules C) (s t : Core C) (commands : List CommandValue) (replies : List ReplyValue) → IsWellFormed s.state → waiting s.state ≡ 0 → has_rename commands replies ≡ false → Run r s commands replies t → is_kept commands replies t.state ≡ true
-no_change_is_lost r s t commands replies w h calm run = kept r s t commands replies run (told-none s.state.queues (omega arith)) calm
+pub no_change_is_lost : {C : Type 0} (r : Rules C) (s t : Core C) (commands : List CommandValue) (replies : List ReplyValue) → waiting s.state ≡ 0 → has_rename commands replies ≡ false → Run r s commands replies t → is_kept commands replies t.state ≡ true
+no_change_is_lost r s t commands replies h calm run = kept r s t commands replies run (told-none s.state.queues (omega arith)) calm
