@@ -1,7 +1,7 @@
 //! The worked cases that are scripts: a name, the script, and what it prints. The outputs were worked
 //! out from the rules and the Rust crate, not by this program.
 
-pub const CASES: [(&str, &str, &str); 35] = [
+pub const CASES: [(&str, &str, &str); 50] = [
     (
         "tick_alone",
         "timeout 50\n\
@@ -561,5 +561,263 @@ pub const CASES: [(&str, &str, &str); 35] = [
          reader / /d/x\n\
          after / /d/x\n\
          raw / /d/x\n",
+    ),
+    (
+        "files_of_different_ages",
+        "timeout 50\n\
+         start /\n\
+         event 0 Create(Any) - /a\n\
+         event 40 Create(Any) - /b\n\
+         event 60 Create(Any) - /c\n\
+         tick 55\n\
+         tick 120\n\
+         tick 121\n",
+        "batch 55 1\n\
+         event 0 Create(Any) - /a\n\
+         batch 120 2\n\
+         event 40 Create(Any) - /b\n\
+         event 60 Create(Any) - /c\n\
+         batch 121 0\n\
+         taken 3 given 3 waiting 0\n\
+         reader / /a /b /c\n\
+         after / /a /b /c\n\
+         raw / /a /b /c\n",
+    ),
+    (
+        "timeout_of_zero",
+        "timeout 0\n\
+         start /\n\
+         event 9 Create(Any) - /a\n\
+         tick 0\n",
+        "batch 0 1\n\
+         event 9 Create(Any) - /a\n\
+         taken 1 given 1 waiting 0\n\
+         reader / /a\n\
+         after / /a\n\
+         raw / /a\n",
+    ),
+    (
+        "greatest_timeout",
+        "timeout 340282366920938463463374607431768211455\n\
+         start /\n\
+         event 0 Create(Any) - /a\n\
+         tick 340282366920938463463374607431768211454\n\
+         tick 340282366920938463463374607431768211455\n",
+        "batch 340282366920938463463374607431768211454 0\n\
+         batch 340282366920938463463374607431768211455 1\n\
+         event 0 Create(Any) - /a\n\
+         taken 1 given 1 waiting 0\n\
+         reader / /a\n\
+         after / /a\n\
+         raw / /a\n",
+    ),
+    (
+        "equal_times_go_by_last_path",
+        "timeout 50\n\
+         start /\n\
+         event 2 Any - /b\n\
+         event 2 Any - /a\n\
+         event 1 Access(Any) - /a\n\
+         event 2 Other rescan\n\
+         tick 100\n",
+        "batch 100 4\n\
+         event 2 Other rescan\n\
+         event 2 Any - /a\n\
+         event 1 Access(Any) - /a\n\
+         event 2 Any - /b\n\
+         taken 4 given 4 waiting 0\n\
+         reader /\n\
+         after /\n\
+         raw /\n",
+    ),
+    (
+        "two_queues_with_one_last_path",
+        "timeout 50\n\
+         start /\n\
+         event 3 Modify(Any) - /b /z\n\
+         event 4 Modify(Any) - /a /z\n\
+         tick 100\n",
+        "batch 100 2\n\
+         event 4 Modify(Any) - /a /z\n\
+         event 3 Modify(Any) - /b /z\n\
+         taken 2 given 2 waiting 0\n\
+         reader /\n\
+         after /\n\
+         raw /\n",
+    ),
+    (
+        "creation_waits_on_behind_a_removal",
+        "timeout 50\n\
+         start /\n\
+         start /d\n\
+         start /d/x\n\
+         event 0 Remove(Any) - /d\n\
+         event 10 Create(Any) - /d\n\
+         event 20 Create(Any) - /d/x\n\
+         event 30 Remove(Any) - /d/x\n\
+         tick 55\n",
+        "batch 55 1\n\
+         event 0 Remove(Any) - /d\n\
+         taken 4 given 1 waiting 1\n\
+         wait 10 Create(Any) - /d\n\
+         reader /\n\
+         after / /d\n\
+         raw / /d\n",
+    ),
+    (
+        "folder_removed_made_and_removed",
+        "timeout 50\n\
+         start /\n\
+         start /d\n\
+         start /d/x\n\
+         event 0 Remove(Any) - /d\n\
+         tick 50\n\
+         event 60 Create(Any) - /d\n\
+         event 61 Create(Any) - /d/x\n\
+         tick 110\n\
+         event 120 Remove(Any) - /d\n",
+        "batch 50 1\n\
+         event 0 Remove(Any) - /d\n\
+         batch 110 1\n\
+         event 60 Create(Any) - /d\n\
+         taken 4 given 2 waiting 1\n\
+         wait 120 Remove(Any) - /d\n\
+         reader / /d\n\
+         after /\n\
+         raw /\n",
+    ),
+    (
+        "folder_replaced_by_a_file",
+        "timeout 50\n\
+         start /\n\
+         start /d\n\
+         event 0 Create(File) - /d/f\n\
+         event 10 Remove(Folder) - /d\n\
+         event 10 Create(File) - /d\n\
+         tick 100\n",
+        "batch 100 2\n\
+         event 10 Remove(Folder) - /d\n\
+         event 10 Create(File) - /d\n\
+         taken 3 given 2 waiting 0\n\
+         reader / /d\n\
+         after / /d\n\
+         raw / /d\n",
+    ),
+    (
+        "creation_with_two_paths",
+        "timeout 50\n\
+         start /\n\
+         event 0 Create(Any) - /a /b\n\
+         event 1 Remove(Any) - /b\n\
+         tick 100\n",
+        "batch 100 2\n\
+         event 0 Create(Any) - /a /b\n\
+         event 1 Remove(Any) - /b\n\
+         taken 2 given 2 waiting 0\n\
+         reader / /a\n\
+         after / /a\n\
+         raw / /a\n",
+    ),
+    (
+        "rename_with_all_its_parts",
+        "timeout 50\n\
+         start /\n\
+         event 0 Remove(Any) - /b\n\
+         event 1 Modify(Name(From)) tracker=1 /a\n\
+         event 2 Modify(Name(To)) tracker=1 /b\n\
+         event 3 Modify(Any) - /b\n\
+         event 4 Any - /c\n\
+         event 5 Modify(Name(From)) tracker=2 /b\n\
+         event 6 Modify(Name(To)) tracker=2 /c\n\
+         tick 100\n",
+        "batch 100 4\n\
+         event 1 Remove(Any) - /b\n\
+         event 1 Remove(Any) info=override /c\n\
+         event 1 Modify(Name(Both)) tracker=2 /a /c\n\
+         event 3 Modify(Any) - /c\n\
+         taken 7 given 4 waiting 0\n\
+         reader /\n\
+         after /\n\
+         raw /\n",
+    ),
+    (
+        "rescan_event_comes_first",
+        "timeout 50\n\
+         start /\n\
+         event 5 Modify(Any) - /a\n\
+         event 5 Other rescan\n\
+         tick 100\n",
+        "batch 100 2\n\
+         event 5 Other rescan\n\
+         event 5 Modify(Any) - /a\n\
+         taken 2 given 2 waiting 0\n\
+         reader /\n\
+         after /\n\
+         raw /\n",
+    ),
+    (
+        "later_rescan_event_replaces_the_first",
+        "timeout 50\n\
+         start /\n\
+         event 0 Other rescan\n\
+         event 40 Other rescan\n\
+         tick 60\n\
+         tick 90\n",
+        "batch 60 0\n\
+         batch 90 1\n\
+         event 40 Other rescan\n\
+         taken 2 given 1 waiting 0\n\
+         reader /\n\
+         after /\n\
+         raw /\n",
+    ),
+    (
+        "full_core_still_keeps_errors",
+        "timeout 50\n\
+         counts 18446744073709551615 0\n\
+         event 0 Create(Any) - /a\n\
+         error PathNotFound\n\
+         errors\n\
+         errors\n\
+         tick 100\n",
+        "refused Full\n\
+         errors 1\n\
+         error PathNotFound\n\
+         errors 0\n\
+         batch 100 0\n\
+         taken 18446744073709551615 given 0 waiting 0\n\
+         reader\n\
+         after\n\
+         raw\n",
+    ),
+    (
+        "last_event_that_can_be_counted",
+        "timeout 50\n\
+         counts 18446744073709551614 18446744073709551614\n\
+         start /\n\
+         event 0 Create(Any) - /a\n\
+         event 0 Create(Any) - /b\n\
+         tick 100\n",
+        "refused Full\n\
+         batch 100 1\n\
+         event 0 Create(Any) - /a\n\
+         taken 18446744073709551615 given 18446744073709551615 waiting 0\n\
+         reader / /a\n\
+         after / /a\n\
+         raw / /a\n",
+    ),
+    (
+        "creation_of_what_is_there",
+        "timeout 50\n\
+         start /\n\
+         start /a\n\
+         event 0 Create(Any) - /a\n\
+         event 1 Remove(Any) - /a\n\
+         tick 100\n",
+        "batch 100 0\n\
+         taken 2 given 0 waiting 0\n\
+         reader / /a\n\
+         after / /a\n\
+         raw /\n",
     ),
 ];
