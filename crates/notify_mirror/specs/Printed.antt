@@ -66,6 +66,14 @@ error_word WatchNotFoundKind = codes "WatchNotFound"
 error_word FullKind = codes "Full"
 error_word MemoryKind = codes "Memory"
 
+-- the head of the errors: how many error lines follow
+abbrev pub errors_line : ℕ → List ℕ
+errors_line count = codes "errors " ++ (decimal count ++ (10 ∷ []))
+
+-- an error line
+abbrev pub error_line : ErrorKindValue → List ℕ
+error_line kind = codes "error " ++ (error_word kind ++ (10 ∷ []))
+
 -- a refused command
 abbrev pub refused_line : ErrorKindValue → List ℕ
 refused_line kind = codes "refused " ++ (error_word kind ++ (10 ∷ []))

@@ -1,17 +1,20 @@
 //! A script on a debouncer: its commands are run, and what comes of them is printed.
+use crate::counts::Counts;
 use crate::path_set::PathSet;
-use crate::print::{push_batch, push_counts, push_event, push_list, push_refused};
+use crate::print::{
+    push_batch, push_counts, push_error, push_errors, push_event, push_list, push_refused,
+};
 use crate::run::{Broken, write_full, write_last};
 use crate::script::Script;
 use notify_debouncer_full::{
-    Command, DebounceDataInner, DebouncedEvent, Moment, NoCache, PathBuf, Reply,
+    Command, DebounceDataInner, DebouncedEvent, Error, Event, Moment, NoCache, PathBuf, Reply,
 };
 use std::alloc::Allocator;
 use std::io::Write;
 
-/// Runs the script's commands on a debouncer with no cache. Prints the replies, the counts, what
-/// waits, and three lists of paths: the reader's after the batches, the reader's after what waits
-/// too, and those after the events as they came.
+/// Runs the script's commands on a debouncer with no cache, which goes on from the script's counts.
+/// Prints the replies, the counts, what waits, and three lists of paths: the reader's after the
+/// batches, the reader's after what waits too, and those after the events as they came.
 pub(crate) fn play_script<A: Allocator + Copy, O: Write>(
     alloc: A,
     script: Script<A>,
@@ -19,11 +22,13 @@ pub(crate) fn play_script<A: Allocator + Copy, O: Write>(
 ) -> Result<(), Broken> {
     let Script {
         timeout,
+        counts,
         start,
         commands,
     } = script;
     let told = clone_commands(alloc, commands.as_slice())?;
-    let mut core = DebounceDataInner::new(alloc, NoCache::new(), timeout);
+    let Counts { taken, given } = counts;
+    let mut core = DebounceDataInner::with_counts(alloc, NoCache::new(), timeout, taken, given);
     let replies = core.run(commands)?;
     let mut text = String::new(alloc);
     let played = print_replies(alloc, told, replies, &mut text, out)?;
@@ -88,13 +93,6 @@ fn print_replies<A: Allocator + Copy, O: Write>(
     Ok(played)
 }
 
-/// The moment of a command.
-fn moment_of<A: Allocator>(command: &Command<A>) -> Moment {
-    match command {
-        Command::Event(_, now, _) | Command::Tick(now) => *now,
-    }
-}
-
 impl<A: Allocator> Played<A> {
     /// Prints a command's reply.
     fn take<O: Write>(
@@ -104,21 +102,19 @@ impl<A: Allocator> Played<A> {
         text: &mut String<A>,
         out: &mut O,
     ) -> Result<(), Broken> {
-        match reply {
-            Reply::Taken(_) => self.accept(command),
-            Reply::Batch(batch) => self.hand_out(moment_of(&command), batch, text, out),
-            Reply::Refused(error) => Ok(push_refused(text, &error.kind)?),
+        match (command, reply) {
+            (Command::Event(event, now, _), Reply::Taken(_)) => self.accept(event, now),
+            (Command::Tick(now), Reply::Batch(batch)) => self.hand_out(now, batch, text, out),
+            (_, Reply::Errors(errors)) => print_errors(text, errors.as_slice(), out),
+            (_, Reply::Refused(error)) => Ok(push_refused(text, &error.kind)?),
+            // Any other command prints nothing.
+            _ => Ok(()),
         }
     }
 
-    fn accept(&mut self, command: Command<A>) -> Result<(), Broken> {
-        match command {
-            Command::Event(event, now, _) => {
-                self.accepted.push(DebouncedEvent::new(event, now))?;
-                Ok(())
-            }
-            Command::Tick(_) => Ok(()),
-        }
+    fn accept(&mut self, event: Event<A>, now: Moment) -> Result<(), Broken> {
+        self.accepted.push(DebouncedEvent::new(event, now))?;
+        Ok(())
     }
 
     fn hand_out<O: Write>(
@@ -146,6 +142,20 @@ fn print_events<A: Allocator, O: Write>(
 ) -> Result<(), Broken> {
     for event in events {
         push_event(text, word, event)?;
+        write_full(text, out)?;
+    }
+    Ok(())
+}
+
+/// Prints how many errors there are, and a line for each.
+fn print_errors<A: Allocator, O: Write>(
+    text: &mut String<A>,
+    errors: &[Error<A>],
+    out: &mut O,
+) -> Result<(), Broken> {
+    push_errors(text, errors.len())?;
+    for error in errors {
+        push_error(text, &error.kind)?;
         write_full(text, out)?;
     }
     Ok(())
