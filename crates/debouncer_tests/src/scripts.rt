@@ -80,7 +80,10 @@ fn names_the_first_line_that_fails(rt: HostRuntime) {
         (b"timeout 50\nevent 1 Any exists,exists /a\n", 2),
         (b"timeout 50\nevent 1 Any rescan, /a\n", 2),
         (b"timeout 50\nevent 1 Any info= /a\n", 2),
-        (b"timeout 50\nevent 1 Any tracker=18446744073709551616 /a\n", 2),
+        (
+            b"timeout 50\nevent 1 Any tracker=18446744073709551616 /a\n",
+            2,
+        ),
         (b"timeout 50\ncounts 1 2\n", 2),
         (b"timeout 50\nstart /\ncounts 1 1\n", 3),
         (b"timeout 50\ncounts 1 1\ncounts 1 1\n", 3),

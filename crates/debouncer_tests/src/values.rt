@@ -270,8 +270,13 @@ fn errors_are_kept_until_asked_for(rt: HostRuntime) -> Result<(), Fail> {
 fn a_full_core_refuses_the_next_event(rt: HostRuntime) -> Result<(), Fail> {
     let alloc = rt.alloc();
     let cache = NoCache::new();
-    let mut core: DebounceDataInner<NoCache> =
-        DebounceDataInner::with_counts(alloc, cache, 50, u64::MAX, 0);
+    let mut core: DebounceDataInner<NoCache> = DebounceDataInner::with_counts(
+        alloc,
+        cache,
+        50,
+        u64::MAX,
+        0,
+    );
     let refused = core.add_event(event(alloc, CREATE, "/a")?, 0, true);
     let full = Err(Error::new(alloc, ErrorKind::Full));
     assert!(rt; refused == full);
