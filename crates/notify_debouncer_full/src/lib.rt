@@ -1,6 +1,7 @@
 //! A debouncer of file events: it stands between a file watcher and a program that wants few,
-//! ordered events. Duplicates are dropped, creations are cancelled by removals, and what waits below
-//! a removed folder is dropped with it. This is a port of the Rust crate of the same name.
+//! ordered events. Duplicates are dropped, creations are cancelled by removals, what waits below a
+//! removed folder is dropped with it, and the two halves of a rename are joined. This is a port of the
+//! Rust crate of the same name.
 //!
 //! A caller that has its own clock makes a [`DebounceDataInner`], tells it of events by `add_event`
 //! and asks for what is due by `debounced_events`; or it hands a list of commands to `run`.
