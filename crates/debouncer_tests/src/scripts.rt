@@ -42,7 +42,7 @@ fn takes_any_layout_that_the_format_allows(rt: HostRuntime) {
         &rt,
         rt.alloc(),
         "layout",
-        "# a comment\n\ntimeout 0050\r\n#\nstart ./a//b/.\nevent 340282366920938463463374607431768211455 Create(Other) - \"\" ../c /d\ntick 007",
+        "# a comment\n\ntimeout 0050\r\n#\nstart ./a//b/.\nevent 340282366920938463463374607431768211455 Create(Other) - \"\" ../c /d\nroot Recursive /d\nunroot \"\"\ntick 007",
         "batch 7 0\ntaken 1 given 0 waiting 1\nwait 340282366920938463463374607431768211455 Create(Other) - \"\" ../c /d\nreader ./a/b\nafter \"\" ./a/b\nraw \"\" ./a/b\n",
     );
 }
