@@ -10,6 +10,7 @@ use std::alloc::Global;
 use std::collections::HashMap;
 use std::hash::{BuildHasherDefault, FoldHasher};
 use std::io;
+use std::process::Abort;
 use std::test::Fail;
 
 fn path(alloc: Global, text: &str) -> Result<PathBuf, Fail> {
@@ -150,10 +151,19 @@ fn queues_look_at_their_front(rt: HostRuntime) -> Result<(), Fail> {
     Ok(())
 }
 
+type Core = DebounceDataInner<NoCache>;
+
+fn new_core(alloc: Global) -> Core {
+    DebounceDataInner::new(alloc, NoCache::new(), 50)
+}
+
 #[test]
 fn a_core_takes_events_and_hands_them_out(rt: HostRuntime) -> Result<(), Fail> {
-    let alloc = rt.alloc();
-    let mut core = no_core(alloc);
+    let mut core = new_core(rt.alloc());
+    check_batches(&rt, rt.alloc(), &mut core)
+}
+
+fn check_batches(rt: &impl Abort, alloc: Global, core: &mut Core) -> Result<(), Fail> {
     core.add_event(event(alloc, CREATE, "/a")?, 0, true)?;
     core.add_event(event(alloc, CREATE, "/b")?, 20, true)?;
     let answer = core.answer();
@@ -171,8 +181,11 @@ fn a_core_takes_events_and_hands_them_out(rt: HostRuntime) -> Result<(), Fail> {
 
 #[test]
 fn a_step_is_one_command(rt: HostRuntime) -> Result<(), Fail> {
-    let alloc = rt.alloc();
-    let mut core = no_core(alloc);
+    let mut core = new_core(rt.alloc());
+    check_step(&rt, rt.alloc(), &mut core)
+}
+
+fn check_step(rt: &impl Abort, alloc: Global, core: &mut Core) -> Result<(), Fail> {
     let reply = core.step(Command::Event(event(alloc, CREATE, "/a")?, 0, true));
     let copy = reply.try_clone(alloc)?;
     assert!(rt; copy == reply);
@@ -183,8 +196,11 @@ fn a_step_is_one_command(rt: HostRuntime) -> Result<(), Fail> {
 
 #[test]
 fn a_run_gives_one_reply_a_command(rt: HostRuntime) -> Result<(), Fail> {
-    let alloc = rt.alloc();
-    let mut core = no_core(alloc);
+    let mut core = new_core(rt.alloc());
+    check_run(&rt, rt.alloc(), &mut core)
+}
+
+fn check_run(rt: &impl Abort, alloc: Global, core: &mut Core) -> Result<(), Fail> {
     let mut commands = Vec::new(alloc);
     commands.push(Command::Event(event(alloc, CREATE, "/a")?, 0, true))?;
     commands.push(Command::Event(event(alloc, REMOVE, "/a")?, 1, false))?;
@@ -200,14 +216,13 @@ fn a_run_gives_one_reply_a_command(rt: HostRuntime) -> Result<(), Fail> {
     Ok(())
 }
 
-fn no_core(alloc: Global) -> DebounceDataInner<NoCache> {
-    DebounceDataInner::new(alloc, NoCache::new(), 50)
-}
-
 #[test]
 fn roots_give_their_modes(rt: HostRuntime) -> Result<(), Fail> {
-    let alloc = rt.alloc();
-    let mut core = no_core(alloc);
+    let mut core = new_core(rt.alloc());
+    check_modes(&rt, rt.alloc(), &mut core)
+}
+
+fn check_modes(rt: &impl Abort, alloc: Global, core: &mut Core) -> Result<(), Fail> {
     core.add_root(&path(alloc, "/a")?, RecursiveMode::Recursive)?;
     core.add_root(&path(alloc, "/a/b")?, RecursiveMode::NonRecursive)?;
     core.add_root(&path(alloc, "/a")?, RecursiveMode::NonRecursive)?;
@@ -224,8 +239,11 @@ fn roots_give_their_modes(rt: HostRuntime) -> Result<(), Fail> {
 
 #[test]
 fn root_beside_a_longer_name(rt: HostRuntime) -> Result<(), Fail> {
-    let alloc = rt.alloc();
-    let mut core = no_core(alloc);
+    let mut core = new_core(rt.alloc());
+    check_longer_name(&rt, rt.alloc(), &mut core)
+}
+
+fn check_longer_name(rt: &impl Abort, alloc: Global, core: &mut Core) -> Result<(), Fail> {
     core.add_root(&path(alloc, "/a")?, RecursiveMode::Recursive)?;
     core.add_root(&path(alloc, "/ab")?, RecursiveMode::Recursive)?;
     core.remove_root(&path(alloc, "/a")?)?;
@@ -238,8 +256,11 @@ fn root_beside_a_longer_name(rt: HostRuntime) -> Result<(), Fail> {
 
 #[test]
 fn errors_are_kept_until_asked_for(rt: HostRuntime) -> Result<(), Fail> {
-    let alloc = rt.alloc();
-    let mut core = no_core(alloc);
+    let mut core = new_core(rt.alloc());
+    check_errors(&rt, rt.alloc(), &mut core)
+}
+
+fn check_errors(rt: &impl Abort, alloc: Global, core: &mut Core) -> Result<(), Fail> {
     core.add_error(Error::new(alloc, ErrorKind::PathNotFound))?;
     core.add_error(Error::new(alloc, ErrorKind::WatchNotFound))?;
     let pending = core.pending_errors().len();
@@ -253,15 +274,11 @@ fn errors_are_kept_until_asked_for(rt: HostRuntime) -> Result<(), Fail> {
 
 #[test]
 fn a_full_core_refuses_the_next_event(rt: HostRuntime) -> Result<(), Fail> {
-    let alloc = rt.alloc();
-    let cache = NoCache::new();
-    let mut core: DebounceDataInner<NoCache> = DebounceDataInner::with_counts(
-        alloc,
-        cache,
-        50,
-        u64::MAX,
-        0,
-    );
+    let mut core = DebounceDataInner::with_counts(rt.alloc(), NoCache::new(), 50, u64::MAX, 0);
+    check_full(&rt, rt.alloc(), &mut core)
+}
+
+fn check_full(rt: &impl Abort, alloc: Global, core: &mut Core) -> Result<(), Fail> {
     let refused = core.add_event(event(alloc, CREATE, "/a")?, 0, true);
     let full = Err(Error::new(alloc, ErrorKind::Full));
     assert!(rt; refused == full);
