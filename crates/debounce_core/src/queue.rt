@@ -1,5 +1,5 @@
 //! The queue of one path.
-ghost use Rattle.std.specs.Prelude.{◌≡◌, ◌↔◌, ◌∷◌, [], OnOk, OnErr, IfOk, IfErr, IsTrue, Some, false, is_some, length};
+ghost use Rattle.std.specs.Prelude.{◌≡◌, ◌↔◌, OnOk, OnErr, IfOk, IfErr, IsTrue, Some, false, is_some};
 ghost use Rattle.std.specs.Cmp.{partial_equiv_from_equiv};
 ghost use Rattle.notify_types.specs.Errors.{out_of_memory};
 ghost use Rattle.debounce_model.specs.Equality.{events_eq};

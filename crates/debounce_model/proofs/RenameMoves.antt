@@ -1,5 +1,5 @@
 -- A joined rename over two keys of one map: the target gets its queue first, then the source is left.
-use Rattle.std.proofs.Common.{◌≡◌, Bool, true, false, List, [], ◌∷◌, refl, ap, sym, ◌∙◌, Option, Some, None, is_some, unwrap_or, ℕ, true≢false, take}
+use Rattle.std.proofs.Common.{◌≡◌, Bool, true, false, List, [], ◌∷◌, refl, ap, sym, ◌∙◌, Option, Some, None, is_some, unwrap_or, ℕ, true≢false}
 use Rattle.std.specs.Map.{remove_entry, set_value, keys_of}
 use Rattle.std.specs.BTreeMap.{is_at}
 use Rattle.std.specs.Ordering.{is_eq}
@@ -8,7 +8,7 @@ use Rattle.notify_types.specs.Path.{PathValue, path_cmp, path_eq}
 use Rattle.notify_types.specs.PathLaws.{path_cmp_total, path_eq_decides, path_matches_eq}
 use Rattle.notify_types.specs.Event.{Timed, AttributesValue}
 use Rattle.notify_types.proofs.Prefixes.{same_path}
-use Rattle.debounce_model.specs.Queues.{Queues, queue_at, with_queue, was_removed}
+use Rattle.debounce_model.specs.Queues.{Queues, queue_at, with_queue}
 use Rattle.debounce_model.specs.Rename.{without_last, without_both, staying, left_behind, events_at, arrived, joined_rename}
 use Rattle.debounce_model.proofs.Entries.{sorted-insert_entry, insert_over, lookup-insert_same, lookup-insert_other, lookup-remove_same, lookup-remove_other, insert_insert_same, set_insert, remove_insert, remove_absent, remove_set, insert_removed}
 
@@ -110,15 +110,3 @@ pub joined_same : (queues after : Queues) (f t : PathValue) (time : ℕ) (attrs 
 joined_same queues after f t time attrs v o h is e =
     let same : f ≡ t = (path_eq_decides f t).0 h in
     rw (e, is, same) (same_put queues t (arrived (without_last (events_at queues t)) (queue_of (stays queues t)) t t time attrs) (stays queues t) o ∙ rw (at_source queues t (stays queues t) o) refl)
-
--- ---- the cut queue
-
--- the front alone, where it stays
-pub cut_one : (xs : List Timed) → was_removed xs ≡ true → take 1 xs ≡ one_or_none (staying xs)
-cut_one [] h = refl
-cut_one (x ∷ xs) h = rw h refl
-
--- nothing, where none stays
-pub cut_none : (xs : List Timed) → was_removed xs ≡ false → [] ≡ one_or_none (staying xs)
-cut_none [] h = refl
-cut_none (x ∷ xs) h = rw h refl

@@ -134,11 +134,11 @@ module _ {C : Type 0} where
   abbrev pub IsBegun : Rules C → Core C → Plan → Core C → Type 0
   IsBegun r s plan t = (t ≡ record s { cache = t.cache }) × Begins r s.cache plan t.cache
 
-  -- the path is a root now, where it wasn't one before
+  -- the path is a root, and the others are as they were
   abbrev pub IsRooted : Rules C → Core C → PathValue → RecursiveMode → Core C → Type 0
   IsRooted r s path mode t = IsRerooted r s (root_calls s.state path mode) (with_root s.state.roots path mode) t
 
-  -- the path could not become a root: it is none
+  -- the path was no root and did not become one, for want of memory
   abbrev pub IsRootRefused : Rules C → Core C → PathValue → RecursiveMode → ErrorValue → Core C → Type 0
   IsRootRefused r s path mode error t =
       (error ≡ out_of_memory) × (has_root s.state.roots path ≡ false) × IsBegun r s (root_calls s.state path mode) t
@@ -147,7 +147,7 @@ module _ {C : Type 0} where
   abbrev pub IsUnrooted : Rules C → Core C → PathValue → Core C → Type 0
   IsUnrooted r s path t = IsRerooted r s (unroot_calls path) (without_roots s.state.roots path) t
 
-  -- the cache refused that
+  -- the roots stayed, since the cache refused its call
   abbrev pub IsUnrootRefused : Rules C → Core C → PathValue → ErrorValue → Core C → Type 0
   IsUnrootRefused r s path error t =
       (error ≡ out_of_memory) × (r.refuses_nothing ≡ false) × IsBegun r s (unroot_calls path) t
