@@ -1,7 +1,7 @@
 //! The queue of one path.
 ghost use Rattle.std.specs.Prelude.{◌≡◌, ◌↔◌, OnOk, OnErr, IfOk, IfErr, IsTrue, Some, false, is_some};
 ghost use Rattle.std.specs.Cmp.{partial_equiv_from_equiv};
-ghost use Rattle.notify_types.specs.Errors.{out_of_memory};
+ghost use Rattle.notify_paths.specs.Errors.{out_of_memory};
 ghost use Rattle.debounce_model.specs.Equality.{events_eq};
 ghost use Rattle.debounce_model.specs.EqualityLaws.{events_eq_equiv};
 ghost use Rattle.debounce_model.specs.Queues.{was_created, was_removed, appended, skips, creates, removes, is_front_due, rest_after, waits};
@@ -12,7 +12,7 @@ ghost use Rattle.debounce_core.specs.Target.{target_of};
 
 use crate::emit::{Due, expired_count};
 use crate::rename::{Target, drop_both, drop_last, were_created, were_removed};
-use notify_types::error::Error;
+use notify_paths::error::Error;
 use notify_types::event::{DebouncedEvent, clone_events};
 use notify_types::kind::{EventKind, ModifyKind, RenameMode};
 use std::alloc::{AllocError, Allocator, Global};

@@ -6,10 +6,10 @@ use Rattle.std.specs.BTreeMap.{is_at}
 use Rattle.std.specs.List.Sorted.{IsStrictlySortedBy}
 use Rattle.std.proofs.lemmas.Map.Entries.{sum_by-insert_entry, sum_by-remove_entry}
 use Rattle.notify_types.specs.Kinds.{is_removal}
-use Rattle.notify_types.specs.Path.{PathValue, path_cmp, is_below}
-use Rattle.notify_types.specs.PathLaws.{path_cmp_total}
+use Rattle.notify_paths.specs.Path.{PathValue, path_cmp, is_below}
+use Rattle.notify_paths.specs.PathLaws.{path_cmp_total}
 use Rattle.notify_types.specs.Event.{Timed}
-use Rattle.notify_types.proofs.Prefixes.{same_path}
+use Rattle.notify_paths.proofs.Prefixes.{same_path}
 use Rattle.debounce_model.specs.Queues.{Queues, queue_at, push, skips, pushed_on, with_queue, without_below, without_queue, removal, was_created_at, waiting_in}
 use Rattle.debounce_model.specs.Rename.{is_both}
 use Rattle.debounce_model.specs.State.{IsFirst, kept_by, IsKeyed, IsNonempty, HasNoBoth, IsBothFirst, IsBothBehind, IsBothInFront, IsQueue, AreQueues}

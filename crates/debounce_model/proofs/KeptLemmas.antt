@@ -3,7 +3,7 @@ use Rattle.std.proofs.Common.{◌≡◌, ℕ, Option, Bool, true, false, cond, �
 use Rattle.std.specs.List.{list_any}
 use Rattle.std.proofs.lemmas.List.Folds.{list_any-append}
 use Rattle.notify_types.specs.Event.{EventValue}
-use Rattle.notify_types.specs.Path.{PathValue}
+use Rattle.notify_paths.specs.Path.{PathValue}
 use Rattle.notify_types.specs.declared.kind.EventKind.{EventKind}
 use Rattle.debounce_model.specs.declared.file_id.FileId.{FileId}
 use Rattle.debounce_model.specs.Cache.{Rules}

@@ -10,13 +10,13 @@ use Rattle.std.proofs.lemmas.Map.Entries.{lookup-filter-keys}
 use Rattle.notify_types.specs.Event.{Timed}
 use Rattle.notify_types.specs.KindNumbers.{kind_eq, kind_eq_decides}
 use Rattle.notify_types.specs.Kinds.{is_creation, is_removal, is_plain, is_skippable}
-use Rattle.notify_types.specs.Path.{PathValue, path_eq, path_cmp, is_prefix, is_below}
-use Rattle.notify_types.specs.PathLaws.{path_cmp_total, path_eq_decides, path_matches_eq}
+use Rattle.notify_paths.specs.Path.{PathValue, path_eq, path_cmp, is_prefix, is_below}
+use Rattle.notify_paths.specs.PathLaws.{path_cmp_total, path_eq_decides, path_matches_eq}
 use Rattle.notify_types.specs.declared.kind.EventKind.{EventKind}
 use Rattle.notify_types.specs.declared.kind.EventKind.TheVariants as kinds
 use Rattle.notify_types.specs.declared.kind.ModifyKind.TheVariants as modify
 use Rattle.notify_types.specs.declared.kind.RenameMode.TheVariants as rename
-use Rattle.notify_types.proofs.Prefixes.{same_path, prefix_itself}
+use Rattle.notify_paths.proofs.Prefixes.{same_path, prefix_itself}
 use Rattle.debounce_model.specs.Kept.{has_first, stands_for, is_among}
 use Rattle.debounce_model.specs.Queues.{Queues, queue_at, with_queue, without_queue, without_below, waiting_in, creates, was_created, was_created_at, skips, push, pushed_on, removal, expired_beginning, rest_after, last_of_kind, place_list, waits, rests}
 use Rattle.debounce_model.specs.Rename.{events_at}

@@ -3,11 +3,11 @@ use Rattle.std.proofs.Common.{◌≡◌, ℕ, Bool, true, false, cond, not, ◌&
 use Rattle.std.specs.List.{list_any}
 use Rattle.std.proofs.lemmas.List.Folds.{list_any-append}
 use Rattle.std.proofs.lemmas.List.Sorted.{list_any-IsPermutation}
-use Rattle.notify_types.specs.Errors.{ErrorKindValue, FullKind, MemoryKind}
+use Rattle.notify_paths.specs.Errors.{ErrorKindValue, FullKind, MemoryKind}
 use Rattle.notify_types.specs.Event.{EventValue, Timed}
 use Rattle.notify_types.specs.Kinds.{is_creation, is_removal, is_rename, is_plain}
-use Rattle.notify_types.specs.Path.{PathValue, path_eq, is_prefix}
-use Rattle.notify_types.specs.PathLaws.{path_eq_equiv, path_eq_decides}
+use Rattle.notify_paths.specs.Path.{PathValue, path_eq, is_prefix}
+use Rattle.notify_paths.specs.PathLaws.{path_eq_equiv, path_eq_decides}
 use Rattle.notify_types.specs.declared.kind.EventKind.{EventKind}
 use Rattle.notify_types.specs.declared.kind.EventKind.TheVariants as kinds
 use Rattle.notify_types.specs.declared.kind.ModifyKind.TheVariants as modify

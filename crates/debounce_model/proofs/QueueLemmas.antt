@@ -8,15 +8,15 @@ use Rattle.std.proofs.Math.Seq.{take-suc}
 use Rattle.std.specs.BTreeMap.{is_at}
 use Rattle.std.specs.List.Sorted.{IsStrictlySortedBy}
 use Rattle.std.proofs.lemmas.Map.Steps.{set_value_same}
-use Rattle.notify_types.specs.Path.{PathValue, path_cmp, is_prefix, is_below}
-use Rattle.notify_types.specs.PathLaws.{path_cmp_total, path_eq_equiv}
+use Rattle.notify_paths.specs.Path.{PathValue, path_cmp, is_prefix, is_below}
+use Rattle.notify_paths.specs.PathLaws.{path_cmp_total, path_eq_equiv}
 use Rattle.notify_types.specs.Event.{Timed}
 use Rattle.debounce_model.specs.declared.case.Case.{Case}
 use Rattle.debounce_model.specs.Queues.{Queues, queue_at, push, appended, skips, with_queue, without_queue, without_below, was_created_at, removal, expired_beginning, rest_after, last_of_kind, place_list, rests, waits, is_front_due, is_any_due}
 use Rattle.debounce_model.specs.State.{AreQueues, IsNonempty, case_queues, queues_after}
 use Rattle.notify_types.specs.KindNumbers.{kind_eq}
 use Rattle.std.specs.List.{list_any}
-use Rattle.notify_types.proofs.Prefixes.{same_path}
+use Rattle.notify_paths.proofs.Prefixes.{same_path}
 use Rattle.debounce_model.proofs.Entries.{insert_over, filter-insert_entry}
 
 -- a queue that takes an event is where `push` leaves it

@@ -4,7 +4,7 @@ use Rattle.std.specs.Option.{option_map, unwrap_or}
 use Rattle.std.specs.BTreeMap.{is_at}
 use Rattle.std.specs.List.{AllByRecursion}
 use Rattle.std.proofs.lemmas.Map.Entries.{sum_by-remove_entry}
-use Rattle.notify_types.specs.Path.{PathValue, path_cmp}
+use Rattle.notify_paths.specs.Path.{PathValue, path_cmp}
 use Rattle.notify_types.specs.Event.{Timed, AttributesValue, no_attributes}
 use Rattle.notify_types.specs.Kinds.{is_removal}
 use Rattle.notify_types.specs.declared.kind.EventKind.{EventKind}

@@ -4,10 +4,10 @@ use Rattle.std.specs.Map.{remove_entry, set_value, keys_of}
 use Rattle.std.specs.BTreeMap.{is_at}
 use Rattle.std.specs.Ordering.{is_eq}
 use Rattle.std.specs.List.Sorted.{IsStrictlySortedBy}
-use Rattle.notify_types.specs.Path.{PathValue, path_cmp, path_eq}
-use Rattle.notify_types.specs.PathLaws.{path_cmp_total, path_eq_decides, path_matches_eq}
+use Rattle.notify_paths.specs.Path.{PathValue, path_cmp, path_eq}
+use Rattle.notify_paths.specs.PathLaws.{path_cmp_total, path_eq_decides, path_matches_eq}
 use Rattle.notify_types.specs.Event.{Timed, AttributesValue}
-use Rattle.notify_types.proofs.Prefixes.{same_path}
+use Rattle.notify_paths.proofs.Prefixes.{same_path}
 use Rattle.debounce_model.specs.Queues.{Queues, queue_at, with_queue}
 use Rattle.debounce_model.specs.Rename.{without_last, without_both, staying, left_behind, events_at, arrived, joined_rename}
 use Rattle.debounce_model.proofs.Entries.{sorted-insert_entry, insert_over, lookup-insert_same, lookup-insert_other, lookup-remove_same, lookup-remove_other, insert_insert_same, set_insert, remove_insert, remove_absent, remove_set, insert_removed}

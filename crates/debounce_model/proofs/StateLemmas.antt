@@ -8,8 +8,8 @@ use Rattle.notify_types.proofs.Lists.{length-map}
 use Rattle.notify_types.specs.Event.{Timed}
 use Rattle.notify_types.specs.KindNumbers.{kind_eq}
 use Rattle.notify_types.specs.Kinds.{is_removal}
-use Rattle.notify_types.specs.Path.{PathValue}
-use Rattle.notify_types.specs.PathLaws.{path_cmp_total}
+use Rattle.notify_paths.specs.Path.{PathValue}
+use Rattle.notify_paths.specs.PathLaws.{path_cmp_total}
 use Rattle.notify_types.specs.declared.kind.EventKind.{EventKind}
 use Rattle.notify_types.specs.declared.kind.EventKind.TheVariants.{Any, Access, Create, Modify, Remove, Other}
 use Rattle.notify_types.specs.declared.kind.ModifyKind.TheVariants as modify

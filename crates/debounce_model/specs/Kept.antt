@@ -4,7 +4,7 @@ use Rattle.std.specs.List.{list_any}
 use Rattle.notify_types.specs.Event.{EventValue, Timed}
 use Rattle.notify_types.specs.KindNumbers.{kind_eq}
 use Rattle.notify_types.specs.Kinds.{is_creation, is_removal, is_rename, is_plain}
-use Rattle.notify_types.specs.Path.{PathValue, path_eq, is_prefix}
+use Rattle.notify_paths.specs.Path.{PathValue, path_eq, is_prefix}
 use Rattle.notify_types.specs.declared.kind.EventKind.{EventKind}
 use Rattle.debounce_model.specs.Command.{CommandValue, EventCommand, ReplyValue, TakenReply, BatchReply}
 use Rattle.debounce_model.specs.Play.{accepted}

@@ -5,7 +5,7 @@ use Rattle.std.specs.BTreeMap.{is_at}
 use Rattle.std.specs.BTreeSet.{insert_key}
 use Rattle.notify_types.specs.Event.{EventValue, Timed}
 use Rattle.notify_types.specs.Kinds.{is_creation, is_removal, is_rename}
-use Rattle.notify_types.specs.Path.{PathValue, path_cmp, is_prefix}
+use Rattle.notify_paths.specs.Path.{PathValue, path_cmp, is_prefix}
 use Rattle.notify_types.specs.declared.kind.EventKind.{EventKind}
 use Rattle.debounce_model.specs.Command.{CommandValue, EventCommand, ReplyValue, TakenReply}
 

@@ -6,7 +6,7 @@ use Rattle.std.specs.BTreeMap.{is_at, insert_entry}
 use Rattle.notify_types.specs.Event.{Timed}
 use Rattle.notify_types.specs.KindNumbers.{kind_eq}
 use Rattle.notify_types.specs.Kinds.{is_creation, is_removal, is_skippable}
-use Rattle.notify_types.specs.Path.{PathValue, path_cmp, is_below}
+use Rattle.notify_paths.specs.Path.{PathValue, path_cmp, is_below}
 use Rattle.notify_types.specs.declared.kind.EventKind.{EventKind}
 use Rattle.notify_types.specs.declared.kind.EventKind.TheVariants as kind
 use Rattle.notify_types.specs.declared.kind.ModifyKind.{ModifyKind}

@@ -3,7 +3,7 @@
 use Rattle.std.specs.Prelude.{ℕ, ◌-◌, Bool, true, false, List, [], ◌∷◌, ◌++◌, length, take, map, slice_get, unwrap_or, Option, Some, None, codes, if◌then◌else◌}
 use Rattle.std.specs.List.{find}
 use Rattle.notify_types.specs.Event.{Timed, AttributesValue, no_attributes}
-use Rattle.notify_types.specs.Path.{PathValue}
+use Rattle.notify_paths.specs.Path.{PathValue}
 use Rattle.notify_types.specs.declared.kind.EventKind.TheVariants as kind
 use Rattle.notify_types.specs.declared.kind.ModifyKind.TheVariants as modify
 use Rattle.notify_types.specs.declared.kind.RemoveKind.TheVariants as remove

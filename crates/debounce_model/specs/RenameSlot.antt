@@ -1,7 +1,7 @@
 -- The rename slot: the first half of a rename, kept for the second.
 use Rattle.std.specs.Prelude.{ℕ, ◌==◌, Bool, true, false, ◌||◌, List, [], ◌∷◌, Option, Some, None}
 use Rattle.notify_types.specs.Event.{EventValue, Timed}
-use Rattle.notify_types.specs.Path.{PathValue}
+use Rattle.notify_paths.specs.Path.{PathValue}
 use Rattle.debounce_model.specs.Equality.{file_id_eq}
 use Rattle.debounce_model.specs.declared.file_id.FileId.{FileId}
 

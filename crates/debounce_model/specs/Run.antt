@@ -1,6 +1,6 @@
 -- Runs of commands.
 use Rattle.std.specs.Prelude.{◌≡◌, true, List, [], ◌∷◌, ◌++◌}
-use Rattle.notify_types.specs.Errors.{out_of_memory}
+use Rattle.notify_paths.specs.Errors.{out_of_memory}
 use Rattle.debounce_model.specs.Cache.{Rules}
 use Rattle.debounce_model.specs.Command.{CommandValue, EventCommand, ErrorCommand, RootCommand, UnrootCommand, ErrorsCommand, TickCommand, ReplyValue, TakenReply, NotedReply, RootedReply, UnrootedReply, ErrorsReply, BatchReply, RefusedReply}
 use Rattle.debounce_model.specs.State.{Core, IsBatch, tick_step, is_due}

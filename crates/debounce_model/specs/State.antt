@@ -3,10 +3,10 @@ use Rattle.std.specs.Prelude.{◌≡◌, ℕ, ◌+◌, ◌-◌, ◌≤◌, nat_l
 use Rattle.std.specs.List.{AllByRecursion}
 use Rattle.std.specs.List.Sorted.{IsStrictlySortedBy}
 use Rattle.std.specs.Map.{keys_of}
-use Rattle.notify_types.specs.Errors.{ErrorValue}
+use Rattle.notify_paths.specs.Errors.{ErrorValue}
 use Rattle.notify_types.specs.Event.{EventValue, Timed}
 use Rattle.notify_types.specs.Kinds.{is_removal}
-use Rattle.notify_types.specs.Path.{PathValue, path_cmp}
+use Rattle.notify_paths.specs.Path.{PathValue, path_cmp}
 use Rattle.notify_types.specs.declared.kind.EventKind.{EventKind}
 use Rattle.notify_types.specs.declared.kind.EventKind.TheVariants as kind
 use Rattle.notify_types.specs.declared.kind.ModifyKind.{ModifyKind}

@@ -1,8 +1,8 @@
 -- One event, and one change of the roots, with what they do with the cache: taken, or refused.
 use Rattle.std.specs.Prelude.{◌≡◌, ◌≢◌, ◌-◌, ◌^◌, ℕ, Bool, true, false, ◌&&◌, ◌||◌, Option, Some, None, List, [], ◌∷◌, if◌then◌else◌}
-use Rattle.notify_types.specs.Errors.{ErrorValue, ErrorKindValue, FullKind, MemoryKind, out_of_memory}
+use Rattle.notify_paths.specs.Errors.{ErrorValue, ErrorKindValue, FullKind, MemoryKind, out_of_memory}
 use Rattle.notify_types.specs.Event.{EventValue, Timed}
-use Rattle.notify_types.specs.Path.{PathValue}
+use Rattle.notify_paths.specs.Path.{PathValue}
 use Rattle.notify_types.specs.declared.event.RecursiveMode.{RecursiveMode}
 use Rattle.debounce_model.specs.declared.case.Case.{Case}
 use Rattle.debounce_model.specs.declared.case.Case.TheVariants.{Rescan, Creation, Removal, RenameFrom, RenameTo, Plain, Ignored}

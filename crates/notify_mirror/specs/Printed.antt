@@ -2,11 +2,11 @@
 use Rattle.std.specs.Prelude.{ℕ, Option, Some, None, List, [], ◌∷◌, ◌++◌, codes}
 use Rattle.std.specs.Fmt.{decimal}
 use Rattle.std.specs.List.{join_with_byte}
-use Rattle.notify_types.specs.Errors.{ErrorKindValue, GenericKind, IoKind, PathNotFoundKind, WatchNotFoundKind, FullKind, MemoryKind}
+use Rattle.notify_paths.specs.Errors.{ErrorKindValue, GenericKind, IoKind, PathNotFoundKind, WatchNotFoundKind, FullKind, MemoryKind}
 use Rattle.notify_types.specs.Event.{AttributesValue, Timed}
 use Rattle.notify_types.specs.KindWords.{word_of}
-use Rattle.notify_types.specs.Path.{PathValue}
-use Rattle.notify_types.specs.PathText.{text_of}
+use Rattle.notify_paths.specs.Path.{PathValue}
+use Rattle.notify_paths.specs.PathText.{text_of}
 use Rattle.notify_types.specs.declared.event.Flag.{Flag}
 
 -- ---- the fields of an event line

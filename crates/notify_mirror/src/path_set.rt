@@ -1,11 +1,11 @@
 //! A reader's set of paths.
 ghost use Rattle.std.specs.Prelude.{◌≡◌, [], IfOk, IfErr, OnOk, OnErr};
 ghost use Rattle.std.specs.Map.{keys_of};
-ghost use Rattle.notify_types.specs.Errors.{out_of_memory};
+ghost use Rattle.notify_paths.specs.Errors.{out_of_memory};
 ghost use Rattle.debounce_model.specs.Play.{has_path, with_path, without_at, play_one, play, events_of};
 
 use notify_debouncer_full::{DebouncedEvent, Error, Event, PathBuf};
-use notify_types::below::drop_at_or_below;
+use notify_paths::below::drop_at_or_below;
 use std::alloc::{AllocError, Allocator, Global};
 use std::collections::BTreeMap;
 use std::marker::Model;

@@ -26,22 +26,51 @@ pub(crate) fn play_script<A: Allocator + Copy, O: Write>(
         start,
         commands,
     } = script;
-    let told = clone_commands(alloc, commands.as_slice())?;
     let Counts { taken, given } = counts;
     let mut core = DebounceDataInner::with_counts(alloc, NoCache::new(), timeout, taken, given);
-    let replies = core.run(commands)?;
+    play_commands(alloc, &mut core, commands, start, out)
+}
+
+/// Runs the commands on the debouncer, and prints what comes of them.
+fn play_commands<A: Allocator + Copy, O: Write>(
+    alloc: A,
+    core: &mut DebounceDataInner<NoCache, A>,
+    commands: Vec<Command<A>, A>,
+    start: Vec<PathBuf<A>, A>,
+    out: &mut O,
+) -> Result<(), Broken> {
     let mut text = String::new(alloc);
-    let played = print_replies(alloc, told, replies, &mut text, out)?;
-    push_counts(&mut text, core.taken(), core.given(), core.waiting())?;
-    let waiting = core.outlook()?;
-    print_events(&mut text, "wait", waiting.as_slice(), out)?;
-    push_paths_played(
-        &mut text,
-        set_of(alloc, start)?,
-        &played,
-        waiting.as_slice(),
-    )?;
+    let start = set_of(alloc, start)?;
+    let played = run_commands(alloc, core, commands, &mut text, out)?;
+    print_core(core, start, &played, &mut text, out)?;
     write_last(&mut text, out)
+}
+
+/// Runs the commands, and prints the replies.
+fn run_commands<A: Allocator + Copy, O: Write>(
+    alloc: A,
+    core: &mut DebounceDataInner<NoCache, A>,
+    commands: Vec<Command<A>, A>,
+    text: &mut String<A>,
+    out: &mut O,
+) -> Result<Played<A>, Broken> {
+    let told = clone_commands(alloc, commands.as_slice())?;
+    let replies = core.run(commands)?;
+    print_replies(alloc, told, replies, text, out)
+}
+
+/// Prints the counts, what waits, and the three lists of paths.
+fn print_core<A: Allocator + Copy, O: Write>(
+    core: &DebounceDataInner<NoCache, A>,
+    start: PathSet<A>,
+    played: &Played<A>,
+    text: &mut String<A>,
+    out: &mut O,
+) -> Result<(), Broken> {
+    push_counts(text, core.taken(), core.given(), core.waiting())?;
+    let waiting = core.outlook()?;
+    print_events(text, "wait", waiting.as_slice(), out)?;
+    push_paths_played(text, start, played, waiting.as_slice())
 }
 
 /// What was played of a script.

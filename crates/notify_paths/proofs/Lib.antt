@@ -1,0 +1,9 @@
+pub mod Texts
+pub mod Prefixes
+pub mod Removals
+pub mod Orders
+pub mod Begins
+pub mod Words
+pub mod Normals
+pub mod Joins
+pub mod Folders

@@ -1,0 +1,11 @@
+pub mod Path
+pub mod PathLaws
+pub mod PathText
+pub mod PathView
+pub mod PathMoves
+pub mod TextSteps
+pub mod Errors
+pub mod ErrorView
+pub mod ErrorEquality
+pub mod ErrorLaws
+pub mod Below
