@@ -1,5 +1,5 @@
 -- Queues with all their laws: what a push, a removal and other moves keep.
-use Rattle.std.proofs.Common.{◌≡◌, ℕ, ◌+◌, ◌≤◌, Bool, true, false, cond, List, [], ◌∷◌, ◌++◌, refl, sym, Option, Some, None, not, arith, length, length-append}
+use Rattle.std.proofs.Common.{◌≡◌, ℕ, ◌+◌, ◌≤◌, Bool, true, false, cond, List, [], ◌∷◌, ◌++◌, refl, sym, Option, Some, None, not, arith, length, length-append, drop}
 use Rattle.std.specs.Option.{option_map, unwrap_or}
 use Rattle.std.specs.Map.{keys_of}
 use Rattle.std.specs.BTreeMap.{is_at}
@@ -12,7 +12,7 @@ use Rattle.notify_types.specs.Event.{Timed}
 use Rattle.notify_paths.proofs.Prefixes.{same_path}
 use Rattle.debounce_model.specs.Queues.{Queues, queue_at, push, skips, pushed_on, with_queue, without_below, without_queue, removal, was_created_at, waiting_in}
 use Rattle.debounce_model.specs.Rename.{is_both}
-use Rattle.debounce_model.specs.State.{IsFirst, kept_by, IsKeyed, IsNonempty, HasNoBoth, IsBothFirst, IsBothBehind, IsBothInFront, IsQueue, AreQueues}
+use Rattle.debounce_model.specs.WellFormed.{IsFirst, kept_by, IsKeyed, IsNonempty, HasNoBoth, IsBothInFront, IsQueue, AreQueues}
 use Rattle.debounce_model.proofs.Entries.{each-insert_entry, each-filter, each-remove_entry, each-lookup, sorted-insert_entry, sorted-filter, sorted-remove_entry, sum-filter}
 
 -- queues with all their laws, of at most n events
@@ -23,13 +23,21 @@ pub record AreGood (queues : Queues) (n : ℕ) : Type 0 where
 
 -- ---- one queue
 
+-- no event but the first is a joined rename
+abbrev pub IsBothFirst : List Timed → Type 0
+IsBothFirst events = HasNoBoth (drop 1 events)
+
+-- after a removal (true) a joined rename may come first, after another event none
+abbrev pub IsBothBehind : Bool → List Timed → Type 0
+IsBothBehind removed events = HasNoBoth (cond removed (drop 1 events) events)
+
 -- a keyed queue with a keyed event behind it is keyed
 keyed-append : (p : PathValue) (q : List Timed) (x : Timed) → IsKeyed p q → IsFirst p (kept_by x) → IsKeyed p (q ++ x ∷ [])
 keyed-append p [] x k f = (f, tt)
 keyed-append p (y ∷ q) x k f = (k.0, keyed-append p q x k.1 f)
 
 -- without joined renames, also with an event behind that is none
-no_both-append : (q : List Timed) (x : Timed) → HasNoBoth q → is_both x ≡ false → HasNoBoth (q ++ x ∷ [])
+pub no_both-append : (q : List Timed) (x : Timed) → HasNoBoth q → is_both x ≡ false → HasNoBoth (q ++ x ∷ [])
 no_both-append [] x k f = (f, tt)
 no_both-append (y ∷ q) x k f = (k.0, no_both-append q x k.1 f)
 
@@ -89,7 +97,7 @@ good-push queues path x n g b f = by (queue_at queues path) refl
   where
     by : (o : Option (List Timed)) → queue_at queues path ≡ o → AreGood (pushed_on queues path x o) (n + 1)
     by None h = good-set queues path (x ∷ []) n (n + 1) g (queue_of_one path x (kept_by_first path x b f)) (rw h (omega (arith, g.bounded)))
-    by (Some q) h = at (skips q x)
+    by (Some q) h = at (skips q x.event.kind)
       where
         at : (b : Bool) → AreGood (cond b queues (with_queue queues path (q ++ x ∷ []))) (n + 1)
         at true = record { kept = g.kept; ordered = g.ordered; bounded = omega (arith, g.bounded) }

@@ -1,7 +1,6 @@
 -- Laws of the queues, which the core and the laws of states cite.
 use Rattle.std.specs.Prelude.{if◌then◌else◌}
-use Rattle.std.proofs.Common.{rules, ◌≡◌, ℕ, Bool, true, false, cond, List, [], ◌∷◌, ◌++◌, refl, ap, sym, ◌∙◌, Option, Some, None, not, ◌&&◌}
-use Rattle.std.specs.Prelude.{slice_get}
+use Rattle.std.proofs.Common.{rules, ◌≡◌, ℕ, Bool, true, false, cond, List, [], ◌∷◌, ◌++◌, refl, ap, sym, ◌∙◌, Some, None, not, ◌&&◌}
 use Rattle.std.specs.Map.{set_value, keys_of}
 use Rattle.std.proofs.Common.{◌+◌, ◌<◌, suc, length, get_or, take, drop, add-one, append_assoc, drop-cons}
 use Rattle.std.proofs.Math.Seq.{take-suc}
@@ -11,9 +10,9 @@ use Rattle.std.proofs.lemmas.Map.Steps.{set_value_same}
 use Rattle.notify_paths.specs.Path.{PathValue, path_cmp, is_prefix, is_below}
 use Rattle.notify_paths.specs.PathLaws.{path_cmp_total, path_eq_equiv}
 use Rattle.notify_types.specs.Event.{Timed}
-use Rattle.debounce_model.specs.declared.case.Case.{Case}
-use Rattle.debounce_model.specs.Queues.{Queues, queue_at, push, appended, skips, with_queue, without_queue, without_below, was_created_at, removal, expired_beginning, rest_after, last_of_kind, place_list, rests, waits, is_front_due, is_any_due}
-use Rattle.debounce_model.specs.State.{AreQueues, IsNonempty, case_queues, queues_after}
+use Rattle.debounce_model.specs.Due.{expired_beginning, rest_after, last_of_kind, place_list, rests, waits, is_front_due, is_any_due}
+use Rattle.debounce_model.specs.Queues.{Queues, queue_at, push, appended, skips, with_queue, without_queue, without_below, was_created_at, removal}
+use Rattle.debounce_model.specs.WellFormed.{AreQueues, IsNonempty}
 use Rattle.notify_types.specs.KindNumbers.{kind_eq}
 use Rattle.std.specs.List.{list_any}
 use Rattle.notify_paths.proofs.Prefixes.{same_path}
@@ -21,7 +20,7 @@ use Rattle.debounce_model.proofs.Entries.{insert_over, filter-insert_entry}
 
 -- a queue that takes an event is where `push` leaves it
 pub push_appended : (queues : Queues) (path : PathValue) (x : Timed) (q : List Timed) → IsStrictlySortedBy path_cmp (keys_of queues) → queue_at queues path ≡ Some q → set_value (is_at (path_cmp path)) queues (appended q x) ≡ push queues path x
-push_appended queues path x q s h = rw h (by (skips q x))
+push_appended queues path x q s h = rw h (by (skips q x.event.kind))
   where
     by : (b : Bool) → set_value (is_at (path_cmp path)) queues (cond b q (q ++ x ∷ [])) ≡ cond b queues (with_queue queues path (q ++ x ∷ []))
     by true = set_value_same (is_at (path_cmp path)) queues q h
@@ -72,15 +71,6 @@ last_of_kind-more xs i x h is =
     by : (b : Bool) → cond b (last_of_kind (drop (i + 1) xs)) (x ∷ last_of_kind (drop (i + 1) xs)) ≡ cond b [] (x ∷ []) ++ last_of_kind (drop (i + 1) xs)
     by true = refl
     by false = refl
-
--- a list with a first item
-first-cons : {X : Type 0} (xs : List X) (x : X) → slice_get xs 0 ≡ Some x → (rest : List X) × (xs ≡ x ∷ rest)
-first-cons [] x h = cc
-first-cons (y ∷ ys) x h = let e : y ≡ x = cc in (ys, ap (λ z. z ∷ ys) e)
-
--- what an event makes of the queues, where it has a first path
-pub queues_at_first : (case : Case) (queues : Queues) (x : Timed) (half : Option (PathValue × ℕ)) (ps : List PathValue) (p : PathValue) → Some p ≡ slice_get ps 0 → case_queues case queues p x half ≡ queues_after case queues x half ps
-queues_at_first case queues x half ps p h = let c = first-cons ps p (sym h) in ap (queues_after case queues x half) (sym c.1)
 
 -- a push where the path has no queue
 pub push-new : (queues : Queues) (path : PathValue) (x : Timed) → queue_at queues path ≡ None → with_queue queues path (x ∷ []) ≡ push queues path x

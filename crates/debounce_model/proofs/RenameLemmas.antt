@@ -10,22 +10,22 @@ use Rattle.notify_types.specs.Kinds.{is_removal}
 use Rattle.notify_types.specs.declared.kind.EventKind.{EventKind}
 use Rattle.notify_types.specs.declared.kind.EventKind.TheVariants.{Any, Access, Create, Modify, Remove, Other}
 use Rattle.notify_types.proofs.Lists.{length-map}
-use Rattle.debounce_model.specs.Queues.{Queues, queue_at, is_name_kind, removes, was_created, was_removed, waiting_in}
-use Rattle.debounce_model.specs.Rename.{events_at, without_last, is_both, is_both_mode, first_both, without_both, original_path, original_time, staying, moving, left_behind, at_path, rename_event, renaming, override_attributes, override_event, overriding, arrived_with, arrived, joined_rename}
-use Rattle.debounce_model.specs.State.{IsFirst, kept_by, IsKeyed, IsNonempty, HasNoBoth, IsBothFirst, IsBothBehind, IsBothInFront, IsQueue, AreQueues}
-use Rattle.debounce_model.proofs.GoodQueues.{AreGood, good-set, good-without, found_queue, queue_of_one}
+use Rattle.debounce_model.specs.Queues.{Queues, queue_at, removes, was_created, was_removed, waiting_in, events_at}
+use Rattle.debounce_model.specs.Rename.{without_last, is_both, first_both, without_both, original_path, original_time, staying, moving, left_behind, at_path, rename_event, renaming, override_attributes, override_event, overriding, arrived, joined_halves, is_both_kind}
+use Rattle.debounce_model.specs.WellFormed.{IsFirst, kept_by, IsKeyed, IsNonempty, HasNoBoth, IsBothInFront, IsQueue, AreQueues}
+use Rattle.debounce_model.proofs.GoodQueues.{IsBothFirst, IsBothBehind, AreGood, good-set, good-without, found_queue, queue_of_one}
 
 -- ---- events of the renamed path
 
 module _ (P : Timed → Type 0) where
   -- what holds of each event holds of the first ones
-  each-take : (n : ℕ) (xs : List Timed) → AllByRecursion P xs → AllByRecursion P (take n xs)
+  pub each-take : (n : ℕ) (xs : List Timed) → AllByRecursion P xs → AllByRecursion P (take n xs)
   each-take zero xs a = tt
   each-take (suc n) [] a = tt
   each-take (suc n) (x ∷ xs) a = (a.0, each-take n xs a.1)
 
   -- .. of those without the first joined rename
-  each-without_both : (xs : List Timed) → AllByRecursion P xs → AllByRecursion P (without_both xs)
+  pub each-without_both : (xs : List Timed) → AllByRecursion P xs → AllByRecursion P (without_both xs)
   each-without_both [] a = a
   each-without_both (x ∷ xs) a = by (is_both x) (each-without_both xs a.1)
     where
@@ -34,7 +34,7 @@ module _ (P : Timed → Type 0) where
       by false h = (a.0, h)
 
   -- .. of those that go along
-  each-moving : (xs : List Timed) → AllByRecursion P xs → AllByRecursion P (moving xs)
+  pub each-moving : (xs : List Timed) → AllByRecursion P xs → AllByRecursion P (moving xs)
   each-moving [] a = a
   each-moving (x ∷ xs) a = by (removes x.event.kind)
     where
@@ -43,7 +43,7 @@ module _ (P : Timed → Type 0) where
       by false = a
 
   -- .. of the one that stays
-  each-staying : (xs : List Timed) (x : Timed) → AllByRecursion P xs → staying xs ≡ Some x → P x
+  pub each-staying : (xs : List Timed) (x : Timed) → AllByRecursion P xs → staying xs ≡ Some x → P x
   each-staying [] x a h = cc
   each-staying (y ∷ ys) x a h = by (removes y.event.kind) h
     where
@@ -72,7 +72,7 @@ in_front-take (suc n) (x ∷ xs) k = by (is_removal x.event.kind) k
     by false k = each-take (λ z. is_both z ≡ false) n xs k
 
 -- a joined rename is no removal
-both_no_remove : (k : EventKind) → is_name_kind is_both_mode k ≡ true → is_removal k ≡ false
+both_no_remove : (k : EventKind) → is_both_kind k ≡ true → is_removal k ≡ false
 both_no_remove Any h = refl
 both_no_remove (Access k) h = refl
 both_no_remove (Create k) h = refl
@@ -109,7 +109,7 @@ keyed-moved t [] k = tt
 keyed-moved t (x ∷ xs) k = (rw k.0 refl, keyed-moved t xs k.1)
 
 -- .. and are no joined renames
-no_both-moved : (t : PathValue) (xs : List Timed) → HasNoBoth xs → HasNoBoth (map (at_path t) xs)
+pub no_both-moved : (t : PathValue) (xs : List Timed) → HasNoBoth xs → HasNoBoth (map (at_path t) xs)
 no_both-moved t [] k = tt
 no_both-moved t (x ∷ xs) k = (k.0, no_both-moved t xs k.1)
 
@@ -139,7 +139,13 @@ renamed_law o t attrs time r k n = by (was_created r) refl
     by true e = (nonempty r e, k, no_both-first r n, in_front r n)
     by false e = (tt, (refl, k), n, n)
 
--- what then waits at the target is its queue
+-- what then waits at the target, from the earlier joined rename and what goes along
+abbrev arrived_with : Option Timed → List Timed → Option (List Timed) → PathValue → PathValue → ℕ → AttributesValue → List Timed
+arrived_with both moved target f t time attrs =
+    overriding t (original_time both time) target
+    ++ (renaming (original_path both f) t attrs (original_time both time) moved ++ moved)
+
+-- .. is its queue
 arrived_law : (both : Option Timed) (moved : List Timed) (target : Option (List Timed)) (f t : PathValue) (time : ℕ) (attrs : AttributesValue) → IsKeyed t moved → HasNoBoth moved → IsQueue t (arrived_with both moved target f t time attrs)
 arrived_law both moved target f t time attrs k n = by target
   where
@@ -244,9 +250,9 @@ events_law queues f a = by (queue_at queues f) refl
     by None e = (tt, tt)
     by (Some q) e = let law = found_queue queues f q a e in (law.1, law.2)
 
--- a joined rename keeps the laws of the queues, and adds one event at most
-pub good-joined : (queues : Queues) (f t : PathValue) (time : ℕ) (attrs : AttributesValue) (n : ℕ) → AreGood queues n → AreGood (joined_rename queues f t time attrs) (n + 1)
-good-joined queues f t time attrs n g =
+-- a joined rename keeps the laws of the queues at its two paths, and adds one event at most
+pub good-halves : (queues : Queues) (f t : PathValue) (time : ℕ) (attrs : AttributesValue) (n : ℕ) → AreGood queues n → AreGood (joined_halves queues f t time attrs) (n + 1)
+good-halves queues f t time attrs n g =
     good-set rest t (arrived events (queue_at rest t) f t time attrs) m (n + 1) left
     (arrived_law (first_both events) moved (queue_at rest t) f t time attrs (keyed-moved t (moving kept) none) (no_both-moved t (moving kept) none))
     (omega (arith, left.bounded, g.bounded, length-arrived (first_both events) moved (queue_at rest t) f t time attrs (λ q e. (found_queue rest t q left.kept e).0), length-map (at_path t) (moving kept), length-moving kept, length-without_both events, length-take-less (length waited - 1) waited, length-events_at (queue_at queues f), sum_by-remove_entry length (is_at (path_cmp f)) queues))

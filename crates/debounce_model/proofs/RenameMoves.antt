@@ -8,19 +8,10 @@ use Rattle.notify_paths.specs.Path.{PathValue, path_cmp, path_eq}
 use Rattle.notify_paths.specs.PathLaws.{path_cmp_total, path_eq_decides, path_matches_eq}
 use Rattle.notify_types.specs.Event.{Timed, AttributesValue}
 use Rattle.notify_paths.proofs.Prefixes.{same_path}
-use Rattle.debounce_model.specs.Queues.{Queues, queue_at, with_queue}
-use Rattle.debounce_model.specs.Rename.{without_last, without_both, staying, left_behind, events_at, arrived, joined_rename}
+use Rattle.debounce_model.specs.MapSteps.{queue_of, one_or_none}
+use Rattle.debounce_model.specs.Queues.{Queues, queue_at, with_queue, events_at}
+use Rattle.debounce_model.specs.Rename.{without_last, without_both, staying, left_behind, arrived, joined_halves}
 use Rattle.debounce_model.proofs.Entries.{sorted-insert_entry, insert_over, lookup-insert_same, lookup-insert_other, lookup-remove_same, lookup-remove_other, insert_insert_same, set_insert, remove_insert, remove_absent, remove_set, insert_removed}
-
--- the events of a queue of one, or of none
-abbrev pub one_or_none : Option Timed → List Timed
-one_or_none None = []
-one_or_none (Some x) = x ∷ []
-
--- such a queue, where it is there
-abbrev pub queue_of : Option Timed → Option (List Timed)
-queue_of None = None
-queue_of (Some x) = Some (x ∷ [])
 
 -- ---- what a rename leaves behind
 
@@ -89,7 +80,7 @@ waits_some queues f b = by (queue_at queues f) refl b
     by (Some q) e b = (q, e)
 
 -- a rename to another path: first the target gets its queue, then the other path is left
-pub joined_other : (queues after : Queues) (f t : PathValue) (time : ℕ) (attrs : AttributesValue) (v : List Timed) → IsStrictlySortedBy path_cmp (keys_of queues) → path_eq f t ≡ false → v ≡ arrived (without_last (events_at queues f)) (queue_at queues t) f t time attrs → after ≡ with_queue queues t v → left_behind after f (stays after f) ≡ joined_rename queues f t time attrs
+pub joined_other : (queues after : Queues) (f t : PathValue) (time : ℕ) (attrs : AttributesValue) (v : List Timed) → IsStrictlySortedBy path_cmp (keys_of queues) → path_eq f t ≡ false → v ≡ arrived (without_last (events_at queues f)) (queue_at queues t) f t time attrs → after ≡ with_queue queues t v → left_behind after f (stays after f) ≡ joined_halves queues f t time attrs
 joined_other queues after f t time attrs v o n is e =
     rw e (rw (lookup-insert_other path_cmp_total queues t f v (other_path f t n)) (left_after queues f t v (stays queues f) o n (waits_some queues f) ∙ rw (is, target_other queues f t (stays queues f) n) refl))
 
@@ -106,7 +97,7 @@ at_source queues p None o = lookup-remove_same path_cmp_total queues p o
 at_source queues p (Some x) o = lookup-insert_same path_cmp_total queues p (x ∷ [])
 
 -- a rename to its own path: the target is what stays
-pub joined_same : (queues after : Queues) (f t : PathValue) (time : ℕ) (attrs : AttributesValue) (v : List Timed) → IsStrictlySortedBy path_cmp (keys_of queues) → path_eq f t ≡ true → v ≡ arrived (without_last (events_at queues f)) (queue_of (stays queues f)) f t time attrs → after ≡ with_queue queues t v → after ≡ joined_rename queues f t time attrs
+pub joined_same : (queues after : Queues) (f t : PathValue) (time : ℕ) (attrs : AttributesValue) (v : List Timed) → IsStrictlySortedBy path_cmp (keys_of queues) → path_eq f t ≡ true → v ≡ arrived (without_last (events_at queues f)) (queue_of (stays queues f)) f t time attrs → after ≡ with_queue queues t v → after ≡ joined_halves queues f t time attrs
 joined_same queues after f t time attrs v o h is e =
     let same : f ≡ t = (path_eq_decides f t).0 h in
     rw (e, is, same) (same_put queues t (arrived (without_last (events_at queues t)) (queue_of (stays queues t)) t t time attrs) (stays queues t) o ∙ rw (at_source queues t (stays queues t) o) refl)

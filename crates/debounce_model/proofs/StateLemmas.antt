@@ -1,113 +1,70 @@
 -- What an event and a tick keep of a state: the laws in the type of the core.
-use Rattle.std.proofs.Common.{◌≡◌, ℕ, ◌+◌, ◌≤◌, Bool, true, false, ◌||◌, cond, List, [], ◌∷◌, ◌++◌, refl, ap, sym, ◌∙◌, Option, Some, None, is_some, true≢false, arith, length, length-append}
+use Rattle.std.proofs.Common.{◌≡◌, ℕ, ◌+◌, ◌≤◌, Bool, true, false, ◌||◌, cond, List, [], ◌∷◌, ◌++◌, refl, ap, sym, ◌∙◌, Option, Some, None, true≢false, arith, length, length-append}
 use Rattle.std.specs.Map.{values_of}
 use Rattle.std.specs.List.{list_any}
 use Rattle.std.proofs.lemmas.List.Sums.{sum_by-cons}
 use Rattle.std.proofs.lemmas.List.Sorted.{length_permutation}
 use Rattle.notify_types.proofs.Lists.{length-map}
-use Rattle.notify_types.specs.Event.{Timed}
+use Rattle.notify_types.specs.Event.{EventValue, Timed, first_of}
 use Rattle.notify_types.specs.KindNumbers.{kind_eq}
 use Rattle.notify_types.specs.Kinds.{is_removal}
 use Rattle.notify_paths.specs.Path.{PathValue}
 use Rattle.notify_paths.specs.PathLaws.{path_cmp_total}
-use Rattle.notify_types.specs.declared.kind.EventKind.{EventKind}
-use Rattle.notify_types.specs.declared.kind.EventKind.TheVariants.{Any, Access, Create, Modify, Remove, Other}
-use Rattle.notify_types.specs.declared.kind.ModifyKind.TheVariants as modify
-use Rattle.notify_types.specs.declared.kind.RenameMode.TheVariants as rename
 use Rattle.debounce_model.specs.declared.case.Case.{Case}
 use Rattle.debounce_model.specs.declared.case.Case.TheVariants.{Rescan, Creation, Removal, RenameFrom, RenameTo, Plain, Ignored}
 use Rattle.debounce_model.specs.declared.file_id.FileId.{FileId}
+use Rattle.debounce_model.specs.Due.{last_of_kind, expired_beginning, rest_after, rests, place_list, waits, is_any_due}
 use Rattle.debounce_model.specs.Order.{InBatchOrder, placed}
-use Rattle.debounce_model.specs.Queues.{Queues, is_name_kind, last_of_kind, expired_beginning, rest_after, rests, place_list, waits, waiting_in, is_any_due}
-use Rattle.debounce_model.specs.Rename.{is_both, is_both_mode}
+use Rattle.debounce_model.specs.Queues.{Queues, waiting_in}
+use Rattle.debounce_model.specs.Rename.{is_both}
 use Rattle.debounce_model.specs.RenameSlot.{first_half}
-use Rattle.debounce_model.specs.State.{State, IsFirst, IsKeyed, IsNonempty, HasNoBoth, IsBothFirst, IsBothBehind, IsBothInFront, AreQueues, IsWellFormed, kind_case, case_of, renamed_to, rescan_after, held, due_of, rest_of, places, is_slot_due, event_step, queues_after, case_queues, is_expired, tick_step, IsBatch}
+use Rattle.debounce_model.specs.State.{State, held}
+use Rattle.debounce_model.specs.Table.{case_of, renamed_to, raised_event, taken_step, event_step, row}
+use Rattle.debounce_model.specs.Tick.{due_of, rest_of, places, is_slot_due, is_expired_in, tick_step, IsBatch}
+use Rattle.debounce_model.specs.WellFormed.{IsFirst, IsKeyed, IsNonempty, HasNoBoth, IsBothInFront, AreQueues, IsWellFormed}
 use Rattle.debounce_model.proofs.Entries.{sorted-changed}
-use Rattle.debounce_model.proofs.GoodQueues.{AreGood, good-more, good-push, good-removal}
+use Rattle.debounce_model.proofs.GoodQueues.{IsBothFirst, IsBothBehind, AreGood, good-more, good-push, good-removal}
 use Rattle.debounce_model.proofs.OrderLemmas.{length-placed}
 use Rattle.debounce_model.proofs.QueueLemmas.{quiet}
-use Rattle.debounce_model.proofs.RenameLemmas.{good-joined}
+use Rattle.debounce_model.proofs.TableLemmas.{acts, acting_event}
+use Rattle.debounce_model.proofs.MovedLemmas.{good-joined}
 
 -- ---- an event
-
--- a case that may change the queues
-abbrev acts : Case → Bool
-acts Rescan = false
-acts Creation = true
-acts Removal = true
-acts RenameFrom = true
-acts RenameTo = true
-acts Plain = true
-acts Ignored = false
-
--- a joined rename that comes in changes no queue
-not_both : (k : EventKind) (exists : Bool) → acts (kind_case k exists) ≡ true → is_name_kind is_both_mode k ≡ false
-not_both Any exists h = refl
-not_both (Access k) exists h = refl
-not_both (Create k) exists h = refl
-not_both (Modify modify.Any) exists h = refl
-not_both (Modify (modify.Data d)) exists h = refl
-not_both (Modify (modify.Metadata m)) exists h = refl
-not_both (Modify (modify.Name rename.Any)) exists h = refl
-not_both (Modify (modify.Name rename.To)) exists h = refl
-not_both (Modify (modify.Name rename.From)) exists h = refl
-not_both (Modify (modify.Name rename.Both)) exists h = absurd (true≢false (sym h))
-not_both (Modify (modify.Name rename.Other)) exists h = refl
-not_both (Modify modify.Other) exists h = refl
-not_both (Remove k) exists h = refl
-not_both Other exists h = refl
-
--- .. with a flag or without
-not_both_event : (x : Timed) (exists : Bool) → acts (case_of x.event exists) ≡ true → is_both x ≡ false
-not_both_event x exists h = by (is_some x.event.attrs.flag) h
-  where
-    by : (b : Bool) → acts (cond b Rescan (kind_case x.event.kind exists)) ≡ true → is_both x ≡ false
-    by true h = absurd (true≢false (sym h))
-    by false h = not_both x.event.kind exists h
 
 -- queues are good after the second half of a rename
 good-renamed : (queues : Queues) (path : PathValue) (x : Timed) (half : Option (PathValue × ℕ)) (n : ℕ) → AreGood queues n → is_both x ≡ false → IsFirst path x.event.paths → AreGood (renamed_to queues path x half) (n + 1)
 good-renamed queues path x None n g b f = good-push queues path x n g b f
 good-renamed queues path x (Some (from, time)) n g b f = good-joined queues from path time x.event.attrs n g
 
--- .. after an event of any case
-good-step : (case : Case) (queues : Queues) (x : Timed) (half : Option (PathValue × ℕ)) (n : ℕ) → AreGood queues n → (acts case ≡ true → is_both x ≡ false) → AreGood (queues_after case queues x half x.event.paths) (n + 1)
-good-step case queues x half n g b = by x.event.paths refl
-  where
-    by : (ps : List PathValue) → x.event.paths ≡ ps → AreGood (queues_after case queues x half ps) (n + 1)
-    by [] e = good-more queues n (n + 1) g (omega arith)
-    by (p ∷ ps) e = at case b
-      where
-        at : (c : Case) → (acts c ≡ true → is_both x ≡ false) → AreGood (case_queues c queues p x half) (n + 1)
-        at Rescan b = good-more queues n (n + 1) g (omega arith)
-        at Creation b = good-push queues p x n g (b refl) (rw e refl)
-        at Removal b = good-removal queues p x n g (b refl) (rw e refl)
-        at RenameFrom b = good-push queues p x n g (b refl) (rw e refl)
-        at RenameTo b = good-renamed queues p x half n g (b refl) (rw e refl)
-        at Plain b = good-push queues p x n g (b refl) (rw e refl)
-        at Ignored b = good-more queues n (n + 1) g (omega arith)
+-- a state with one more event taken keeps the laws, where its queues are good and the rescan slot holds no more
+one_more : (s t : State) → IsWellFormed s → AreGood t.queues (waiting_in s.queues + 1) → t.rescan_slot ≡ s.rescan_slot → t.given ≡ s.given → t.taken ≡ s.taken + 1 → IsWellFormed t
+one_more s t w g r h k = record { queues = g.kept; ordered = g.ordered; bounded = rw (r, h, k) (omega (arith, g.bounded, w.bounded)) }
 
--- .. and with the rescan slot one more waits at most
-event-bound : (case : Case) (queues : Queues) (slot : Option Timed) (x : Timed) (half : Option (PathValue × ℕ)) → waiting_in (queues_after case queues x half x.event.paths) ≤ waiting_in queues + 1 → waiting_in (queues_after case queues x half x.event.paths) + held (rescan_after case slot x) ≤ waiting_in queues + held slot + 1
-event-bound Rescan queues slot x half b = by x.event.paths
+-- an event that is taken at its time keeps the laws of a state
+pub well_formed-taken : (s : State) (x : Timed) (exists : Bool) (answer : Option FileId) → IsWellFormed s → IsWellFormed (taken_step s x exists answer)
+well_formed-taken s x exists answer w = by (case_of x.event exists) (acting_event x exists)
   where
-    by : (ps : List PathValue) → waiting_in (queues_after Rescan queues x half ps) + 1 ≤ waiting_in queues + held slot + 1
-    by [] = omega arith
-    by (p ∷ ps) = omega arith
-event-bound Creation queues slot x half b = omega (arith, b)
-event-bound Removal queues slot x half b = omega (arith, b)
-event-bound RenameFrom queues slot x half b = omega (arith, b)
-event-bound RenameTo queues slot x half b = omega (arith, b)
-event-bound Plain queues slot x half b = omega (arith, b)
-event-bound Ignored queues slot x half b = omega (arith, b)
+    n : ℕ
+    n = waiting_in s.queues
 
--- an event keeps the laws of a state
-pub well_formed_event : (s : State) (x : Timed) (exists : Bool) (answer : Option FileId) → IsWellFormed s → IsWellFormed (event_step s x exists answer)
-well_formed_event s x exists answer w =
-    let before : AreGood s.queues (waiting_in s.queues) = record { kept = w.queues; ordered = w.ordered; bounded = omega arith } in
-    let half = first_half s.rename_slot x.event answer in
-    let g = good-step (case_of x.event exists) s.queues x half (waiting_in s.queues) before (not_both_event x exists) in
-    record { queues = g.kept; ordered = g.ordered; bounded = omega (arith, event-bound (case_of x.event exists) s.queues s.rescan_slot x half g.bounded, w.bounded) }
+    path : PathValue
+    path = first_of x.event.paths
+
+    good : AreGood s.queues n
+    good = record { kept = w.queues; ordered = w.ordered; bounded = omega arith }
+
+    by : (c : Case) → (acts c ≡ true → (is_both x ≡ false) × IsFirst path x.event.paths) → IsWellFormed (record (row c s x path answer) { latest = x.time; taken = s.taken + 1 })
+    by Rescan h = record { queues = w.queues; ordered = w.ordered; bounded = omega (arith, w.bounded) }
+    by Creation h = one_more s _ w (good-push s.queues path x n good (h refl).0 (h refl).1) refl refl refl
+    by Removal h = one_more s _ w (good-removal s.queues path x n good (h refl).0 (h refl).1) refl refl refl
+    by RenameFrom h = one_more s _ w (good-push s.queues path x n good (h refl).0 (h refl).1) refl refl refl
+    by RenameTo h = one_more s _ w (good-renamed s.queues path x (first_half s.rename_slot x.event answer) n good (h refl).0 (h refl).1) refl refl refl
+    by Plain h = one_more s _ w (good-push s.queues path x n good (h refl).0 (h refl).1) refl refl refl
+    by Ignored h = one_more s _ w (good-more s.queues n (n + 1) good (omega arith)) refl refl refl
+
+-- .. at the moment to which it is raised
+pub well_formed_event : (s : State) (event : EventValue) (now : ℕ) (exists : Bool) (answer : Option FileId) → IsWellFormed s → IsWellFormed (event_step s event now exists answer)
+well_formed_event s event now exists answer w = well_formed-taken s (raised_event s event now) exists answer w
 
 -- ---- a tick
 
@@ -219,9 +176,9 @@ held-cut due (Some x) = by (due x)
 -- a tick keeps the laws of a state
 pub well_formed-tick : (s : State) (now : ℕ) (batch : List Timed) → IsWellFormed s → IsBatch s now batch → IsWellFormed (tick_step s now batch)
 well_formed-tick s now batch w b = record {
-  queues = kept-rests (is_expired s.timeout now) s.queues w.queues;
-  ordered = sorted-changed path_cmp_total (rest_after (is_expired s.timeout now)) (λ q. waits (rest_after (is_expired s.timeout now) q)) s.queues w.ordered;
-  bounded = omega (arith, w.bounded, tick-bound (is_expired s.timeout now) s.queues, held-cut (is_expired s.timeout now) s.rescan_slot, length-append (due_of (is_expired s.timeout now) s.rescan_slot) (place_list (is_expired s.timeout now) s.queues), length-in_order (places (is_expired s.timeout now) s) batch b);
+  queues = kept-rests (is_expired_in s now) s.queues w.queues;
+  ordered = sorted-changed path_cmp_total (rest_after (is_expired_in s now)) (λ q. waits (rest_after (is_expired_in s now) q)) s.queues w.ordered;
+  bounded = omega (arith, w.bounded, tick-bound (is_expired_in s now) s.queues, held-cut (is_expired_in s now) s.rescan_slot, length-append (due_of (is_expired_in s now) s.rescan_slot) (place_list (is_expired_in s now) s.queues), length-in_order (places (is_expired_in s now) s) batch b);
 }
 
 -- a slot whose event is not due keeps it

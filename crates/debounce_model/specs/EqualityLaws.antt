@@ -1,12 +1,12 @@
--- Laws of the equality of commands and replies, which only impls cite. Nothing here defines anything.
+-- Laws of the equality of commands and replies, which the impls of `PartialEq` and `Eq` cite.
 use Rattle.std.specs.Prelude.{◌≡◌, List}
 use Rattle.std.specs.Bool.{Decides}
 use Rattle.std.specs.Cmp.{IsEquivalence, decided, unsigned_Decides, booleans_Decides}
 use Rattle.std.specs.Cmp.Lexicographic.{pointwise_decides}
 use Rattle.std.proofs.Common.{ap, refl}
 use Rattle.std.proofs.lemmas.Bool.Decides.{Decides-and, Decides-like}
-use Rattle.notify_paths.specs.ErrorLaws.{Decides-true, Decides-false, error_eq_decides}
 use Rattle.notify_types.specs.EqualityLaws.{option_eq_decides, event_eq_decides, timed_eq_decides}
+use Rattle.notify_paths.specs.ErrorLaws.{Decides-true, Decides-false, error_eq_decides}
 use Rattle.notify_paths.specs.Errors.{ErrorValue}
 use Rattle.notify_types.specs.Event.{Timed}
 use Rattle.notify_paths.specs.PathLaws.{path_eq_decides}

@@ -8,7 +8,7 @@ use Rattle.notify_paths.specs.Path.{PathValue, path_eq, is_prefix}
 use Rattle.notify_types.specs.declared.kind.EventKind.{EventKind}
 use Rattle.debounce_model.specs.Command.{CommandValue, EventCommand, ReplyValue, TakenReply, BatchReply}
 use Rattle.debounce_model.specs.Play.{accepted}
-use Rattle.debounce_model.specs.Rename.{events_at}
+use Rattle.debounce_model.specs.Queues.{events_at}
 use Rattle.debounce_model.specs.State.{State}
 
 -- the first of these paths passes the test
@@ -20,31 +20,31 @@ has_first test (path ∷ paths) = test path
 abbrev pub is_event : (EventKind → Bool) → (PathValue → Bool) → EventValue → Bool
 is_event class test e = not (is_some e.attrs.flag) && (class e.kind && has_first test e.paths)
 
--- an event of class rename
+-- an event without a flag, and with a path, of class rename
 abbrev pub tells_rename : EventValue → Bool
 tells_rename e = is_event is_rename (λ path. true) e
 
--- .. was accepted
+-- a rename was accepted
 abbrev pub has_rename : List CommandValue → List ReplyValue → Bool
 has_rename commands replies = list_any tells_rename (accepted commands replies)
 
--- a removal that names the path or a prefix of it
+-- an event without a flag is a removal of the path or of a prefix of it
 abbrev pub takes_away : PathValue → EventValue → Bool
 takes_away path e = is_event is_removal (λ p. is_prefix p path) e
 
--- without a flag, a creation or an event of this kind
+-- an event without a flag stands for a change if it is a creation or has the kind of the change
 abbrev pub stands_for : EventKind → Timed → Bool
 stands_for kind x = not (is_some x.event.attrs.flag) && (is_creation x.event.kind || kind_eq kind x.event.kind)
 
--- .. waits in the queue of the path
+-- such an event waits in the queue of the path
 abbrev pub is_waiting : PathValue → EventKind → State → Bool
 is_waiting path kind s = list_any (stands_for kind) (events_at s.queues path)
 
--- .. is among these events, with this first path
+-- such an event is among these events, with this first path
 abbrev pub is_among : PathValue → EventKind → List Timed → Bool
 is_among path kind batch = list_any (λ x. has_first (λ p. path_eq p path) x.event.paths && stands_for kind x) batch
 
--- .. in some batch of these replies
+-- such an event is in some batch of these replies
 abbrev pub is_handed_out : PathValue → EventKind → List ReplyValue → Bool
 is_handed_out path kind [] = false
 is_handed_out path kind (BatchReply batch ∷ replies) = is_among path kind batch || is_handed_out path kind replies
@@ -56,12 +56,12 @@ abbrev pub is_change_kept : PathValue → EventKind → List CommandValue → Li
 is_change_kept path kind commands replies s =
     list_any (takes_away path) (accepted commands replies) || (is_waiting path kind s || is_handed_out path kind replies)
 
--- .. at the first of these paths, if there is one
+-- a change at the first of these paths, if there is one, is kept
 abbrev pub is_kept_at : List PathValue → EventKind → List CommandValue → List ReplyValue → State → Bool
 is_kept_at [] kind commands replies s = true
 is_kept_at (path ∷ paths) kind commands replies s = is_change_kept path kind commands replies s
 
--- a creation or a plain event, without a flag
+-- an event without a flag tells a change if it is a creation or plain
 abbrev pub tells_change : EventValue → Bool
 tells_change e = not (is_some e.attrs.flag) && (is_creation e.kind || is_plain e.kind)
 

@@ -3,16 +3,16 @@ use Rattle.std.specs.Prelude.{◌≡◌, true, List, [], ◌∷◌, ◌++◌}
 use Rattle.notify_paths.specs.Errors.{out_of_memory}
 use Rattle.debounce_model.specs.Cache.{Rules}
 use Rattle.debounce_model.specs.Command.{CommandValue, EventCommand, ErrorCommand, RootCommand, UnrootCommand, ErrorsCommand, TickCommand, ReplyValue, TakenReply, NotedReply, RootedReply, UnrootedReply, ErrorsReply, BatchReply, RefusedReply}
-use Rattle.debounce_model.specs.State.{Core, IsBatch, tick_step, is_due}
+use Rattle.debounce_model.specs.State.{Core}
 use Rattle.debounce_model.specs.Step.{IsTaken, IsRefused, IsRooted, IsRootRefused, IsUnrooted, IsUnrootRefused}
+use Rattle.debounce_model.specs.Tick.{IsBatch, tick_step, is_due}
 
 module _ {C : Type 0} where
   -- from s the command may have this reply and leave t
   abbrev pub Step : Rules C → Core C → CommandValue → ReplyValue → Core C → Type 0
   Step r s (EventCommand event now exists) (TakenReply answer) t =
-      IsTaken r s (record { event = event; time = now }) exists t × (answer ≡ t.answer)
-  Step r s (EventCommand event now exists) (RefusedReply error) t =
-      IsRefused r s (record { event = event; time = now }) exists error t
+      IsTaken r s event now exists t × (answer ≡ t.answer)
+  Step r s (EventCommand event now exists) (RefusedReply error) t = IsRefused r s event exists error t
   Step r s (ErrorCommand error) NotedReply t =
       t ≡ record s { state = record s.state { errors = s.state.errors ++ error ∷ [] } }
   Step r s (ErrorCommand error) (RefusedReply refusal) t = (refusal ≡ out_of_memory) × (t ≡ s)

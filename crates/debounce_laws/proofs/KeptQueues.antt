@@ -1,10 +1,8 @@
 -- Queues whose events each told something at the queue's path, and what is found in them.
-use Rattle.std.proofs.Common.{rules, arith, length, ◌≡◌, Bool, true, false, cond, not, ◌&&◌, ◌||◌, List, [], ◌∷◌, ◌++◌, refl, ap, sym, ◌∙◌, subst, Option, Some, None, is_some, true≢false}
+use Rattle.std.proofs.Common.{rules, ◌≡◌, Bool, true, false, cond, not, ◌&&◌, ◌||◌, List, [], ◌∷◌, ◌++◌, refl, ap, sym, ◌∙◌, subst, Option, Some, None, is_some, true≢false}
 use Rattle.std.specs.List.{list_any, AllByRecursion}
-use Rattle.std.specs.Map.{values_of}
 use Rattle.std.specs.BTreeMap.{is_at}
 use Rattle.std.specs.Ordering.{is_eq}
-use Rattle.std.proofs.lemmas.List.Sums.{sum_by-cons}
 use Rattle.std.proofs.lemmas.List.Folds.{list_any-append}
 use Rattle.std.proofs.lemmas.Map.Entries.{lookup-filter-keys}
 use Rattle.notify_types.specs.Event.{Timed}
@@ -16,11 +14,13 @@ use Rattle.notify_types.specs.declared.kind.EventKind.{EventKind}
 use Rattle.notify_types.specs.declared.kind.EventKind.TheVariants as kinds
 use Rattle.notify_types.specs.declared.kind.ModifyKind.TheVariants as modify
 use Rattle.notify_types.specs.declared.kind.RenameMode.TheVariants as rename
-use Rattle.notify_paths.proofs.Prefixes.{same_path, prefix_itself}
+use Rattle.notify_paths.proofs.Prefixes.{prefix_itself}
+use Rattle.debounce_model.specs.Due.{expired_beginning, rest_after, last_of_kind, place_list, waits, rests}
 use Rattle.debounce_model.specs.Kept.{has_first, stands_for, is_among}
-use Rattle.debounce_model.specs.Queues.{Queues, queue_at, with_queue, without_queue, without_below, waiting_in, creates, was_created, was_created_at, skips, push, pushed_on, removal, expired_beginning, rest_after, last_of_kind, place_list, waits, rests}
-use Rattle.debounce_model.specs.Rename.{events_at}
-use Rattle.debounce_model.proofs.Entries.{each-insert_entry, each-filter, each-remove_entry, each-lookup, lookup-insert_same, lookup-insert_other, lookup-remove_other}
+use Rattle.debounce_model.specs.Queues.{Queues, queue_at, with_queue, without_queue, without_below, waiting_in, creates, was_created, was_created_at, skips, push, pushed_on, removal, events_at}
+use Rattle.debounce_laws.proofs.DueLists.{each_push, each_late, each_early}
+use Rattle.debounce_laws.proofs.EachQueue.{Each, each-found, each-push, each-removal, each-rests, each-none}
+use Rattle.debounce_model.proofs.Entries.{lookup-insert_same, lookup-insert_other, lookup-remove_other}
 
 -- ---- events that told something
 
@@ -40,7 +40,7 @@ AreTold path events = AllByRecursion (IsTold path) events
 
 -- .. of each queue
 abbrev pub AreAllTold : Queues → Type 0
-AreAllTold queues = AllByRecursion (λ e. AreTold e.0 e.1) queues
+AreAllTold queues = Each AreTold queues
 
 -- a kind that stands for a change of another kind
 abbrev fits : EventKind → EventKind → Bool
@@ -52,7 +52,7 @@ or_true true = refl
 or_true false = refl
 
 -- a kind that told something, after which its path is there, is a creation
-creates_told : (k : EventKind) → tells k ≡ true → creates k ≡ true → is_creation k ≡ true
+pub creates_told : (k : EventKind) → tells k ≡ true → creates k ≡ true → is_creation k ≡ true
 creates_told (kinds.Modify (modify.Name rename.To)) t c = t
 creates_told k t c = c
 
@@ -87,29 +87,6 @@ module _ (path : PathValue) (kind : EventKind) where
       by true false e s more = more (rw s at h)
       by false true e s more = rw (t.0.first, s) refl
       by false false e s more = rw (more (rw s at h)) (or_true _)
-
--- what told something still did so in the beginning of a queue
-told-beginning : (path : PathValue) (due : Timed → Bool) (xs : List Timed) → AreTold path xs → AreTold path (expired_beginning due xs)
-told-beginning path due [] t = t
-told-beginning path due (x ∷ xs) t = by (due x) (told-beginning path due xs t.1)
-  where
-    by : (b : Bool) → AreTold path (expired_beginning due xs) → AreTold path (cond b (x ∷ expired_beginning due xs) [])
-    by true h = (t.0, h)
-    by false h = tt
-
--- .. in the rest
-told-rest : (path : PathValue) (due : Timed → Bool) (xs : List Timed) → AreTold path xs → AreTold path (rest_after due xs)
-told-rest path due [] t = t
-told-rest path due (x ∷ xs) t = by (due x) (told-rest path due xs t.1)
-  where
-    by : (b : Bool) → AreTold path (rest_after due xs) → AreTold path (cond b (rest_after due xs) (x ∷ xs))
-    by true h = h
-    by false h = t
-
--- .. with one more event
-told-append : (path : PathValue) (xs : List Timed) (x : Timed) → AreTold path xs → IsTold path x → AreTold path (xs ++ x ∷ [])
-told-append path [] x t h = (h, tt)
-told-append path (y ∷ xs) x t h = (t.0, told-append path xs x t.1 h)
 
 -- three tests, in another order
 or_swapped : (a b c : Bool) → (a || (b || c)) ≡ (b || (a || c))
@@ -155,7 +132,7 @@ module _ (f : Timed → Bool) (path : PathValue) where
     where
       by : (o : Option (List Timed)) → queue_at queues p ≡ o → list_any f (events_at (pushed_on queues p x o) path) ≡ true
       by None e = found-set queues p (x ∷ []) (λ i. absurd (true≢false (sym (rw e at (found-tied queues p i h))))) h
-      by (Some q) e = at (skips q x)
+      by (Some q) e = at (skips q x.event.kind)
         where
           more : is_eq (path_cmp path p) ≡ true → list_any f (q ++ x ∷ []) ≡ true
           more i = list_any-append f q (x ∷ []) ∙ ap (λ b. b || list_any f (x ∷ [])) (rw e at (found-tied queues p i h))
@@ -217,7 +194,7 @@ found-rests due (e ∷ queues) path kind t h = rw (list_any-append (λ x. has_fi
 
         at : (b : Bool) → (b || list_any (stands_for kind) (expired_beginning due e.1)) ≡ true → (b || handed) ≡ true
         at true g = refl
-        at false g = last_among path kind (expired_beginning due e.1) (told-beginning path due e.1 told) g
+        at false g = last_among path kind (expired_beginning due e.1) (each_early due (IsTold path) e.1 told) g
 
     nothing : waits rest ≡ false → (b : Bool) → list_any (stands_for kind) rest ≡ b → b ≡ false
     nothing w true g = absurd (true≢false (sym (waits-found (stands_for kind) rest g) ∙ w))
@@ -231,56 +208,21 @@ found-rests due (e ∷ queues) path kind t h = rw (list_any-append (λ x. has_fi
 
 -- ---- all queues still told something
 
--- .. where one is set that did
-told-set : (queues : Queues) (p : PathValue) (new : List Timed) → AreAllTold queues → AreTold p new → AreAllTold (with_queue queues p new)
-told-set queues p new t h = each-insert_entry path_cmp_total (λ e. AreTold e.0 e.1) queues p new t h (λ y q. rw (sym (same_path p y q)) h)
-
--- what waits at a path told something there
-told-found : (queues : Queues) (p : PathValue) (q : List Timed) → AreAllTold queues → queue_at queues p ≡ Some q → AreTold p q
-told-found queues p q t h =
-    let found = each-lookup path_cmp_total (λ e. AreTold e.0 e.1) queues p q t h in
-    rw (same_path p found.0 found.1) found.2
-
 -- .. after a push
 pub told-push : (queues : Queues) (p : PathValue) (x : Timed) → AreAllTold queues → IsTold p x → AreAllTold (push queues p x)
-told-push queues p x t h = by (queue_at queues p) refl
-  where
-    by : (o : Option (List Timed)) → queue_at queues p ≡ o → AreAllTold (pushed_on queues p x o)
-    by None e = told-set queues p (x ∷ []) t (h, tt)
-    by (Some q) e = at (skips q x)
-      where
-        at : (b : Bool) → AreAllTold (cond b queues (with_queue queues p (q ++ x ∷ [])))
-        at true = t
-        at false = told-set queues p (q ++ x ∷ []) t (told-append p q x (told-found queues p q t e) h)
+told-push queues p x t h = each-push AreTold queues p x t tt (λ q a. each_push (IsTold p) q x a h)
 
 -- .. after a removal
 pub told-removal : (queues : Queues) (p : PathValue) (x : Timed) → AreAllTold queues → IsTold p x → AreAllTold (removal queues p x)
-told-removal queues p x t h = by (was_created_at (queue_at queues p))
-  where
-    left : AreAllTold (without_below queues p)
-    left = each-filter path_cmp_total (λ e. AreTold e.0 e.1) (λ e. not (is_below e.0 p)) queues t
-
-    by : (b : Bool) → AreAllTold (cond b (without_queue (without_below queues p) p) (with_queue (without_below queues p) p (x ∷ [])))
-    by true = each-remove_entry path_cmp_total (λ e. AreTold e.0 e.1) (is_at (path_cmp p)) (without_below queues p) left
-    by false = told-set (without_below queues p) p (x ∷ []) left (h, tt)
+told-removal queues p x t h = each-removal AreTold queues p x t (h, tt)
 
 -- .. after a tick
 pub told-rests : (due : Timed → Bool) (queues : Queues) → AreAllTold queues → AreAllTold (rests due queues)
-told-rests due [] t = t
-told-rests due (e ∷ queues) t = by (waits (rest_after due e.1)) (told-rests due queues t.1)
-  where
-    by : (b : Bool) → AreAllTold (rests due queues) → AreAllTold (cond b ((e.0, rest_after due e.1) ∷ rests due queues) (rests due queues))
-    by true h = (told-rest e.0 due e.1 t.0, h)
-    by false h = h
+told-rests due queues t = each-rests AreTold due queues (λ p q a. each_late due (IsTold p) q a) t
 
 -- .. where nothing waits
 pub told-none : (queues : Queues) → waiting_in queues ≡ 0 → AreAllTold queues
-told-none [] h = tt
-told-none (e ∷ queues) h = (by e.1 (omega (arith, sum_by-cons length e.1 (values_of queues))), told-none queues (omega (arith, sum_by-cons length e.1 (values_of queues))))
-  where
-    by : (xs : List Timed) → length xs ≡ 0 → AreTold e.0 xs
-    by [] l = tt
-    by (x ∷ xs) l = absurd (omega arith)
+told-none queues h = each-none AreTold queues (λ p. tt) h
 
 -- ---- an event that was just pushed
 
@@ -302,7 +244,7 @@ found-pushed queues p x t h = by (queue_at queues p) refl
     by (Some q) e = at (was_created q) refl (is_skippable x.event.kind)
       where
         at : (c : Bool) → was_created q ≡ c → (k : Bool) → list_any f (events_at (cond (k && c) queues (with_queue queues p (q ++ x ∷ []))) p) ≡ true
-        at true c true = rw e (created_holds p x.event.kind q (told-found queues p q t e) c)
+        at true c true = rw e (created_holds p x.event.kind q (each-found AreTold queues p q t e) c)
         at true c false = rw (lookup-insert_same path_cmp_total queues p (q ++ x ∷ [])) (last q)
         at false c true = rw (lookup-insert_same path_cmp_total queues p (q ++ x ∷ [])) (last q)
         at false c false = rw (lookup-insert_same path_cmp_total queues p (q ++ x ∷ [])) (last q)

@@ -10,16 +10,15 @@ use Rattle.debounce_model.specs.Cache.{Rules}
 use Rattle.debounce_model.specs.Command.{CommandValue, EventCommand, ReplyValue, TakenReply, BatchReply}
 use Rattle.debounce_model.specs.Kept.{tells_rename, has_rename, takes_away, is_among, is_waiting, is_handed_out, is_change_kept, is_kept_at, tells_change, is_event_kept, is_kept}
 use Rattle.debounce_model.specs.Play.{accepted}
-use Rattle.debounce_model.specs.RenameSlot.{first_half}
 use Rattle.debounce_model.specs.Run.{Step, Run}
-use Rattle.debounce_model.specs.State.{Core, waiting, case_of, queues_after}
-use Rattle.debounce_model.proofs.KeptQueues.{AreAllTold, told-none}
-use Rattle.debounce_model.proofs.KeptSteps.{step_effect, told_after, found_after, change_found, neither}
+use Rattle.debounce_model.specs.State.{Core, waiting}
+use Rattle.debounce_laws.proofs.KeptQueues.{AreAllTold, told-none}
+use Rattle.debounce_laws.proofs.KeptSteps.{step_effect, told_after, found_after, change_found, neither}
 
 -- ---- a run by its first command
 
 -- what was accepted, of the first command and of the others
-accepted-cons : (c : CommandValue) (y : ReplyValue) (cs : List CommandValue) (ys : List ReplyValue) → accepted (c ∷ cs) (y ∷ ys) ≡ accepted (c ∷ []) (y ∷ []) ++ accepted cs ys
+pub accepted-cons : (c : CommandValue) (y : ReplyValue) (cs : List CommandValue) (ys : List ReplyValue) → accepted (c ∷ cs) (y ∷ ys) ≡ accepted (c ∷ []) (y ∷ []) ++ accepted cs ys
 accepted-cons (EventCommand event now exists) (TakenReply answer) cs ys = refl
 accepted-cons c y cs ys = refl
 
@@ -79,9 +78,7 @@ event_kept r s m t event now exists answer cs ys step run told after calm rest =
     by false h ps e = refl
     by true h [] e = refl
     by true h (p ∷ ps) e =
-        let half = first_half s.state.rename_slot event m.answer in
-        let queues = ap (λ k. k.queues) step.0.state ∙ ap (queues_after (case_of event exists) s.state.queues (record { event = event; time = now }) half) e in
-        carried r p event.kind m t cs ys run after rest (rw queues (change_found event now exists s.state.queues half p ps e calm h told))
+        carried r p event.kind m t cs ys run after rest (rw (ap (λ k. k.queues) step.0.state) (change_found s.state event now exists m.answer p ps e calm h told))
 
 -- each change that the events of a run told is kept, where the queues hold only what told something
 kept : {C : Type 0} (r : Rules C) (s t : Core C) (cs : List CommandValue) (ys : List ReplyValue) → Run r s cs ys t → AreAllTold s.state.queues → has_rename cs ys ≡ false → is_kept cs ys t.state ≡ true
