@@ -4,9 +4,10 @@ ghost use Rattle.std.specs.Cmp.{partial_equiv_from_equiv};
 ghost use Rattle.notify_paths.specs.Errors.{out_of_memory};
 ghost use Rattle.debounce_model.specs.Equality.{events_eq};
 ghost use Rattle.debounce_model.specs.EqualityLaws.{events_eq_equiv};
-ghost use Rattle.debounce_model.specs.Queues.{was_created, was_removed, appended, skips, creates, removes, is_front_due, rest_after, waits};
+ghost use Rattle.debounce_model.specs.Queues.{was_created, was_removed, appended, skips, creates, removes};
+ghost use Rattle.debounce_model.specs.Due.{is_front_due, rest_after, waits};
 ghost use Rattle.debounce_model.specs.Rename.{without_last, without_both, staying};
-ghost use Rattle.debounce_model.proofs.RenameMoves.{one_or_none};
+ghost use Rattle.debounce_model.specs.MapSteps.{one_or_none};
 ghost use Rattle.debounce_core.specs.Due.{is_due};
 ghost use Rattle.debounce_core.specs.Target.{target_of};
 
@@ -108,6 +109,13 @@ impl<A: Allocator> Queue<A> {
         self.events.as_slice()
     }
 
+    /// Whether something waits.
+    pub(crate) fn waits(&self) -> bool
+        ensures { result ≡ waits self.now }
+    {
+        !self.events.as_slice().is_empty()
+    }
+
     /// Whether the first event is due.
     pub(crate) fn is_front_due(&self, due: Due) -> bool
         ensures { result ≡ is_front_due (is_due due) self.now }
@@ -122,7 +130,7 @@ impl<A: Allocator> Queue<A> {
     pub(crate) fn append(&mut self, event: DebouncedEvent<A>) -> Result<(), AllocError>
         ensures ok { OnOk result (self.new ≡ appended self.old event) }
         ensures err { OnErr result (self.new ≡ self.old) }
-        ensures grown { OnErr result (skips self.old event ≡ false) }
+        ensures grown { OnErr result (skips self.old event.event.kind ≡ false) }
     {
         if event.kind().is_skippable() && self.was_created() {
             return Ok(());
