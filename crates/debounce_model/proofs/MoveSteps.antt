@@ -151,6 +151,23 @@ queue-reserved_all queues (e ∷ es) q h = by (is_at (path_cmp q) e.0) refl h (q
     by true i h more = cc
     by false i h more = more h ∙ room-other queues e.0 q i
 
+-- room leaves what waits at each path
+events-reserved : (queues : Queues) (p q : PathValue) → events_at (reserved queues p) q ≡ events_at queues q
+events-reserved queues p q = by (is_at (path_cmp q) p) refl
+  where
+    here : (o : Option (List Timed)) → queue_at queues p ≡ o → events_at (reserved_on queues p o) p ≡ unwrap_or o []
+    here None h = ap (λ o. unwrap_or o []) (lookup-insert_same path_cmp_total queues p [])
+    here (Some x) h = ap (λ o. unwrap_or o []) h
+
+    by : (b : Bool) → is_at (path_cmp q) p ≡ b → events_at (reserved queues p) q ≡ events_at queues q
+    by true i = rw (same_at q p i) (here (queue_at queues p) refl)
+    by false i = ap (λ o. unwrap_or o []) (room-other queues p q i)
+
+-- .. for however many
+pub events-reserved_all : (queues es : Queues) (q : PathValue) → events_at (reserved_all queues es) q ≡ events_at queues q
+events-reserved_all queues [] q = refl
+events-reserved_all queues (e ∷ es) q = events-reserved_all (reserved queues e.0) es q ∙ events-reserved queues e.0 q
+
 -- ---- what is stale
 
 -- without some paths the order of the others stays

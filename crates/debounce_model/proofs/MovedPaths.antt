@@ -1,11 +1,11 @@
 -- Paths below a renamed path, before and after the rename.
-use Rattle.std.proofs.Common.{◌≡◌, Bool, true, false, not, ◌&&◌, ◌||◌, [], ◌∷◌, ◌++◌, length, take, drop, refl, ap, sym, ◌∙◌, true≢false}
+use Rattle.std.proofs.Common.{◌≡◌, ◌<◌, arith, Bool, true, false, not, ◌&&◌, ◌||◌, [], ◌∷◌, ◌++◌, length, take, drop, refl, ap, sym, ◌∙◌, true≢false}
 use Rattle.std.specs.declared.cmp.Ordering.TheVariants.{Equal}
 use Rattle.std.specs.BTreeMap.{is_at}
 use Rattle.std.proofs.Math.Seq.{take-append_seam, drop-append_seam}
 use Rattle.std.proofs.lemmas.List.{take-append-drop}
 use Rattle.std.proofs.lemmas.Cmp.{tied_itself}
-use Rattle.notify_paths.specs.Path.{PathValue, part_cmp, part_eq, path_cmp, path_eq, is_prefix, is_below}
+use Rattle.notify_paths.specs.Path.{PathValue, PartValue, part_cmp, part_eq, path_cmp, path_eq, is_prefix, is_below}
 use Rattle.notify_paths.specs.PathMoves.{in_place}
 use Rattle.notify_paths.specs.PathLaws.{part_cmp_total, part_eq_equiv, part_eq_decides, path_eq_equiv, path_eq_decides, path_matches_eq}
 use Rattle.debounce_model.specs.Moved.{are_apart}
@@ -97,3 +97,12 @@ not_at_both f t p h i = untrue (is_prefix t p) (λ k. no (is_prefix f t) (is_pre
     no true b h c = true≢false (sym h)
     no false true h c = true≢false (sym h)
     no false false h c = true≢false (sym c)
+
+-- a path that nothing lies apart from is the empty one: the target of a rename that moves queues is not
+pub apart_target : (f t : PathValue) → are_apart f t ≡ true → 0 < length t
+apart_target f [] h = by (is_prefix f []) h
+  where
+    by : (b : Bool) → (not b && false) ≡ true → 0 < length {A = PartValue} []
+    by true h = absurd (true≢false (sym h))
+    by false h = absurd (true≢false (sym h))
+apart_target f (x ∷ t) h = omega arith

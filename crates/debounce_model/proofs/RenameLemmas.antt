@@ -57,7 +57,7 @@ no_both-first [] k = tt
 no_both-first (x ∷ xs) k = k.1
 
 -- a joined rename stays in front among the first events
-in_front-take : (n : ℕ) (xs : List Timed) → IsBothInFront xs → IsBothInFront (take n xs)
+pub in_front-take : (n : ℕ) (xs : List Timed) → IsBothInFront xs → IsBothInFront (take n xs)
 in_front-take zero xs k = tt
 in_front-take (suc n) [] k = tt
 in_front-take (suc n) (x ∷ xs) k = by (is_removal x.event.kind) k
@@ -243,7 +243,7 @@ good-left queues f n m None g law b =
 good-left queues f n m (Some x) g law b = good-set queues f (x ∷ []) n m g (queue_of_one f x (law x refl)) (omega (arith, b))
 
 -- what waits at a path is kept by it, and has a joined rename in front at most
-events_law : (queues : Queues) (f : PathValue) → AreQueues queues → IsKeyed f (events_at queues f) × IsBothInFront (events_at queues f)
+pub events_law : (queues : Queues) (f : PathValue) → AreQueues queues → IsKeyed f (events_at queues f) × IsBothInFront (events_at queues f)
 events_law queues f a = by (queue_at queues f) refl
   where
     by : (o : Option (List Timed)) → queue_at queues f ≡ o → IsKeyed f (unwrap_or o []) × IsBothInFront (unwrap_or o [])

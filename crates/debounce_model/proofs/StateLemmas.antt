@@ -1,5 +1,5 @@
 -- What an event and a tick keep of a state: the laws in the type of the core.
-use Rattle.std.proofs.Common.{◌≡◌, ℕ, ◌+◌, ◌≤◌, Bool, true, false, ◌||◌, cond, List, [], ◌∷◌, ◌++◌, refl, ap, sym, ◌∙◌, Option, Some, None, true≢false, arith, length, length-append}
+use Rattle.std.proofs.Common.{◌≡◌, ℕ, ◌+◌, ◌≤◌, ◌<◌, Bool, true, false, ◌||◌, cond, List, [], ◌∷◌, ◌++◌, refl, ap, sym, ◌∙◌, Option, Some, None, true≢false, arith, length, length-append}
 use Rattle.std.specs.Map.{values_of}
 use Rattle.std.specs.List.{list_any}
 use Rattle.std.proofs.lemmas.List.Sums.{sum_by-cons}
@@ -19,14 +19,14 @@ use Rattle.debounce_model.specs.Queues.{Queues, waiting_in}
 use Rattle.debounce_model.specs.Rename.{is_both}
 use Rattle.debounce_model.specs.RenameSlot.{first_half}
 use Rattle.debounce_model.specs.State.{State, held}
-use Rattle.debounce_model.specs.Table.{case_of, renamed_to, raised_event, taken_step, event_step, row}
+use Rattle.debounce_model.specs.Table.{case_of, FitsCase, renamed_to, raised_event, taken_as, taken_step, event_step}
 use Rattle.debounce_model.specs.Tick.{due_of, rest_of, places, is_slot_due, is_expired_in, tick_step, IsBatch}
 use Rattle.debounce_model.specs.WellFormed.{IsFirst, IsKeyed, IsNonempty, HasNoBoth, IsBothInFront, AreQueues, IsWellFormed}
 use Rattle.debounce_model.proofs.Entries.{sorted-changed}
 use Rattle.debounce_model.proofs.GoodQueues.{IsBothFirst, IsBothBehind, AreGood, good-more, good-push, good-removal}
 use Rattle.debounce_model.proofs.OrderLemmas.{length-placed}
 use Rattle.debounce_model.proofs.QueueLemmas.{quiet}
-use Rattle.debounce_model.proofs.TableLemmas.{acts, acting_event}
+use Rattle.debounce_model.proofs.TableLemmas.{first_is, case_fits}
 use Rattle.debounce_model.proofs.MovedLemmas.{good-joined}
 
 -- ---- an event
@@ -40,9 +40,9 @@ good-renamed queues path x (Some (from, time)) n g b f = good-joined queues from
 one_more : (s t : State) → IsWellFormed s → AreGood t.queues (waiting_in s.queues + 1) → t.rescan_slot ≡ s.rescan_slot → t.given ≡ s.given → t.taken ≡ s.taken + 1 → IsWellFormed t
 one_more s t w g r h k = record { queues = g.kept; ordered = g.ordered; bounded = rw (r, h, k) (omega (arith, g.bounded, w.bounded)) }
 
--- an event that is taken at its time keeps the laws of a state
-pub well_formed-taken : (s : State) (x : Timed) (exists : Bool) (answer : Option FileId) → IsWellFormed s → IsWellFormed (taken_step s x exists answer)
-well_formed-taken s x exists answer w = by (case_of x.event exists) (acting_event x exists)
+-- an event that is taken in its case keeps the laws of a state
+well_formed-as : (case : Case) (s : State) (x : Timed) (answer : Option FileId) → FitsCase case x.event → IsWellFormed s → IsWellFormed (taken_as case s x answer)
+well_formed-as case s x answer fits w = by case fits
   where
     n : ℕ
     n = waiting_in s.queues
@@ -53,14 +53,27 @@ well_formed-taken s x exists answer w = by (case_of x.event exists) (acting_even
     good : AreGood s.queues n
     good = record { kept = w.queues; ordered = w.ordered; bounded = omega arith }
 
-    by : (c : Case) → (acts c ≡ true → (is_both x ≡ false) × IsFirst path x.event.paths) → IsWellFormed (record (row c s x path answer) { latest = x.time; taken = s.taken + 1 })
+    first : 0 < length x.event.paths → IsFirst path x.event.paths
+    first h = first_is x.event.paths h
+
+    by : (c : Case) → FitsCase c x.event → IsWellFormed (taken_as c s x answer)
     by Rescan h = record { queues = w.queues; ordered = w.ordered; bounded = omega (arith, w.bounded) }
-    by Creation h = one_more s _ w (good-push s.queues path x n good (h refl).0 (h refl).1) refl refl refl
-    by Removal h = one_more s _ w (good-removal s.queues path x n good (h refl).0 (h refl).1) refl refl refl
-    by RenameFrom h = one_more s _ w (good-push s.queues path x n good (h refl).0 (h refl).1) refl refl refl
-    by RenameTo h = one_more s _ w (good-renamed s.queues path x (first_half s.rename_slot x.event answer) n good (h refl).0 (h refl).1) refl refl refl
-    by Plain h = one_more s _ w (good-push s.queues path x n good (h refl).0 (h refl).1) refl refl refl
+    by Creation h = one_more s _ w (good-push s.queues path x n good h.1 (first h.0)) refl refl refl
+    by Removal h = one_more s _ w (good-removal s.queues path x n good h.1 (first h.0)) refl refl refl
+    by RenameFrom h = one_more s _ w (good-push s.queues path x n good h.1 (first h.0)) refl refl refl
+    by RenameTo h = one_more s _ w (good-renamed s.queues path x (first_half s.rename_slot x.event answer) n good h.1 (first h.0)) refl refl refl
+    by Plain h = one_more s _ w (good-push s.queues path x n good h.1 (first h.0)) refl refl refl
     by Ignored h = one_more s _ w (good-more s.queues n (n + 1) good (omega arith)) refl refl refl
+
+-- .. also a state that has the same queues, rescan slot and counts
+pub well_formed_after : (case : Case) (s t : State) (x : Timed) (answer : Option FileId) → FitsCase case x.event → IsWellFormed s → t.queues ≡ (taken_as case s x answer).queues → t.rescan_slot ≡ (taken_as case s x answer).rescan_slot → t.given ≡ (taken_as case s x answer).given → t.taken ≡ s.taken + 1 → IsWellFormed t
+well_formed_after case s t x answer fits w queues slot given taken =
+    let v = well_formed-as case s x answer fits w in
+    record { queues = rw queues v.queues; ordered = rw queues v.ordered; bounded = rw (queues, slot, given, taken) v.bounded }
+
+-- an event that is taken at its time keeps the laws of a state
+pub well_formed-taken : (s : State) (x : Timed) (exists : Bool) (answer : Option FileId) → IsWellFormed s → IsWellFormed (taken_step s x exists answer)
+well_formed-taken s x exists answer w = well_formed-as (case_of x.event exists) s x answer (case_fits x exists) w
 
 -- .. at the moment to which it is raised
 pub well_formed_event : (s : State) (event : EventValue) (now : ℕ) (exists : Bool) (answer : Option FileId) → IsWellFormed s → IsWellFormed (event_step s event now exists answer)
@@ -152,7 +165,7 @@ nonempty-waits [] h = cc
 nonempty-waits (x ∷ q) h = tt
 
 -- the rests of queues are queues
-kept-rests : (due : Timed → Bool) (queues : Queues) → AreQueues queues → AreQueues (rests due queues)
+pub kept-rests : (due : Timed → Bool) (queues : Queues) → AreQueues queues → AreQueues (rests due queues)
 kept-rests due [] a = a
 kept-rests due (e ∷ queues) a = by (waits (rest_after due e.1)) refl (kept-rests due queues a.1)
   where

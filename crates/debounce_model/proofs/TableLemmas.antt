@@ -1,5 +1,5 @@
 -- Laws of the step table: the case of an event by its first path, and what a case may change.
-use Rattle.std.proofs.Common.{◌≡◌, Bool, true, false, cond, List, [], ◌∷◌, refl, sym, Option, Some, None, is_some, true≢false}
+use Rattle.std.proofs.Common.{◌≡◌, ◌<◌, Bool, true, false, cond, List, [], ◌∷◌, length, refl, sym, Option, Some, None, is_some, true≢false, arith}
 use Rattle.std.specs.Prelude.{slice_get}
 use Rattle.notify_types.specs.Event.{Timed, first_of}
 use Rattle.notify_paths.specs.Path.{PathValue}
@@ -8,11 +8,11 @@ use Rattle.notify_types.specs.declared.kind.EventKind.TheVariants.{Modify}
 use Rattle.notify_types.specs.declared.kind.ModifyKind.TheVariants as modify
 use Rattle.notify_types.specs.declared.kind.RenameMode.TheVariants as rename
 use Rattle.debounce_model.specs.declared.case.Case.{Case}
-use Rattle.debounce_model.specs.declared.case.Case.TheVariants.{Rescan, Ignored}
+use Rattle.debounce_model.specs.declared.case.Case.TheVariants.{Rescan, Creation, Removal, RenameFrom, RenameTo, Plain, Ignored}
 use Rattle.debounce_model.specs.declared.file_id.FileId.{FileId}
 use Rattle.debounce_model.specs.Rename.{is_both, is_both_kind}
 use Rattle.debounce_model.specs.State.{State}
-use Rattle.debounce_model.specs.Table.{kind_case, unflagged_case, case_of, row, taken_step}
+use Rattle.debounce_model.specs.Table.{kind_case, unflagged_case, case_of, FitsCase, row, taken_step}
 use Rattle.debounce_model.specs.WellFormed.{IsFirst}
 
 -- the first of some paths is the first that is found
@@ -49,6 +49,32 @@ acting_event x exists h = by (is_some x.event.attrs.flag) x.event.paths h
     by true ps h = absurd (true≢false (sym h))
     by false [] h = absurd (true≢false (sym h))
     by false (p ∷ ps) h = (not_both x.event.kind exists h, refl)
+
+-- there is a first path where there is a path
+pub first_is : (ps : List PathValue) → 0 < length ps → IsFirst (first_of ps) ps
+first_is [] h = absurd (omega (arith, h))
+first_is (p ∷ ps) h = refl
+
+-- paths with a first one are some
+has_first : (ps : List PathValue) (p : PathValue) → IsFirst p ps → 0 < length ps
+has_first [] p h = absurd h
+has_first (q ∷ ps) p h = omega arith
+
+-- each event fits its case
+pub case_fits : (x : Timed) (exists : Bool) → FitsCase (case_of x.event exists) x.event
+case_fits x exists = by (case_of x.event exists) (acting_event x exists)
+  where
+    fits : (is_both x ≡ false) × IsFirst (first_of x.event.paths) x.event.paths → (0 < length x.event.paths) × (is_both_kind x.event.kind ≡ false)
+    fits h = (has_first x.event.paths (first_of x.event.paths) h.1, h.0)
+
+    by : (c : Case) → (acts c ≡ true → (is_both x ≡ false) × IsFirst (first_of x.event.paths) x.event.paths) → FitsCase c x.event
+    by Rescan h = tt
+    by Creation h = fits (h refl)
+    by Removal h = fits (h refl)
+    by RenameFrom h = fits (h refl)
+    by RenameTo h = fits (h refl)
+    by Plain h = fits (h refl)
+    by Ignored h = tt
 
 -- no kind is a rescan
 kind_stays : (k : EventKind) (exists : Bool) (s : State) (x : Timed) (path : PathValue) (answer : Option FileId) → (row (kind_case k exists) s x path answer).rescan_slot ≡ s.rescan_slot

@@ -37,9 +37,13 @@ row_calls RenameTo s e path =
 row_calls Plain s e path = Ask path (add_missing path (recursive_mode s path))
 row_calls Ignored s e path = Answer None
 
+-- the calls of an event of this case
+abbrev pub case_calls : Case → State → EventValue → Plan
+case_calls case s e = row_calls case s e (first_of e.paths)
+
 -- the calls of an event, whose first path exists or not
 abbrev pub calls_of : State → EventValue → Bool → Plan
-calls_of s e exists = row_calls (case_of e exists) s e (first_of e.paths)
+calls_of s e exists = case_calls (case_of e exists) s e
 
 -- the calls of a path that becomes a root: none if an equal path is one
 abbrev pub root_calls : State → PathValue → RecursiveMode → Plan

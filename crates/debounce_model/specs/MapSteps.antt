@@ -1,13 +1,14 @@
 -- How the code makes a joined rename in its map: words for the contracts of its private functions. No definition of
 -- what a debouncer does cites them.
-use Rattle.std.specs.Prelude.{◌≡◌, true, List, [], ◌∷◌, Option, Some, None, is_some, filter, if◌then◌else◌}
+use Rattle.std.specs.Prelude.{ℕ, ◌≡◌, true, List, [], ◌∷◌, ◌++◌, map, Option, Some, None, is_some, filter, if◌then◌else◌}
 use Rattle.std.specs.List.{AllByRecursion}
-use Rattle.notify_types.specs.Event.{Timed}
+use Rattle.notify_types.specs.Event.{Timed, AttributesValue}
 use Rattle.notify_paths.specs.Path.{PathValue}
 use Rattle.notify_paths.specs.PathMoves.{in_place}
 use Rattle.debounce_model.specs.Due.{waits}
 use Rattle.debounce_model.specs.Moved.{below_of}
-use Rattle.debounce_model.specs.Queues.{Queues, queue_at, with_queue, without_queue}
+use Rattle.debounce_model.specs.Queues.{Queues, queue_at, events_at, with_queue, without_queue}
+use Rattle.debounce_model.specs.Rename.{without_last, original_path, original_time, at_path, renaming, overriding}
 
 -- the queue of what stays at the source of a rename: of one event, or none
 abbrev pub queue_of : Option Timed → Option (List Timed)
@@ -18,6 +19,17 @@ queue_of (Some x) = Some (x ∷ [])
 abbrev pub one_or_none : Option Timed → List Timed
 one_or_none None = []
 one_or_none (Some x) = x ∷ []
+
+-- what waits at a path before the first half of a rename, which came last
+abbrev pub before_half : Queues → PathValue → List Timed
+before_half queues path = without_last (events_at queues path)
+
+-- what then waits at t, of an earlier rename, of what goes along, and of what waits at t
+abbrev pub arrived_of : Option Timed → List Timed → Option (List Timed) → PathValue → PathValue → ℕ → AttributesValue → List Timed
+arrived_of earlier going target f t time attrs =
+    let moved = map (at_path t) going in
+    overriding t (original_time earlier time) target
+    ++ (renaming (original_path earlier f) t attrs (original_time earlier time) moved ++ moved)
 
 -- the queues with an empty one at this path, if it has none
 abbrev pub reserved_on : Queues → PathValue → Option (List Timed) → Queues
@@ -40,6 +52,10 @@ nonempty_of queues = filter (λ e. waits e.1) queues
 -- each path of these has a queue
 abbrev pub HasRoom : Queues → Queues → Type 0
 HasRoom queues es = AllByRecursion (λ e. is_some (queue_at queues e.0) ≡ true) es
+
+-- the path below t, if nothing is at the same place below f
+abbrev pub stale_one : Queues → PathValue → PathValue → PathValue → List PathValue
+stale_one queues f t path = if is_some (queue_at queues (in_place t f path)) then [] else path ∷ []
 
 -- the paths of these queues that have nothing at the same place below f
 abbrev pub stale_in : Queues → PathValue → PathValue → Queues → List PathValue

@@ -1,8 +1,6 @@
 -- Which events take no memory.
 use Rattle.std.specs.Prelude.{Bool, true, false, ◌&&◌, ◌||◌}
 use Rattle.notify_types.specs.Event.{EventValue, first_of}
-use Rattle.notify_paths.specs.Path.{PathValue}
-use Rattle.notify_types.specs.declared.kind.EventKind.{EventKind}
 use Rattle.debounce_model.specs.declared.case.Case.{Case}
 use Rattle.debounce_model.specs.declared.case.Case.TheVariants.{Rescan, Creation, Removal, RenameFrom, RenameTo, Plain, Ignored}
 use Rattle.debounce_model.specs.Calls.{is_silent, calls_of}
@@ -10,20 +8,28 @@ use Rattle.debounce_model.specs.Queues.{was_created_at, skips_at, Queues, queue_
 use Rattle.debounce_model.specs.State.{State}
 use Rattle.debounce_model.specs.Table.{case_of}
 
--- the row of a case: an event of this kind, with this first path, needs no memory for the state. That is so for a
--- rescan, a push that is skipped, a removal that cancels a creation, and what is ignored
-abbrev pub row_grows_nothing : Case → Queues → PathValue → EventKind → Bool
-row_grows_nothing Rescan queues path k = true
-row_grows_nothing Creation queues path k = skips_at (queue_at queues path) k
-row_grows_nothing Removal queues path k = was_created_at (queue_at queues path)
-row_grows_nothing RenameFrom queues path k = false
-row_grows_nothing RenameTo queues path k = false
-row_grows_nothing Plain queues path k = skips_at (queue_at queues path) k
-row_grows_nothing Ignored queues path k = true
+-- the queue of the event's first path, if there is one, skips it
+abbrev pub skips_it : Queues → EventValue → Bool
+skips_it queues e = skips_at (queue_at queues (first_of e.paths)) e.kind
+
+-- the event's first path has a queue that was created: a removal cancels it
+abbrev pub cancels : Queues → EventValue → Bool
+cancels queues e = was_created_at (queue_at queues (first_of e.paths))
+
+-- the row of a case: the event needs no memory for the state. That is so for a rescan, a push that is skipped, a
+-- removal that cancels a creation, and what is ignored
+abbrev pub row_grows_nothing : Case → Queues → EventValue → Bool
+row_grows_nothing Rescan queues e = true
+row_grows_nothing Creation queues e = skips_it queues e
+row_grows_nothing Removal queues e = cancels queues e
+row_grows_nothing RenameFrom queues e = false
+row_grows_nothing RenameTo queues e = false
+row_grows_nothing Plain queues e = skips_it queues e
+row_grows_nothing Ignored queues e = true
 
 -- an event, whose first path exists or not, needs no memory for the state
 abbrev pub grows_nothing : State → EventValue → Bool → Bool
-grows_nothing s e exists = row_grows_nothing (case_of e exists) s.queues (first_of e.paths) e.kind
+grows_nothing s e exists = row_grows_nothing (case_of e exists) s.queues e
 
 -- an event takes no memory, with a cache that refuses nothing or any other
 abbrev pub takes_no_memory : Bool → State → EventValue → Bool → Bool

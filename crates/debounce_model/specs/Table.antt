@@ -1,5 +1,5 @@
 -- The step table: the case of an event, and for each case a row that says what the event makes of the state.
-use Rattle.std.specs.Prelude.{◌+◌, ℕ, Bool, List, [], ◌∷◌, Option, Some, None, is_some, if◌then◌else◌}
+use Rattle.std.specs.Prelude.{◌≡◌, ◌<◌, ◌+◌, ℕ, Bool, false, length, List, [], ◌∷◌, Option, Some, None, is_some, if◌then◌else◌}
 use Rattle.notify_types.specs.Event.{EventValue, Timed, first_of}
 use Rattle.notify_paths.specs.Path.{PathValue}
 use Rattle.notify_types.specs.declared.kind.EventKind.{EventKind}
@@ -12,6 +12,7 @@ use Rattle.debounce_model.specs.declared.case.Case.TheVariants.{Rescan, Creation
 use Rattle.debounce_model.specs.declared.file_id.FileId.{FileId}
 use Rattle.debounce_model.specs.Moved.{joined_rename}
 use Rattle.debounce_model.specs.Queues.{push, Queues, removal}
+use Rattle.debounce_model.specs.Rename.{is_both_kind}
 use Rattle.debounce_model.specs.RenameSlot.{first_half}
 use Rattle.debounce_model.specs.State.{raised, State}
 
@@ -39,6 +40,12 @@ unflagged_case k (path ∷ paths) exists = kind_case k exists
 abbrev pub case_of : EventValue → Bool → Case
 case_of e exists = if is_some e.attrs.flag then Rescan else unflagged_case e.kind e.paths exists
 
+-- an event of this case may come: if it changes the queues it has a first path, and is no joined rename
+abbrev pub FitsCase : Case → EventValue → Type 0
+FitsCase Rescan e = Unit {0}
+FitsCase Ignored e = Unit {0}
+FitsCase case e = (0 < length e.paths) × (is_both_kind e.kind ≡ false)
+
 -- the second half of a rename is joined to the first half if there is one, which was at this path and time
 abbrev pub renamed_to : Queues → PathValue → Timed → Option (PathValue × ℕ) → Queues
 renamed_to queues path x None = push queues path x
@@ -56,12 +63,13 @@ row RenameTo s x path answer =
 row Plain s x path answer = record s { queues = push s.queues path x }
 row Ignored s x path answer = s
 
--- an event that is taken at its own time: the row of its case, and it is counted
+-- an event of this case that is taken at its own time: the row of the case, and it is counted
+abbrev pub taken_as : Case → State → Timed → Option FileId → State
+taken_as case s x answer = record (row case s x (first_of x.event.paths) answer) { latest = x.time; taken = s.taken + 1 }
+
+-- an event that is taken at its own time
 abbrev pub taken_step : State → Timed → Bool → Option FileId → State
-taken_step s x exists answer = record (row (case_of x.event exists) s x (first_of x.event.paths) answer) {
-  latest = x.time;
-  taken = s.taken + 1;
-}
+taken_step s x exists answer = taken_as (case_of x.event exists) s x answer
 
 -- an event that comes at this moment, with the moment at which it is taken
 abbrev pub raised_event : State → EventValue → ℕ → Timed

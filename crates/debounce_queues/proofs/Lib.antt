@@ -1,0 +1,2 @@
+mod RunLists
+mod TargetLemmas

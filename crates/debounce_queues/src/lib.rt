@@ -1,0 +1,24 @@
+//! What waits in a debouncer: a queue of events for each path.
+//!
+//! [`queues::Queues`] is a map that nobody else changes. An event is pushed, or it removes what is at
+//! its path, or it is the second half of a rename, which takes along what waits at its old path and
+//! below; a tick looks at what is due, copies it and drops it.
+//!
+//! ```text
+//! let mut queues = Queues::new(rt.alloc());
+//! queues.push(event)?;
+//! let mut places = Vec::new(rt.alloc());
+//! queues.add_places(&mut places, Due::Expired(50, 60))?;
+//! queues.trim(Due::Expired(50, 60));
+//! ```
+#![tactic(auto)]
+
+pub mod due;
+mod halves;
+mod joined;
+mod keep;
+mod moved;
+pub mod queue;
+pub mod queues;
+pub mod rename;
+mod room;

@@ -1,0 +1,269 @@
+//! The queues of all paths.
+ghost use Rattle.std.specs.Prelude.{◌≡◌, ◌++◌, ◌∷◌, ◌<◌, ◌^◌, [], OnOk, OnErr, IfOk, false, length};
+ghost use Rattle.notify_types.specs.Event.{first_of};
+ghost use Rattle.debounce_model.specs.Due.{place_list, rests, is_any_due, rest_after, waits};
+ghost use Rattle.debounce_model.specs.Memory.{skips_it, cancels};
+ghost use Rattle.debounce_model.specs.Queues.{queue_at, was_created_at, push, removal, waiting_in};
+ghost use Rattle.debounce_model.specs.Rename.{is_both_kind};
+ghost use Rattle.debounce_model.specs.Table.{renamed_to};
+ghost use Rattle.debounce_queues.specs.Due.{is_due};
+ghost use Rattle.debounce_queues.specs.Renames.{half_value, joined_to};
+
+use crate::due::{Due, add_last_of_kind, expired_count};
+use crate::joined::join;
+use crate::keep::{Change, change_values};
+use crate::queue::{Queue, QueueMap};
+use crate::rename::{FirstHalf, Rename};
+use crate::room::drop_queues_below;
+use debounce_model::case::first_path;
+use notify_paths::path::PathBuf;
+use notify_types::event::{DebouncedEvent, Event};
+use std::alloc::{AllocError, Allocator, Global};
+use std::collections::BTreeMap;
+use std::marker::Model;
+
+/// What waits, by paths: a map in which each queue has an event, is kept by its path, and has at most
+/// one joined rename, in front.
+#[derive(Drop)]
+pub struct Queues<A: Allocator = Global> {
+    map: QueueMap<A>,
+    alloc: A,
+}
+
+impl<A: Allocator> Model for Queues<A> {
+    ghost use Rattle.debounce_model.specs.Memory.{skips_it, cancels};
+    ghost use Rattle.debounce_model.specs.Queues.{Queues};
+    ghost use Rattle.debounce_model.specs.WellFormed.{IsQueueMap};
+
+    ghost Value = { Queues };
+
+    ghost view = { λ a. a.map.entries };
+
+    ghost invariant = { λ a. IsQueueMap a.map.entries };
+}
+
+impl<A: Allocator + Copy> Queues<A> {
+    /// Returns queues in which nothing waits.
+    pub fn new(alloc: A) -> Queues<A>
+        ensures { result ≡ [] }
+    {
+        Queues {
+            map: BTreeMap::new(alloc),
+            alloc,
+        }
+    }
+
+    /// The push: the event comes after the others of its first path, unless their queue skips it. If
+    /// the allocation fails, nothing has changed; none is needed for an event that is skipped.
+    pub fn push(&mut self, event: DebouncedEvent<A>) -> Result<(), AllocError>
+        requires path { 0 < length event.event.paths }
+        requires kind { is_both_kind event.event.kind ≡ false }
+        ensures ok { OnOk result (self.new ≡ push self.old (first_of event.event.paths) event) }
+        ensures err { OnErr result (self.new ≡ self.old) }
+        ensures grown { OnErr result (skips_it self.old event.event ≡ false) }
+    {
+        push(&mut self.map, self.alloc, event)?;
+        Ok(())
+    }
+
+    /// The removal of the event's first path: what waits below it is dropped; its own queue goes away
+    /// if it was created, and else becomes this one event. If the allocation fails, nothing has
+    /// changed; none is needed if the queue goes away.
+    pub fn remove(&mut self, event: DebouncedEvent<A>) -> Result<(), AllocError>
+        requires path { 0 < length event.event.paths }
+        requires kind { is_both_kind event.event.kind ≡ false }
+        ensures ok { OnOk result (self.new ≡ removal self.old (first_of event.event.paths) event) }
+        ensures err { OnErr result (self.new ≡ self.old) }
+        ensures grown { OnErr result (cancels self.old event.event ≡ false) }
+    {
+        remove(&mut self.map, self.alloc, event)?;
+        Ok(())
+    }
+
+    /// The second half of a rename to the event's first path. If there is a first half, it is what
+    /// came last at its path: what waits there, and below, goes to the new path. Else the event is
+    /// pushed. If an allocation fails, nothing has changed.
+    pub fn join(
+        &mut self,
+        half: Option<FirstHalf<'_, A>>,
+        event: DebouncedEvent<A>,
+    ) -> Result<(), AllocError>
+        requires path { 0 < length event.event.paths }
+        requires kind { is_both_kind event.event.kind ≡ false }
+        ensures ok { OnOk result (self.new ≡ renamed_to self.old (first_of event.event.paths) event (half_value half.entry)) }
+        ensures err { OnErr result (self.new ≡ self.old) }
+    {
+        match half {
+            None => self.push(event),
+            Some(half) => self.join_to(half, event),
+        }
+    }
+
+    fn join_to(
+        &mut self,
+        half: FirstHalf<'_, A>,
+        event: DebouncedEvent<A>,
+    ) -> Result<(), AllocError>
+        requires { 0 < length event.event.paths }
+        ensures ok { OnOk result (self.new ≡ joined_to self.old half.entry event) }
+        ensures err { OnErr result (self.new ≡ self.old) }
+    {
+        let Event { paths, attrs, .. } = event.event;
+        let rename = Rename {
+            from: half.from,
+            to: &paths[0],
+            time: half.time,
+            attrs,
+        };
+        join(&mut self.map, self.alloc, rename)?;
+        Ok(())
+    }
+
+    /// Whether the front of some queue is due.
+    pub fn is_any_due(&self, due: Due) -> bool
+        ensures { result ≡ is_any_due (is_due due) self.now }
+    {
+        is_any_due(&self.map, due)
+    }
+
+    /// Adds copies of what is due, in the order of the paths: of each queue's due beginning the
+    /// last of each kind.
+    pub fn add_places(
+        &self,
+        places: &mut Vec<DebouncedEvent<A>, A>,
+        due: Due,
+    ) -> Result<(), AllocError>
+        ensures { OnOk result (places.new.items ≡ places.old.items ++ place_list (is_due due) self.now) }
+    {
+        add_places(places, &self.map, due)
+    }
+
+    /// Drops the due beginning of each queue.
+    pub fn trim(&mut self, due: Due)
+        ensures { self.new ≡ rests (is_due due) self.old }
+    {
+        change_values(&mut self.map, &Trim { due });
+    }
+
+    /// Returns how many events wait.
+    pub fn waiting(&self) -> u64
+        requires { waiting_in self.now < 2 ^ 64 }
+        ensures { result ≡ waiting_in self.now }
+    {
+        waiting(&self.map)
+    }
+}
+
+fn is_any_due<A: Allocator>(queues: &QueueMap<A>, due: Due) -> bool
+    ensures { result ≡ is_any_due (is_due due) queues.now.entries }
+{
+    for (_path, queue) in queues {
+        if queue.is_front_due(due) {
+            return true;
+        }
+    }
+    false
+}
+
+fn waiting<A: Allocator>(queues: &QueueMap<A>) -> u64
+    requires { waiting_in queues.now.entries < 2 ^ 64 }
+    ensures { result ≡ waiting_in queues.now.entries }
+{
+    let mut count = 0;
+    for (_path, queue) in queues {
+        count += queue.events().len() as u64;
+    }
+    count
+}
+
+fn add_places<A: Allocator + Copy>(
+    places: &mut Vec<DebouncedEvent<A>, A>,
+    queues: &QueueMap<A>,
+    due: Due,
+) -> Result<(), AllocError>
+    ensures { OnOk result (places.new.items ≡ places.old.items ++ place_list (is_due due) queues.now.entries) }
+{
+    for (_path, queue) in queues {
+        let events = queue.events();
+        let count = expired_count(events, due);
+        add_last_of_kind(places, &events[..count])?;
+    }
+    Ok(())
+}
+
+/// Drops the due beginning of a queue.
+#[derive(Drop)]
+struct Trim {
+    due: Due,
+}
+
+impl<A: Allocator> Change<Queue<A>> for Trim {
+    ghost changed = { λ t events. rest_after (is_due t.due) events };
+
+    ghost stays = { λ t events. waits (rest_after (is_due t.due) events) };
+
+    fn change(&self, queue: &mut Queue<A>) -> bool {
+        queue.trim(self.due)
+    }
+}
+
+/// A queue of this event alone.
+fn single<A: Allocator>(alloc: A, event: DebouncedEvent<A>) -> Result<Queue<A>, AllocError>
+    ensures { IfOk result (λ queue. queue ≡ event ∷ []) }
+{
+    let mut events = Vec::with_capacity(alloc, 1)?;
+    events.push(event)?;
+    Ok(Queue::new(events))
+}
+
+fn push<A: Allocator + Copy>(
+    queues: &mut QueueMap<A>,
+    alloc: A,
+    event: DebouncedEvent<A>,
+) -> Result<(), AllocError>
+    requires { 0 < length event.event.paths }
+    ensures ok { OnOk result (queues.new.entries ≡ push queues.old.entries (first_of event.event.paths) event) }
+    ensures err { OnErr result (queues.new.entries ≡ queues.old.entries) }
+    ensures grown { OnErr result (skips_it queues.old.entries event.event ≡ false) }
+{
+    let path = first_path(&event);
+    if let Some(queue) = queues.get_mut(path) {
+        return queue.append(event);
+    }
+    let key = path.clone()?;
+    queues.insert(key, single(alloc, event)?)?;
+    Ok(())
+}
+
+/// Whether a queue waits at the path that was created.
+fn was_created_at<A: Allocator>(queues: &QueueMap<A>, path: &PathBuf<A>) -> bool
+    ensures { result ≡ was_created_at (queue_at queues.now.entries path.now) }
+{
+    match queues.get(path) {
+        Some(queue) => queue.was_created(),
+        None => false,
+    }
+}
+
+fn remove<A: Allocator + Copy>(
+    queues: &mut QueueMap<A>,
+    alloc: A,
+    event: DebouncedEvent<A>,
+) -> Result<(), AllocError>
+    requires { 0 < length event.event.paths }
+    ensures ok { OnOk result (queues.new.entries ≡ removal queues.old.entries (first_of event.event.paths) event) }
+    ensures err { OnErr result (queues.new.entries ≡ queues.old.entries) }
+    ensures grown { OnErr result (cancels queues.old.entries event.event ≡ false) }
+{
+    let path = first_path(&event);
+    if was_created_at(queues, path) {
+        drop_queues_below(queues, path);
+        queues.remove(path);
+        return Ok(());
+    }
+    let key = path.clone()?;
+    let folder = path.clone()?;
+    queues.insert(key, single(alloc, event)?)?;
+    drop_queues_below(queues, &folder);
+    Ok(())
+}
