@@ -1,17 +1,16 @@
 //! The state of a debouncer: what waits, and what is kept for later.
-ghost use Rattle.std.specs.Prelude.{◌≡◌, ◌<◌, ◌≤◌, ◌-◌, ◌^◌, ◌+◌, ◌||◌, ◌++◌, ◌∷◌, [], false, None, IfOk, IfErr, OnOk, OnErr, IsOk, List};
+ghost use Rattle.std.specs.Prelude.{◌≡◌, ◌<◌, ◌≤◌, ◌-◌, ◌^◌, ◌+◌, ◌||◌, false, None, IfOk, IfErr, OnOk, OnErr, IsOk};
 ghost use Rattle.notify_paths.specs.Errors.{out_of_memory};
-ghost use Rattle.notify_types.specs.Event.{Timed};
-ghost use Rattle.debounce_model.specs.Cache.{CarriesOut, Begins};
+ghost use Rattle.debounce_model.specs.Cache.{Completes, Begins};
 ghost use Rattle.debounce_model.specs.Calls.{recursive_mode, root_calls, unroot_calls};
 ghost use Rattle.debounce_model.specs.Due.{is_any_due};
 ghost use Rattle.debounce_model.specs.Memory.{row_grows_nothing};
-ghost use Rattle.debounce_model.specs.Order.{InBatchOrder};
+ghost use Rattle.debounce_model.specs.Order.{InBatchOrder, IsOnlyOrder};
 ghost use Rattle.debounce_model.specs.RenameSlot.{first_half};
 ghost use Rattle.debounce_model.specs.Roots.{has_root, with_root, without_roots};
-ghost use Rattle.debounce_model.specs.State.{counted_state, raised, waiting};
+ghost use Rattle.debounce_model.specs.State.{counted_state, raised, waiting, with_error, without_errors};
 ghost use Rattle.debounce_model.specs.Table.{FitsCase, taken_as};
-ghost use Rattle.debounce_model.specs.Tick.{is_slot_due, places, IsBatch, IsOutlook, tick_step, is_due as is_tick_due};
+ghost use Rattle.debounce_model.specs.Tick.{is_slot_due, places, IsBatch, IsOnlyBatch, IsOutlook, IsOnlyOutlook, tick_step, is_due as is_tick_due};
 ghost use Rattle.debounce_model.specs.WellFormed.{IsWellFormed};
 ghost use Rattle.debounce_model.specs.declared.case.Case.TheVariants.{Rescan, Creation, Removal, RenameFrom, RenameTo, Ignored};
 ghost use Rattle.debounce_queues.specs.Due.{is_due};
@@ -261,7 +260,7 @@ impl<A: Allocator + Copy> State<A> {
     /// Hands out what is expired at the moment, or at the latest one so far.
     pub(crate) fn tick(&mut self, now: Moment) -> Result<Vec<DebouncedEvent<A>, A>, Error<A>>
         ensures batch { IfOk result (λ batch. IsBatch self.old now batch.items) }
-        ensures only { IfOk result (λ batch. (other : List Timed) → IsBatch self.old now other → other ≡ batch.items) }
+        ensures only { IfOk result (λ batch. IsOnlyBatch self.old now batch.items) }
         ensures ok { IfOk result (λ batch. self.new ≡ tick_step self.old now batch.items) }
         ensures err { IfErr result (λ e. (e ≡ out_of_memory) × (self.new ≡ self.old)) }
         ensures sure { is_tick_due self.old now ≡ false → IsOk result }
@@ -283,7 +282,7 @@ impl<A: Allocator + Copy> State<A> {
     /// The batch that would be handed out if every event that waits were expired.
     pub(crate) fn outlook(&self) -> Result<Vec<DebouncedEvent<A>, A>, Error<A>>
         ensures outlook { IfOk result (λ batch. IsOutlook self.now batch.items) }
-        ensures only { IfOk result (λ batch. (other : List Timed) → IsOutlook self.now other → other ≡ batch.items) }
+        ensures only { IfOk result (λ batch. IsOnlyOutlook self.now batch.items) }
         ensures err { IfErr result (λ e. e ≡ out_of_memory) }
     {
         self.batch_of(Due::Always)
@@ -309,7 +308,7 @@ impl<A: Allocator + Copy> State<A> {
     /// Copies of what is due, in the order of a batch.
     fn batch_of(&self, due: Due) -> Result<Vec<DebouncedEvent<A>, A>, Error<A>>
         ensures order { IfOk result (λ batch. InBatchOrder (places (is_due due) self.now) batch.items) }
-        ensures only { IfOk result (λ batch. (other : List Timed) → InBatchOrder (places (is_due due) self.now) other → other ≡ batch.items) }
+        ensures only { IfOk result (λ batch. IsOnlyOrder (places (is_due due) self.now) batch.items) }
         ensures err { IfErr result (λ e. e ≡ out_of_memory) }
     {
         match self.places(due) {
@@ -319,7 +318,7 @@ impl<A: Allocator + Copy> State<A> {
     }
 
     pub(crate) fn add_error(&mut self, error: Error<A>) -> Result<(), Error<A>>
-        ensures ok { OnOk result (self.new ≡ record self.old { errors = self.old.errors ++ error ∷ [] }) }
+        ensures ok { OnOk result (self.new ≡ with_error self.old error) }
         ensures err { IfErr result (λ e. (e ≡ out_of_memory) × (self.new ≡ self.old)) }
     {
         match self.errors.push(error) {
@@ -330,7 +329,7 @@ impl<A: Allocator + Copy> State<A> {
 
     pub(crate) fn errors(&mut self) -> Vec<Error<A>, A>
         ensures errors { result.items ≡ self.old.errors }
-        ensures state { self.new ≡ record self.old { errors = [] } }
+        ensures state { self.new ≡ without_errors self.old }
     {
         replace(&mut self.errors, Vec::new(self.alloc))
     }
@@ -349,9 +348,9 @@ impl<A: Allocator + Copy> State<A> {
         mode: RecursiveMode,
     ) -> Result<(), Error<A>>
         ensures ok { OnOk result (self.new ≡ record self.old { roots = with_root self.old.roots path.now mode }) }
-        ensures calls { OnOk result (CarriesOut C.rules cache.old (root_calls self.old path.now mode) None cache.new) }
+        ensures calls { OnOk result (Completes C.rules cache.old (root_calls self.old.roots path.now mode) cache.new) }
         ensures err { OnErr result (self.new ≡ self.old) }
-        ensures begun { OnErr result (Begins C.rules cache.old (root_calls self.old path.now mode) cache.new) }
+        ensures begun { OnErr result (Begins C.rules cache.old (root_calls self.old.roots path.now mode) cache.new) }
         ensures memory { IfErr result (λ e. e ≡ out_of_memory) }
         ensures grown { OnErr result (has_root self.old.roots path.now ≡ false) }
     {
@@ -365,7 +364,7 @@ impl<A: Allocator + Copy> State<A> {
         path: &PathBuf<A>,
     ) -> Result<(), Error<A>>
         ensures ok { OnOk result (self.new ≡ record self.old { roots = without_roots self.old.roots path.now }) }
-        ensures calls { OnOk result (CarriesOut C.rules cache.old (unroot_calls path.now) None cache.new) }
+        ensures calls { OnOk result (Completes C.rules cache.old (unroot_calls path.now) cache.new) }
         ensures err { OnErr result (self.new ≡ self.old) }
         ensures begun { OnErr result (Begins C.rules cache.old (unroot_calls path.now) cache.new) }
         ensures memory { IfErr result (λ e. e ≡ out_of_memory) }

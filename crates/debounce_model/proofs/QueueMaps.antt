@@ -1,6 +1,6 @@
 -- What each change of the queues keeps: they are a map of queues. The type of the queues cites these laws.
 use Rattle.std.proofs.Common.{◌≡◌, ℕ, ◌<◌, Bool, false, length, arith}
-use Rattle.notify_paths.specs.Path.{PathValue, path_cmp}
+use Rattle.notify_paths.specs.Path.{PathValue}
 use Rattle.notify_paths.specs.PathLaws.{path_cmp_total}
 use Rattle.notify_types.specs.Event.{Timed, AttributesValue, first_of}
 use Rattle.debounce_model.specs.Due.{rests, rest_after, waits}

@@ -6,7 +6,7 @@ use Rattle.notify_types.specs.declared.event.RecursiveMode.{RecursiveMode}
 use Rattle.debounce_model.specs.declared.case.Case.{Case}
 use Rattle.debounce_model.specs.declared.case.Case.TheVariants.{Rescan, Creation, Removal, RenameFrom, RenameTo, Plain, Ignored}
 use Rattle.debounce_model.specs.declared.file_id.FileId.{FileId}
-use Rattle.debounce_model.specs.Cache.{AddPath, Ask, Plan, Answer, Make, RescanRoots, RemovePath}
+use Rattle.debounce_model.specs.Cache.{Roots, AddPath, Ask, Plan, Answer, Make, RescanRoots, RemovePath}
 use Rattle.debounce_model.specs.RenameSlot.{first_half}
 use Rattle.debounce_model.specs.Roots.{mode_in, has_root}
 use Rattle.debounce_model.specs.State.{State}
@@ -37,17 +37,17 @@ row_calls RenameTo s e path =
 row_calls Plain s e path = Ask path (add_missing path (recursive_mode s path))
 row_calls Ignored s e path = Answer None
 
--- the calls of an event of this case
-abbrev pub case_calls : Case → State → EventValue → Plan
-case_calls case s e = row_calls case s e (first_of e.paths)
+-- the calls of an event in this case
+abbrev pub calls_in : Case → State → EventValue → Plan
+calls_in case s e = row_calls case s e (first_of e.paths)
 
 -- the calls of an event, whose first path exists or not
 abbrev pub calls_of : State → EventValue → Bool → Plan
-calls_of s e exists = case_calls (case_of e exists) s e
+calls_of s e exists = calls_in (case_of e exists) s e
 
--- the calls of a path that becomes a root: none if an equal path is one
-abbrev pub root_calls : State → PathValue → RecursiveMode → Plan
-root_calls s path mode = if has_root s.roots path then Answer None else Make (AddPath path mode) (Answer None)
+-- the calls of a path that becomes a root beside these: none if an equal path is one
+abbrev pub root_calls : Roots → PathValue → RecursiveMode → Plan
+root_calls roots path mode = if has_root roots path then Answer None else Make (AddPath path mode) (Answer None)
 
 -- the calls of a path that is to be a root no longer
 abbrev pub unroot_calls : PathValue → Plan

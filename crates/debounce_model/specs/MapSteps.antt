@@ -8,7 +8,7 @@ use Rattle.notify_paths.specs.PathMoves.{in_place}
 use Rattle.debounce_model.specs.Due.{waits}
 use Rattle.debounce_model.specs.Moved.{below_of}
 use Rattle.debounce_model.specs.Queues.{Queues, queue_at, events_at, with_queue, without_queue}
-use Rattle.debounce_model.specs.Rename.{without_last, original_path, original_time, at_path, renaming, overriding}
+use Rattle.debounce_model.specs.Rename.{without_last, without_both, staying, left_behind, original_path, original_time, at_path, renaming, overriding}
 
 -- the queue of what stays at the source of a rename: of one event, or none
 abbrev pub queue_of : Option Timed → Option (List Timed)
@@ -23,6 +23,10 @@ one_or_none (Some x) = x ∷ []
 -- what waits at a path before the first half of a rename, which came last
 abbrev pub before_half : Queues → PathValue → List Timed
 before_half queues path = without_last (events_at queues path)
+
+-- the queues, with what a rename from the path leaves there
+abbrev pub left_at : Queues → PathValue → Queues
+left_at queues path = left_behind queues path (staying (without_both (before_half queues path)))
 
 -- what then waits at t, of an earlier rename, of what goes along, and of what waits at t
 abbrev pub arrived_of : Option Timed → List Timed → Option (List Timed) → PathValue → PathValue → ℕ → AttributesValue → List Timed

@@ -1,5 +1,5 @@
 -- The state of a debouncer, and the debouncer with its cache.
-use Rattle.std.specs.Prelude.{ℕ, max, ◌+◌, List, [], Option, Some, None}
+use Rattle.std.specs.Prelude.{ℕ, max, ◌+◌, List, [], ◌∷◌, ◌++◌, Option, Some, None}
 use Rattle.notify_paths.specs.Errors.{ErrorValue}
 use Rattle.notify_types.specs.Event.{Timed}
 use Rattle.debounce_model.specs.declared.file_id.FileId.{FileId}
@@ -52,8 +52,20 @@ waiting s = waiting_in s.queues + held s.rescan_slot
 abbrev pub raised : State → ℕ → ℕ
 raised s now = max s.latest now
 
+-- a state that keeps one more error
+abbrev pub with_error : State → ErrorValue → State
+with_error s error = record s { errors = s.errors ++ error ∷ [] }
+
+-- a state whose errors were asked for
+abbrev pub without_errors : State → State
+without_errors s = record s { errors = [] }
+
 -- a debouncer: its state, its cache, and the cache's answer of the last event that was taken
 pub record Core (C : Type 0) : Type 0 where
   pub state : State
   pub cache : C
   pub answer : Option FileId
+
+-- a debouncer in this state
+abbrev pub with_state : {C : Type 0} → Core C → State → Core C
+with_state core s = record core { state = s }

@@ -1,5 +1,5 @@
 -- One event, and one change of the roots, with what they do with the cache: taken, or refused.
-use Rattle.std.specs.Prelude.{◌≡◌, ◌≢◌, ◌-◌, ◌^◌, ℕ, Bool, false, None, []}
+use Rattle.std.specs.Prelude.{◌≡◌, ◌≢◌, ◌-◌, ◌^◌, ℕ, Bool, true, false, None, []}
 use Rattle.notify_paths.specs.Errors.{ErrorValue, ErrorKindValue, FullKind, MemoryKind, out_of_memory}
 use Rattle.notify_types.specs.Event.{EventValue}
 use Rattle.notify_paths.specs.Path.{PathValue}
@@ -29,6 +29,11 @@ module _ {C : Type 0} where
       × Begins r s.cache (calls_of s.state event exists) t.cache
   IsRefusedFor r s event exists kind t = ⊥
 
+  -- if this event can still be counted and takes no memory, that holds
+  abbrev pub IfSure : Rules C → Core C → EventValue → Bool → Type 0 → Type 0
+  IfSure r s event exists that =
+      s.state.taken ≢ 2 ^ 64 - 1 → takes_no_memory r.refuses_nothing s.state event exists ≡ true → that
+
   -- from s the event may be refused with this error, which carries no paths
   abbrev pub IsRefused : Rules C → Core C → EventValue → Bool → ErrorValue → Core C → Type 0
   IsRefused r s event exists error t = (error.paths ≡ []) × IsRefusedFor r s event exists error.kind t
@@ -44,12 +49,12 @@ module _ {C : Type 0} where
 
   -- the path is a root, and the others are as they were
   abbrev pub IsRooted : Rules C → Core C → PathValue → RecursiveMode → Core C → Type 0
-  IsRooted r s path mode t = IsRerooted r s (root_calls s.state path mode) (with_root s.state.roots path mode) t
+  IsRooted r s path mode t = IsRerooted r s (root_calls s.state.roots path mode) (with_root s.state.roots path mode) t
 
   -- the path was no root and did not become one, for want of memory
   abbrev pub IsRootRefused : Rules C → Core C → PathValue → RecursiveMode → ErrorValue → Core C → Type 0
   IsRootRefused r s path mode error t =
-      (error ≡ out_of_memory) × (has_root s.state.roots path ≡ false) × IsBegun r s (root_calls s.state path mode) t
+      (error ≡ out_of_memory) × (has_root s.state.roots path ≡ false) × IsBegun r s (root_calls s.state.roots path mode) t
 
   -- the roots at or below the path are gone
   abbrev pub IsUnrooted : Rules C → Core C → PathValue → Core C → Type 0

@@ -1,15 +1,18 @@
 -- A joined rename as the code has it: words for the contracts of its private functions.
-use Rattle.std.specs.Prelude.{ℕ, List, Option, option_copied}
+use Rattle.std.specs.Prelude.{◌≡◌, ℕ, List, Option, option_copied}
 use Rattle.std.specs.Option.{option_map}
 use Rattle.notify_types.specs.Event.{Timed, first_of}
 use Rattle.notify_paths.specs.Path.{PathValue}
 use Rattle.debounce_model.specs.MapSteps.{arrived_of}
 use Rattle.debounce_model.specs.Moved.{joined_rename}
 use Rattle.debounce_model.specs.Queues.{Queues}
+use Rattle.debounce_model.specs.Table.{renamed_to}
 use Rattle.debounce_model.specs.Rename.{original_path, original_time, renaming, joined_halves}
 use Rattle.debounce_queues.specs.declared.rename.FirstHalf.{FirstHalf}
 use Rattle.debounce_queues.specs.declared.rename.Rename.{Rename}
 use Rattle.debounce_queues.specs.declared.rename.Source.{Source}
+use Rattle.debounce_queues.specs.declared.rename.Target.{Target}
+use Rattle.debounce_queues.specs.Target.{target_of}
 
 module _ {Z : Type 0} where
   -- where it comes from
@@ -35,6 +38,11 @@ module _ {Z : Type 0} where
   arrived_by source waited rename =
       arrived_of (option_copied source.earlier) source.moving.now waited rename.from.now rename.to.now rename.time rename.attrs
 
+  -- what then waits at its target, which the code has told apart so
+  abbrev pub HasArrived : Source Z → Target → Rename Z → List Timed → Type 0
+  HasArrived source target rename queue =
+      (waited : Option (List Timed)) → target ≡ target_of waited → queue ≡ arrived_by source waited rename
+
   -- the first half of a rename: its path, and its time
   abbrev pub half_value : Option (FirstHalf Z) → Option (PathValue × ℕ)
   half_value half = option_map (λ h. (h.from.now, h.time)) half
@@ -42,3 +50,7 @@ module _ {Z : Type 0} where
   -- what the joined rename from this first half to the event's first path makes of all that waits
   abbrev pub joined_to : Queues → FirstHalf Z → Timed → Queues
   joined_to queues half x = joined_rename queues half.from.now (first_of x.event.paths) half.time x.event.attrs
+
+  -- what an event whose rename has this first half, or none, makes of all that waits
+  abbrev pub renamed_by : Queues → Option (FirstHalf Z) → Timed → Queues
+  renamed_by queues half x = renamed_to queues (first_of x.event.paths) x (half_value half)

@@ -1,15 +1,14 @@
 //! The joined rename at its two paths, in the map of the queues.
-ghost use Rattle.std.specs.Prelude.{◌≡◌, OnOk, OnErr, List, option_copied};
-ghost use Rattle.notify_types.specs.Event.{Timed};
+ghost use Rattle.std.specs.Prelude.{◌≡◌, OnOk, OnErr, option_copied};
 ghost use Rattle.std.specs.List.Sorted.{IsStrictlySortedBy};
 ghost use Rattle.std.specs.Map.{keys_of};
 ghost use Rattle.notify_paths.specs.Path.{path_cmp};
 ghost use Rattle.debounce_model.specs.Queues.{queue_at, with_queue, events_at};
-ghost use Rattle.debounce_model.specs.Rename.{first_both, without_both, staying, moving, left_behind};
-ghost use Rattle.debounce_model.specs.MapSteps.{before_half};
+ghost use Rattle.debounce_model.specs.Rename.{first_both, without_both, staying, moving};
+ghost use Rattle.debounce_model.specs.MapSteps.{before_half, left_at};
 ghost use Rattle.debounce_model.specs.WellFormed.{IsBothInFront};
 ghost use Rattle.debounce_queues.specs.Renames.{halves_by, source_path};
-ghost use Rattle.debounce_queues.specs.Target.{target_of, target_in};
+ghost use Rattle.debounce_queues.specs.Target.{target_of, IsTarget};
 
 use crate::queue::{Queue, QueueMap};
 use crate::rename::{Rename, Source, Target, arrived, as_target, source_of, without_last};
@@ -59,7 +58,7 @@ fn target<A: Allocator>(
     from: &PathBuf<A>,
     to: &PathBuf<A>,
 ) -> Target
-    ensures { (events : List Timed) → option_copied source.now.stays ≡ staying events → result ≡ target_in queues.now.entries from.now to.now (staying events) }
+    ensures { IsTarget queues.now.entries from.now to.now (option_copied source.now.stays) result }
 {
     if *from == *to {
         return source.as_target();
@@ -88,7 +87,7 @@ fn put<A: Allocator + Copy>(
 
 /// Takes from what waits at the path all but what a rename leaves there.
 fn leave<A: Allocator>(queues: &mut QueueMap<A>, path: &PathBuf<A>)
-    ensures { queues.new.entries ≡ left_behind queues.old.entries path.now (staying (without_both (before_half queues.old.entries path.now))) }
+    ensures { queues.new.entries ≡ left_at queues.old.entries path.now }
 {
     let stays = match queues.get_mut(path) {
         None => return,

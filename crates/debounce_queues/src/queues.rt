@@ -5,9 +5,8 @@ ghost use Rattle.debounce_model.specs.Due.{place_list, rests, is_any_due, rest_a
 ghost use Rattle.debounce_model.specs.Memory.{skips_it, cancels};
 ghost use Rattle.debounce_model.specs.Queues.{queue_at, was_created_at, push, removal, waiting_in};
 ghost use Rattle.debounce_model.specs.Rename.{is_both_kind};
-ghost use Rattle.debounce_model.specs.Table.{renamed_to};
 ghost use Rattle.debounce_queues.specs.Due.{is_due};
-ghost use Rattle.debounce_queues.specs.Renames.{half_value, joined_to};
+ghost use Rattle.debounce_queues.specs.Renames.{joined_to, renamed_by};
 
 use crate::due::{Due, add_last_of_kind, expired_count};
 use crate::joined::join;
@@ -90,7 +89,7 @@ impl<A: Allocator + Copy> Queues<A> {
     ) -> Result<(), AllocError>
         requires path { 0 < length event.event.paths }
         requires kind { is_both_kind event.event.kind ≡ false }
-        ensures ok { OnOk result (self.new ≡ renamed_to self.old (first_of event.event.paths) event (half_value half.entry)) }
+        ensures ok { OnOk result (self.new ≡ renamed_by self.old half.entry event) }
         ensures err { OnErr result (self.new ≡ self.old) }
     {
         match half {

@@ -1,10 +1,9 @@
 //! What a joined rename makes of the events that wait at its two paths.
-ghost use Rattle.std.specs.Prelude.{◌≡◌, ◌++◌, ◌∷◌, [], IfOk, OnOk, Option, List, map, option_copied, Some};
-ghost use Rattle.notify_types.specs.Event.{Timed};
+ghost use Rattle.std.specs.Prelude.{◌≡◌, ◌++◌, ◌∷◌, [], IfOk, OnOk, map, option_copied, Some};
 ghost use Rattle.debounce_model.specs.Rename.{first_both, without_last, without_both, original_path, original_time, staying, moving, at_path, rename_event, override_event, override_attributes};
 ghost use Rattle.debounce_model.specs.WellFormed.{IsBothInFront};
-ghost use Rattle.debounce_queues.specs.Target.{target_of, target_of_stay, told};
-ghost use Rattle.debounce_queues.specs.Renames.{arrived_by, renaming_by};
+ghost use Rattle.debounce_queues.specs.Target.{target_of, IsStayTarget, told};
+ghost use Rattle.debounce_queues.specs.Renames.{HasArrived, renaming_by};
 
 use crate::queue::{Queue, is_both, removes, were_created};
 use notify_paths::path::PathBuf;
@@ -67,7 +66,7 @@ pub(crate) struct Source<'a, A: Allocator> {
 impl<'a, A: Allocator> Source<'a, A> {
     /// What a rename to its own path finds there: the event that stays.
     pub(crate) fn as_target(&self) -> Target
-        ensures { (events : List Timed) → option_copied self.now.stays ≡ staying events → result ≡ target_of_stay (staying events) }
+        ensures { IsStayTarget (option_copied self.now.stays) result }
     {
         match self.stays {
             None => Target::Free,
@@ -291,7 +290,7 @@ pub(crate) fn arrived<A: Allocator + Copy>(
     target: Target,
     rename: Rename<'_, A>,
 ) -> Result<Queue<A>, AllocError>
-    ensures { IfOk result (λ queue. (waited : Option (List Timed)) → target ≡ target_of waited → queue ≡ arrived_by source.now waited rename.entry) }
+    ensures { IfOk result (λ queue. HasArrived source.now target rename.entry queue) }
 {
     let to = rename.to;
     let time = source.original_time(rename.time);

@@ -35,3 +35,4 @@ pub use Rattle.debounce_model.specs.Kept
 pub use Rattle.debounce_model.specs.Founded
 pub use Rattle.debounce_model.specs.Honest
 pub use Rattle.debounce_model.specs.PathsLaw
+pub use Rattle.debounce_model.specs.Runs

@@ -3,7 +3,7 @@
 //! removed folder is dropped with it, and the two halves of a rename are joined. This is a port of the
 //! Rust crate of the same name.
 //!
-//! A caller that has its own clock makes a [`DebounceDataInner`], tells it of events by `add_event`
+//! A caller that has its own clock makes a [`DebounceDataInner`], gives it events by `add_event`
 //! and asks for what is due by `debounced_events`; or it hands a list of commands to `run`.
 //!
 //! ```text
@@ -18,20 +18,20 @@
 //! speak of are re-exported in `specs`.
 #![tactic(auto)]
 
-pub use debounce_core::cache::{FileIdCache, NoCache};
 pub use debounce_core::data::DebounceDataInner;
 pub use debounce_core::emit::sort_events;
-pub use debounce_core::queue::Queue;
 pub use debounce_model::command::{Command, Reply};
 pub use debounce_model::file_id::FileId;
+pub use debounce_queues::queue::Queue;
+pub use file_id_cache::cache::{FileIdCache, NoCache};
 pub use notify_paths::error::{Error, ErrorKind};
+pub use notify_paths::part::{Folders, Part, Parts};
+pub use notify_paths::path::PathBuf;
 pub use notify_types::event::{DebouncedEvent, Event, EventAttributes, Flag, RecursiveMode};
 pub use notify_types::kind::{
     AccessKind, AccessMode, CreateKind, DataChange, EventKind, MetadataKind, ModifyKind,
     RemoveKind, RenameMode,
 };
-pub use notify_paths::part::{Folders, Part, Parts};
-pub use notify_paths::path::PathBuf;
 pub use notify_types::time::{Moment, age};
 
 /// The cache that fits most programs.

@@ -1,12 +1,10 @@
 -- If the join is refused, the room that was made goes again; else the steps that cannot fail lead to the joined
 -- rename.
-use Rattle.std.proofs.Common.{◌≡◌, ◌∙◌, ap, sym, true, List, subst}
-use Rattle.notify_paths.specs.Path.{PathValue}
+use Rattle.std.proofs.Common.{◌≡◌, ◌∙◌, ap, sym, true}
 use Rattle.debounce_model.specs.Queues.{Queues, without_below}
 use Rattle.debounce_model.specs.Rename.{joined_halves}
 use Rattle.debounce_model.specs.Moved.{are_apart, moved_below, with_queues, began}
 use Rattle.debounce_model.specs.MapSteps.{reserved_all, nonempty_of, without_queues, stale}
-use Rattle.debounce_model.specs.WellFormed.{IsBothInFront}
 use Rattle.debounce_model.proofs.MoveSteps.{nonempty-reserved_all, nonempty_all, events-reserved_all, settled, room_left}
 use Rattle.debounce_model.proofs.MovedPaths.{apart_target}
 use Rattle.debounce_model.proofs.RenameLemmas.{events_law}

@@ -1,4 +1,3 @@
-use Rattle.std.proofs.Common.{◌≡◌}
 use Rattle.debounce_model.proofs.QueueMaps.{map_push}
 use Rattle.debounce_queues.proofs.queues.Queues.push.Goals as goal
 
