@@ -46,7 +46,11 @@ fn needs_slash(text: &[u8]) -> bool
 }
 
 /// The text of a path with more parts after it, in one allocation.
-pub(crate) fn joined_text<A: Allocator>(alloc: A, base: &str, rest: &str) -> Result<String<A>, AllocError>
+pub(crate) fn joined_text<A: Allocator>(
+    alloc: A,
+    base: &str,
+    rest: &str,
+) -> Result<String<A>, AllocError>
     ensures { IfOk result (λ text. string_bytes text ≡ joined base.now rest.now) }
 {
     if rest.is_empty() {

@@ -1,4 +1,4 @@
-use Rattle.std.proofs.Common.{rules, ◌≡◌, ◌∙◌, sym, not}
+use Rattle.std.proofs.Common.{rules, ◌∙◌, sym, not}
 use Rattle.std.proofs.lemmas.Map.Made.{filter_same_pairs}
 use Rattle.notify_paths.specs.Path.{is_below}
 use Rattle.notify_paths.proofs.Removals.{all_left}
