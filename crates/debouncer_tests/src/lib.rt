@@ -11,6 +11,8 @@ mod devices;
 #[cfg(test)]
 mod events;
 #[cfg(test)]
+mod memory;
+#[cfg(test)]
 mod paths;
 #[cfg(test)]
 mod readers;
