@@ -14,7 +14,7 @@ use Rattle.notify_types.specs.Kinds.{is_removal}
 use Rattle.notify_paths.specs.Path.{PathValue, path_cmp, is_prefix, is_below}
 use Rattle.notify_paths.specs.PathMoves.{in_place}
 use Rattle.notify_paths.specs.PathLaws.{path_cmp_total}
-use Rattle.notify_types.proofs.Lists.{length-map}
+use Rattle.std.proofs.lemmas.List.{length-map}
 use Rattle.notify_paths.proofs.Prefixes.{same_path}
 use Rattle.debounce_model.specs.Moved.{are_apart, moved_path, moved_paths, moved_event, moved_queue, moved_entry, below_of, moved_below, with_queues, moved, moved_along, began, joined_rename}
 use Rattle.debounce_model.specs.Queues.{Queues, queue_at, without_below, waiting_in}
@@ -173,7 +173,7 @@ module _ (f t : PathValue) (time : ℕ) where
   length-moved (e ∷ queues) = by (is_below e.0 f) (length-moved queues)
     where
       by : (b : Bool) → waiting_in (moved_below queues f t time) + waiting_in (without_below queues f) ≡ waiting_in queues → waiting_in (map (moved_entry f t time) (cond b (e ∷ below_of queues f) (below_of queues f))) + waiting_in (cond (not b) (e ∷ without_below queues f) (without_below queues f)) ≡ waiting_in (e ∷ queues)
-      by true h = omega (arith, h, length-map (moved_event f t time) e.1, sum_by-cons length e.1 (values_of queues), sum_by-cons length (moved_queue f t time e.1) (values_of (moved_below queues f t time)))
+      by true h = omega (arith, h, length-map e.1 (moved_event f t time), sum_by-cons length e.1 (values_of queues), sum_by-cons length (moved_queue f t time e.1) (values_of (moved_below queues f t time)))
       by false h = omega (arith, h, sum_by-cons length e.1 (values_of queues), sum_by-cons length e.1 (values_of (without_below queues f)))
 
 -- ---- queues that are put in

@@ -9,7 +9,7 @@ use Rattle.notify_types.specs.Event.{Timed, AttributesValue, no_attributes}
 use Rattle.notify_types.specs.Kinds.{is_removal}
 use Rattle.notify_types.specs.declared.kind.EventKind.{EventKind}
 use Rattle.notify_types.specs.declared.kind.EventKind.TheVariants.{Any, Access, Create, Modify, Remove, Other}
-use Rattle.notify_types.proofs.Lists.{length-map}
+use Rattle.std.proofs.lemmas.List.{length-map}
 use Rattle.debounce_model.specs.Queues.{Queues, queue_at, removes, was_created, was_removed, waiting_in, events_at}
 use Rattle.debounce_model.specs.Rename.{without_last, is_both, first_both, without_both, original_path, original_time, staying, moving, left_behind, at_path, rename_event, renaming, override_attributes, override_event, overriding, arrived, joined_halves, is_both_kind}
 use Rattle.debounce_model.specs.WellFormed.{IsFirst, kept_by, IsKeyed, IsNonempty, HasNoBoth, IsBothInFront, IsQueue, AreQueues}
@@ -255,7 +255,7 @@ pub good-halves : (queues : Queues) (f t : PathValue) (time : ℕ) (attrs : Attr
 good-halves queues f t time attrs n g =
     good-set rest t (arrived events (queue_at rest t) f t time attrs) m (n + 1) left
     (arrived_law (first_both events) moved (queue_at rest t) f t time attrs (keyed-moved t (moving kept) none) (no_both-moved t (moving kept) none))
-    (omega (arith, left.bounded, g.bounded, length-arrived (first_both events) moved (queue_at rest t) f t time attrs (λ q e. (found_queue rest t q left.kept e).0), length-map (at_path t) (moving kept), length-moving kept, length-without_both events, length-take-less (length waited - 1) waited, length-events_at (queue_at queues f), sum_by-remove_entry length (is_at (path_cmp f)) queues))
+    (omega (arith, left.bounded, g.bounded, length-arrived (first_both events) moved (queue_at rest t) f t time attrs (λ q e. (found_queue rest t q left.kept e).0), length-map (moving kept) (at_path t), length-moving kept, length-without_both events, length-take-less (length waited - 1) waited, length-events_at (queue_at queues f), sum_by-remove_entry length (is_at (path_cmp f)) queues))
   where
     waited : List Timed
     waited = events_at queues f

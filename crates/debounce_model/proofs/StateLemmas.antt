@@ -4,7 +4,7 @@ use Rattle.std.specs.Map.{values_of}
 use Rattle.std.specs.List.{list_any}
 use Rattle.std.proofs.lemmas.List.Sums.{sum_by-cons}
 use Rattle.std.proofs.lemmas.List.Sorted.{length_permutation}
-use Rattle.notify_types.proofs.Lists.{length-map}
+use Rattle.std.proofs.lemmas.List.{length-map}
 use Rattle.notify_types.specs.Event.{EventValue, Timed, first_of}
 use Rattle.notify_types.specs.KindNumbers.{kind_eq}
 use Rattle.notify_types.specs.Kinds.{is_removal}
@@ -175,7 +175,7 @@ kept-rests due (e ∷ queues) a = by (waits (rest_after due e.1)) refl (kept-res
 
 -- a batch is as long as its place list
 pub length-in_order : (xs ys : List Timed) → InBatchOrder xs ys → length ys ≡ length xs
-length-in_order xs ys o = ap length (sym o.events) ∙ length-map (λ k. k.event) o.ranked ∙ length_permutation (placed [] xs) o.ranked o.are ∙ length-placed [] xs
+length-in_order xs ys o = ap length (sym o.events) ∙ length-map o.ranked (λ k. k.event) ∙ length_permutation (placed [] xs) o.ranked o.are ∙ length-placed [] xs
 
 -- the event of a slot is due or stays
 held-cut : (due : Timed → Bool) (slot : Option Timed) → length (due_of due slot) + held (rest_of due slot) ≡ held slot

@@ -10,7 +10,7 @@ ghost use Rattle.debounce_model.specs.WellFormed.{IsBothInFront};
 ghost use Rattle.debounce_queues.specs.Renames.{halves_by, source_path};
 ghost use Rattle.debounce_queues.specs.Target.{target_of, IsTarget};
 
-use crate::queue::{Queue, QueueMap};
+use crate::queue::{Queue, QueueMap, new_key};
 use crate::rename::{Rename, Source, Target, arrived, as_target, source_of, without_last};
 use notify_paths::path::PathBuf;
 use notify_types::event::DebouncedEvent;
@@ -69,6 +69,7 @@ fn target<A: Allocator>(
 /// Puts a queue in the place of what waits at the path.
 fn put<A: Allocator + Copy>(
     queues: &mut QueueMap<A>,
+    spare: &mut PathBuf<A>,
     path: &PathBuf<A>,
     queue: Queue<A>,
 ) -> Result<(), AllocError>
@@ -80,7 +81,7 @@ fn put<A: Allocator + Copy>(
         *place = queue;
         return Ok(());
     }
-    let key = path.clone()?;
+    let key = new_key(spare, path)?;
     queues.insert(key, queue)?;
     Ok(())
 }
@@ -102,6 +103,7 @@ fn leave<A: Allocator>(queues: &mut QueueMap<A>, path: &PathBuf<A>)
 /// its source. The target gets its queue first, by what alone can fail; then the source is left.
 pub(crate) fn join_halves<A: Allocator + Copy>(
     queues: &mut QueueMap<A>,
+    spare: &mut PathBuf<A>,
     alloc: A,
     rename: Rename<'_, A>,
 ) -> Result<(), AllocError>
@@ -114,7 +116,7 @@ pub(crate) fn join_halves<A: Allocator + Copy>(
     let source = source_at(queues, from);
     let target = target(queues, &source, from, to);
     let queue = arrived(alloc, &source, target, rename)?;
-    put(queues, to, queue)?;
+    put(queues, spare, to, queue)?;
     if *from != *to {
         leave(queues, from);
     }

@@ -7,9 +7,8 @@ ghost use Rattle.debounce_queues.specs.Renames.{joined_by};
 use crate::halves::{join_halves, source_at};
 use crate::queue::QueueMap;
 use crate::rename::Rename;
-use crate::room::{
-    drop_all, drop_empty, drop_queues_below, make_room, moved_below, set_all, stale_below,
-};
+use crate::room::{drop_all, drop_empty, make_room, moved_below, set_all, stale_below};
+use notify_paths::below::drop_below;
 use notify_paths::path::PathBuf;
 use std::alloc::{AllocError, Allocator};
 
@@ -25,6 +24,7 @@ fn are_apart<A: Allocator>(from: &PathBuf<A>, to: &PathBuf<A>) -> bool
 /// and room for them at their new paths.
 pub(crate) fn join<A: Allocator + Copy>(
     queues: &mut QueueMap<A>,
+    spare: &mut PathBuf<A>,
     alloc: A,
     rename: Rename<'_, A>,
 ) -> Result<(), AllocError>
@@ -35,13 +35,13 @@ pub(crate) fn join<A: Allocator + Copy>(
     let from = rename.from;
     let to = rename.to;
     if !are_apart(from, to) {
-        return join_halves(queues, alloc, rename);
+        return join_halves(queues, spare, alloc, rename);
     }
     let began = source_at(queues, from).original_time(rename.time);
     let moved = moved_below(queues, alloc, from, to, began)?;
     let stale = stale_below(queues, alloc, from, to)?;
-    make_room(queues, alloc, moved.as_slice())?;
-    match join_halves(queues, alloc, rename) {
+    make_room(queues, spare, alloc, moved.as_slice())?;
+    match join_halves(queues, spare, alloc, rename) {
         Ok(()) => {}
         Err(refused) => {
             drop_empty(queues);
@@ -50,6 +50,6 @@ pub(crate) fn join<A: Allocator + Copy>(
     }
     drop_all(queues, stale.as_slice());
     set_all(queues, moved);
-    drop_queues_below(queues, from);
+    drop_below(queues, from, spare);
     Ok(())
 }

@@ -89,6 +89,17 @@ fn drop_front_both<A: Allocator>(events: &mut Vec<DebouncedEvent<A>, A>)
 /// The queues of all paths.
 pub(crate) type QueueMap<A> = BTreeMap<PathBuf<A>, Queue<A>, A>;
 
+/// Returns a copy of the path, and leaves room in `spare` for another.
+pub(crate) fn new_key<A: Allocator + Copy>(
+    spare: &mut PathBuf<A>,
+    path: &PathBuf<A>,
+) -> Result<PathBuf<A>, AllocError>
+    ensures { IfOk result (λ key. key ≡ path.now) }
+{
+    spare.reserve(path)?;
+    path.clone()
+}
+
 /// The events that wait at one path, in the order in which they came.
 #[derive(Debug, Drop)]
 pub struct Queue<A: Allocator = Global> {

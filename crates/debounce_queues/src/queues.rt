@@ -11,10 +11,10 @@ ghost use Rattle.debounce_queues.specs.Renames.{joined_to, renamed_by};
 use crate::due::{Due, add_last_of_kind, expired_count};
 use crate::joined::join;
 use crate::keep::{Change, change_values};
-use crate::queue::{Queue, QueueMap};
+use crate::queue::{Queue, QueueMap, new_key};
 use crate::rename::{FirstHalf, Rename};
-use crate::room::drop_queues_below;
 use debounce_model::case::first_path;
+use notify_paths::below::drop_below;
 use notify_paths::path::PathBuf;
 use notify_types::event::{DebouncedEvent, Event};
 use std::alloc::{AllocError, Allocator, Global};
@@ -26,6 +26,8 @@ use std::marker::Model;
 #[derive(Drop)]
 pub struct Queues<A: Allocator = Global> {
     map: QueueMap<A>,
+    /// Has room for a copy of each key, so that a removal needs no memory. What it holds says nothing.
+    spare: PathBuf<A>,
     alloc: A,
 }
 
@@ -48,6 +50,7 @@ impl<A: Allocator + Copy> Queues<A> {
     {
         Queues {
             map: BTreeMap::new(alloc),
+            spare: PathBuf::empty(alloc),
             alloc,
         }
     }
@@ -61,7 +64,7 @@ impl<A: Allocator + Copy> Queues<A> {
         ensures err { OnErr result (self.new ≡ self.old) }
         ensures grown { OnErr result (skips_it self.old event.event ≡ false) }
     {
-        push(&mut self.map, self.alloc, event)?;
+        push(&mut self.map, &mut self.spare, self.alloc, event)?;
         Ok(())
     }
 
@@ -75,7 +78,7 @@ impl<A: Allocator + Copy> Queues<A> {
         ensures err { OnErr result (self.new ≡ self.old) }
         ensures grown { OnErr result (cancels self.old event.event ≡ false) }
     {
-        remove(&mut self.map, self.alloc, event)?;
+        remove(&mut self.map, &mut self.spare, self.alloc, event)?;
         Ok(())
     }
 
@@ -114,7 +117,7 @@ impl<A: Allocator + Copy> Queues<A> {
             time: half.time,
             attrs,
         };
-        join(&mut self.map, self.alloc, rename)?;
+        join(&mut self.map, &mut self.spare, self.alloc, rename)?;
         Ok(())
     }
 
@@ -217,6 +220,7 @@ fn single<A: Allocator>(alloc: A, event: DebouncedEvent<A>) -> Result<Queue<A>, 
 
 fn push<A: Allocator + Copy>(
     queues: &mut QueueMap<A>,
+    spare: &mut PathBuf<A>,
     alloc: A,
     event: DebouncedEvent<A>,
 ) -> Result<(), AllocError>
@@ -229,7 +233,7 @@ fn push<A: Allocator + Copy>(
     if let Some(queue) = queues.get_mut(path) {
         return queue.append(event);
     }
-    let key = path.clone()?;
+    let key = new_key(spare, path)?;
     queues.insert(key, single(alloc, event)?)?;
     Ok(())
 }
@@ -246,6 +250,7 @@ fn was_created_at<A: Allocator>(queues: &QueueMap<A>, path: &PathBuf<A>) -> bool
 
 fn remove<A: Allocator + Copy>(
     queues: &mut QueueMap<A>,
+    spare: &mut PathBuf<A>,
     alloc: A,
     event: DebouncedEvent<A>,
 ) -> Result<(), AllocError>
@@ -256,13 +261,13 @@ fn remove<A: Allocator + Copy>(
 {
     let path = first_path(&event);
     if was_created_at(queues, path) {
-        drop_queues_below(queues, path);
+        drop_below(queues, path, spare);
         queues.remove(path);
         return Ok(());
     }
-    let key = path.clone()?;
+    let key = new_key(spare, path)?;
     let folder = path.clone()?;
     queues.insert(key, single(alloc, event)?)?;
-    drop_queues_below(queues, &folder);
+    drop_below(queues, &folder, spare);
     Ok(())
 }

@@ -4,7 +4,7 @@ ghost use Rattle.std.specs.List.Sorted.{IsStrictlySortedBy};
 ghost use Rattle.std.specs.Map.{keys_of};
 ghost use Rattle.notify_paths.specs.Path.{path_cmp, is_prefix};
 ghost use Rattle.notify_paths.specs.PathMoves.{in_place};
-ghost use Rattle.debounce_model.specs.Queues.{queue_at, with_queue, without_below};
+ghost use Rattle.debounce_model.specs.Queues.{queue_at, with_queue};
 ghost use Rattle.debounce_model.specs.Due.{waits};
 ghost use Rattle.debounce_model.specs.Moved.{moved_below, with_queues};
 ghost use Rattle.debounce_model.specs.WellFormed.{AreQueues};
@@ -12,8 +12,7 @@ ghost use Rattle.debounce_model.specs.MapSteps.{reserved, reserved_all, nonempty
 
 use crate::keep::{Change, change_values};
 use crate::moved::moved_queue;
-use crate::queue::{Queue, QueueMap};
-use notify_paths::below::drop_below;
+use crate::queue::{Queue, QueueMap, new_key};
 use notify_paths::path::PathBuf;
 use notify_types::time::Moment;
 use std::alloc::{AllocError, Allocator};
@@ -85,9 +84,10 @@ pub(crate) fn stale_below<A: Allocator + Copy>(
     Ok(list)
 }
 
-/// Makes room for a queue at the path: puts an empty one there where there is none.
+/// Makes room for a queue at the path: puts an empty one there if there is none.
 fn reserve<A: Allocator + Copy>(
     queues: &mut QueueMap<A>,
+    spare: &mut PathBuf<A>,
     alloc: A,
     path: &PathBuf<A>,
 ) -> Result<(), AllocError>
@@ -97,7 +97,7 @@ fn reserve<A: Allocator + Copy>(
     if queues.contains_key(path) {
         return Ok(());
     }
-    let key = path.clone()?;
+    let key = new_key(spare, path)?;
     queues.insert(key, Queue::new(Vec::new(alloc)))?;
     Ok(())
 }
@@ -105,6 +105,7 @@ fn reserve<A: Allocator + Copy>(
 /// Makes room for these queues, as far as there is memory.
 fn reserve_all<A: Allocator + Copy>(
     queues: &mut QueueMap<A>,
+    spare: &mut PathBuf<A>,
     alloc: A,
     moved: &[(PathBuf<A>, Queue<A>)],
 ) -> Result<(), AllocError>
@@ -112,7 +113,7 @@ fn reserve_all<A: Allocator + Copy>(
     ensures err { OnErr result (nonempty_of queues.new.entries ≡ nonempty_of queues.old.entries) }
 {
     for (path, _queue) in moved {
-        reserve(queues, alloc, path)?;
+        reserve(queues, spare, alloc, path)?;
     }
     Ok(())
 }
@@ -141,6 +142,7 @@ pub(crate) fn drop_empty<A: Allocator>(queues: &mut QueueMap<A>)
 /// Makes room for these queues, or leaves all as it was.
 pub(crate) fn make_room<A: Allocator + Copy>(
     queues: &mut QueueMap<A>,
+    spare: &mut PathBuf<A>,
     alloc: A,
     moved: &[(PathBuf<A>, Queue<A>)],
 ) -> Result<(), AllocError>
@@ -148,7 +150,7 @@ pub(crate) fn make_room<A: Allocator + Copy>(
     ensures ok { OnOk result (queues.new.entries ≡ reserved_all queues.old.entries moved.now) }
     ensures err { OnErr result (queues.new.entries ≡ queues.old.entries) }
 {
-    match reserve_all(queues, alloc, moved) {
+    match reserve_all(queues, spare, alloc, moved) {
         Ok(()) => Ok(()),
         Err(refused) => {
             drop_empty(queues);
@@ -185,11 +187,4 @@ pub(crate) fn set_all<A: Allocator>(queues: &mut QueueMap<A>, mut moved: Moved<A
     while let Some((path, queue)) = moved.pop() {
         set(queues, &path, queue);
     }
-}
-
-/// Drops what waits strictly below the path.
-pub(crate) fn drop_queues_below<A: Allocator + Copy>(queues: &mut QueueMap<A>, path: &PathBuf<A>)
-    ensures { queues.new.entries ≡ without_below queues.old.entries path.now }
-{
-    drop_below(queues, path);
 }

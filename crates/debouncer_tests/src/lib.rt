@@ -1,12 +1,20 @@
-//! Tests that cross the crates: the worked cases as scripts, faults, devices that fail, memory that
-//! ends, and one call of each public function at a concrete type.
+//! Tests that cross the crates: faults in scripts, devices that fail, memory that ends, and one call of
+//! each public function at a concrete type. The worked cases stand in the crate `worked_cases`.
 #![tactic(auto)]
 
 #[cfg(test)]
-mod cases;
+mod build;
+#[cfg(test)]
+mod debouncer;
 #[cfg(test)]
 mod devices;
 #[cfg(test)]
-mod scripts;
+mod events;
 #[cfg(test)]
-mod values;
+mod memory;
+#[cfg(test)]
+mod paths;
+#[cfg(test)]
+mod readers;
+#[cfg(test)]
+mod scripts;

@@ -91,7 +91,8 @@ impl<A: Allocator + Copy> PathSet<A> {
             return self.insert(path.try_clone()?);
         }
         if event.kind.is_removal() {
-            take_away(&mut self.paths, path);
+            let mut spare = PathBuf::empty(self.alloc);
+            take_away(&mut self.paths, path, &mut spare);
         }
         Ok(())
     }
@@ -126,8 +127,12 @@ fn key_list<A: Allocator + Copy>(
 }
 
 /// Takes away what lies at or below the path.
-fn take_away<A: Allocator + Copy>(map: &mut BTreeMap<PathBuf<A>, (), A>, path: &PathBuf<A>)
+fn take_away<A: Allocator>(
+    map: &mut BTreeMap<PathBuf<A>, (), A>,
+    path: &PathBuf<A>,
+    spare: &mut PathBuf<A>,
+)
     ensures { keys_of map.new.entries ≡ without_at (keys_of map.old.entries) path.now }
 {
-    drop_at_or_below(map, path);
+    drop_at_or_below(map, path, spare);
 }

@@ -42,7 +42,7 @@ fn play_commands<A: Allocator + Copy, O: Write>(
     let mut text = String::new(alloc);
     let start = set_of(alloc, start)?;
     let played = run_commands(alloc, core, commands, &mut text, out)?;
-    print_core(core, start, &played, &mut text, out)?;
+    print_core(core, &start, &played, &mut text, out)?;
     write_last(&mut text, out)
 }
 
@@ -62,7 +62,7 @@ fn run_commands<A: Allocator + Copy, O: Write>(
 /// Prints the counts, what waits, and the three lists of paths.
 fn print_core<A: Allocator + Copy, O: Write>(
     core: &DebounceDataInner<NoCache, A>,
-    start: PathSet<A>,
+    start: &PathSet<A>,
     played: &Played<A>,
     text: &mut String<A>,
     out: &mut O,
@@ -123,7 +123,7 @@ fn print_replies<A: Allocator + Copy, O: Write>(
 }
 
 impl<A: Allocator> Played<A> {
-    /// Prints a command's reply.
+    /// Prints a command's reply, and keeps what is to be played of it.
     fn take<O: Write>(
         &mut self,
         command: Command<A>,
@@ -131,12 +131,15 @@ impl<A: Allocator> Played<A> {
         text: &mut String<A>,
         out: &mut O,
     ) -> Result<(), Broken> {
+        print_reply(&command, &reply, text, out)?;
+        self.keep(command, reply)
+    }
+
+    /// Keeps what is to be played of a command's reply.
+    fn keep(&mut self, command: Command<A>, reply: Reply<A>) -> Result<(), Broken> {
         match (command, reply) {
             (Command::Event(event, now, _), Reply::Taken(_)) => self.accept(event, now),
-            (Command::Tick(now), Reply::Batch(batch)) => self.hand_out(now, batch, text, out),
-            (_, Reply::Errors(errors)) => print_errors(text, errors.as_slice(), out),
-            (_, Reply::Refused(error)) => Ok(push_refused(text, &error.kind)?),
-            // Any other command prints nothing.
+            (_, Reply::Batch(batch)) => self.hand_out(batch),
             _ => Ok(()),
         }
     }
@@ -146,19 +149,29 @@ impl<A: Allocator> Played<A> {
         Ok(())
     }
 
-    fn hand_out<O: Write>(
-        &mut self,
-        now: Moment,
-        batch: Vec<DebouncedEvent<A>, A>,
-        text: &mut String<A>,
-        out: &mut O,
-    ) -> Result<(), Broken> {
-        push_batch(text, now, batch.len())?;
-        print_events(text, "event", batch.as_slice(), out)?;
+    fn hand_out(&mut self, batch: Vec<DebouncedEvent<A>, A>) -> Result<(), Broken> {
         for event in batch {
             self.handed.push(event)?;
         }
         Ok(())
+    }
+}
+
+/// Prints a command's reply. Most print nothing.
+fn print_reply<A: Allocator, O: Write>(
+    command: &Command<A>,
+    reply: &Reply<A>,
+    text: &mut String<A>,
+    out: &mut O,
+) -> Result<(), Broken> {
+    match (command, reply) {
+        (Command::Tick(now), Reply::Batch(batch)) => {
+            push_batch(text, *now, batch.len())?;
+            print_events(text, "event", batch.as_slice(), out)
+        }
+        (_, Reply::Errors(errors)) => print_errors(text, errors.as_slice(), out),
+        (_, Reply::Refused(error)) => Ok(push_refused(text, &error.kind)?),
+        _ => Ok(()),
     }
 }
 
@@ -190,20 +203,49 @@ fn print_errors<A: Allocator, O: Write>(
     Ok(())
 }
 
-/// Puts the three lists of paths behind what stands in `text`.
+/// Appends the three lists of paths.
 fn push_paths_played<A: Allocator + Copy>(
     text: &mut String<A>,
-    start: PathSet<A>,
+    start: &PathSet<A>,
     played: &Played<A>,
     waiting: &[DebouncedEvent<A>],
 ) -> Result<(), Broken> {
+    push_reader(text, start, played.handed.as_slice(), waiting)?;
+    push_raw(text, start, played.accepted.as_slice())
+}
+
+/// Appends the reader's paths after the batches, and after what waits too.
+fn push_reader<A: Allocator + Copy>(
+    text: &mut String<A>,
+    start: &PathSet<A>,
+    handed: &[DebouncedEvent<A>],
+    waiting: &[DebouncedEvent<A>],
+) -> Result<(), Broken> {
     let mut reader = start.try_clone()?;
-    reader.play(played.handed.as_slice())?;
-    push_list(text, "reader", reader.to_list()?.as_slice())?;
+    reader.play(handed)?;
+    push_set(text, "reader", &reader)?;
     reader.play(waiting)?;
-    push_list(text, "after", reader.to_list()?.as_slice())?;
-    let mut raw = start;
-    raw.play(played.accepted.as_slice())?;
-    push_list(text, "raw", raw.to_list()?.as_slice())?;
+    push_set(text, "after", &reader)
+}
+
+/// Appends the paths after the events as they came.
+fn push_raw<A: Allocator + Copy>(
+    text: &mut String<A>,
+    start: &PathSet<A>,
+    accepted: &[DebouncedEvent<A>],
+) -> Result<(), Broken> {
+    let mut raw = start.try_clone()?;
+    raw.play(accepted)?;
+    push_set(text, "raw", &raw)
+}
+
+/// Appends a line with the word and the paths.
+fn push_set<A: Allocator + Copy>(
+    text: &mut String<A>,
+    word: &str,
+    set: &PathSet<A>,
+) -> Result<(), Broken> {
+    let paths = set.to_list()?;
+    push_list(text, word, paths.as_slice())?;
     Ok(())
 }

@@ -1,5 +1,5 @@
 -- Laws of the equality of errors, which only impls and other laws cite. Nothing here defines anything.
-use Rattle.std.specs.Prelude.{◌≡◌, Bool, true, false, List, refl}
+use Rattle.std.specs.Prelude.{◌≡◌, true, false, List, refl}
 use Rattle.std.specs.Bool.{Decides}
 use Rattle.std.specs.Cmp.{IsEquivalence, decided}
 use Rattle.std.specs.Cmp.Lexicographic.{pointwise, pointwise_decides, bytes_decides}

@@ -1,4 +1,4 @@
--- Laws of the order and the equality of paths, which the impls of `Eq`, `Ord` and `Hash` cite. Nothing here defines anything.
+-- Laws of the order and the equality of paths, which only impls and other laws cite. Nothing here defines anything.
 use Rattle.std.specs.Prelude.{◌≡◌, refl, true}
 use Rattle.std.specs.Ordering.{nat_cmp, is_eq, eq_by_cmp, ordering_then, as_partial_cmp}
 use Rattle.std.specs.declared.cmp.Ordering.{Ordering}

@@ -17,7 +17,7 @@ ghost use Rattle.notify_paths.specs.PathView.{parts_left, folders_left, path_fee
 use crate::error::Error;
 use crate::order::cmp_texts;
 use crate::part::{Folders, Parts, part_of_component};
-use crate::text::{begins_with, is_proper_name, joined_text, normal_text, text_past};
+use crate::text::{begins_with, is_proper_name, joined_text, make_room, normal_text, text_past};
 use std::alloc::{AllocError, Allocator, Global};
 use std::cmp::Ordering;
 use std::hash::{Hash, Hasher};
@@ -204,6 +204,24 @@ impl<A: Allocator> PathBuf<A> {
         ensures { result ≡ is_prefix base.now self.now }
     {
         begins_with(self.text.as_bytes(), base.text.as_bytes())
+    }
+
+    /// Makes room for a copy of the path: after this, `copy_from` it asks for no memory.
+    pub fn reserve(&mut self, path: &PathBuf<A>) -> Result<(), AllocError>
+        ensures { self.new ≡ self.old }
+    {
+        make_room(&mut self.text, path.text.len())
+    }
+
+    /// Makes this path equal to the other one. It asks for memory only if it has too little room; if
+    /// the allocation fails, it stays as it was.
+    pub fn copy_from(&mut self, path: &PathBuf<A>) -> Result<(), AllocError>
+        ensures ok { OnOk result (self.new ≡ path.now) }
+        ensures err { OnErr result (self.new ≡ self.old) }
+    {
+        make_room(&mut self.text, path.text.len())?;
+        self.text.clear();
+        self.text.push_str(path.text.as_str())
     }
 
     /// Appends the path's text. If the allocation fails, `text` stays as it was.

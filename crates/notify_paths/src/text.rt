@@ -1,14 +1,23 @@
 //! The one text that a path is written as, and what can be read off its bytes.
-ghost use Rattle.std.specs.Prelude.{◌≡◌, ◌==◌, ◌+◌, ◌<◌, true, nat_eq, drop, length, slice_index, slice_index_or, IfOk, if◌then◌else◌};
+ghost use Rattle.std.specs.Prelude.{◌≡◌, ◌==◌, ◌+◌, ◌<◌, ◌≤◌, true, nat_eq, drop, length, slice_index, slice_index_or, IfOk, OnOk, if◌then◌else◌};
 ghost use Rattle.std.specs.List.{starts_with};
 ghost use Rattle.std.specs.Path.{slash, has_no_slash, IsWellFormedComponent};
-ghost use Rattle.std.specs.String.{string_bytes};
+ghost use Rattle.std.specs.String.{string_bytes, string_capacity};
 ghost use Rattle.notify_paths.specs.PathText.{parts_of, part_text, wants_slash, text_of, is_proper_name};
 ghost use Rattle.notify_paths.specs.PathView.{component_part};
 ghost use Rattle.notify_paths.specs.TextSteps.{is_root, begins_with, begins_name, names_follow, needs_slash, joined, without_slash, text_past};
 
 use std::alloc::{AllocError, Allocator};
 use std::path::{Component, Path};
+
+/// Makes room for a text of this length in all.
+pub(crate) fn make_room<A: Allocator>(text: &mut String<A>, len: usize) -> Result<(), AllocError>
+    ensures bytes { string_bytes text.new ≡ string_bytes text.old }
+    ensures room { OnOk result (len ≤ string_capacity text.new) }
+{
+    let missing = len.saturating_sub(text.len());
+    text.reserve(missing)
+}
 
 /// Whether the text is a name: not empty, not `.` or `..`, and without a `/`.
 pub(crate) fn is_proper_name(name: &str) -> bool
@@ -37,7 +46,11 @@ fn needs_slash(text: &[u8]) -> bool
 }
 
 /// The text of a path with more parts after it, in one allocation.
-pub(crate) fn joined_text<A: Allocator>(alloc: A, base: &str, rest: &str) -> Result<String<A>, AllocError>
+pub(crate) fn joined_text<A: Allocator>(
+    alloc: A,
+    base: &str,
+    rest: &str,
+) -> Result<String<A>, AllocError>
     ensures { IfOk result (λ text. string_bytes text ≡ joined base.now rest.now) }
 {
     if rest.is_empty() {

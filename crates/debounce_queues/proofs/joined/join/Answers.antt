@@ -59,6 +59,6 @@ returns-clause-ok g c =
     let room : ◌≡◌ {A = Queues} c.make_room.new.queues.entries (reserved_all q (moved_below q f t (began q f r.time))) = c.in_ok-make_room.ensures.ok ∙ ap (reserved_all q) (c.as_slice.ensures.value ∙ moved) in
     let joined : ◌≡◌ {A = Queues} c.join_halves-2.new.queues.entries (joined_halves (reserved_all q (moved_below q f t (began q f r.time))) f t r.time r.attrs) = c.in-Ok.ensures.ok ∙ ap (λ (u : Queues). joined_halves u f t r.time r.attrs) room in
     let fresh : ◌≡◌ {A = Queues} c.drop_all.new.queues.entries (without_queues (joined_halves (reserved_all q (moved_below q f t (began q f r.time))) f t r.time r.attrs) (stale q f t)) = c.drop_all.ensures ∙ ap (λ (u : Queues). without_queues u c.as_slice-2.result.now) joined ∙ ap (without_queues (joined_halves (reserved_all q (moved_below q f t (began q f r.time))) f t r.time r.attrs)) (c.as_slice-2.ensures.value ∙ c.in_ok-stale.ensures) in
-    c.drop_queues_below.ensures
+    c.drop_below.ensures
     ∙ ap (λ (u : Queues). without_below u f) (c.set_all.ensures ∙ ap (λ (u : Queues). with_queues u c.in_ok-moved.moved.items) fresh ∙ ap (with_queues (without_queues (joined_halves (reserved_all q (moved_below q f t (began q f r.time))) f t r.time r.attrs) (stale q f t))) moved)
     ∙ settled q f t r.time r.attrs c.in_ok-moved.ensures.ordered apart

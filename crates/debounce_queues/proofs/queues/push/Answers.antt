@@ -35,7 +35,8 @@ returns-clause-ok g c =
     let kept : c.get_mut.follows.lender-at-none.entries ≡ queues = search rules in
     c.in_ok-insert.ensures.entries
     ∙ ap (λ q. insert_entry path_cmp q c.in_ok-key.key c.in_ok-single.field-0) kept
-    ∙ ap (λ k. insert_entry path_cmp queues k c.in_ok-single.field-0) c.in_ok-key.ensures.cases
+    ∙ ap (λ k. insert_entry path_cmp queues k c.in_ok-single.field-0) c.in_ok-key.ensures
     ∙ ap (λ q. insert_entry path_cmp queues path q) c.in_ok-single.ensures
     ∙ push-new queues path x none
     ∙ ap (λ p. push queues p x) c.first_path-path.ensures
+

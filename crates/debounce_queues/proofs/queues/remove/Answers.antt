@@ -13,9 +13,9 @@ returns-clause-ok g c =
     let x = c.args.event in
     let path = c.first_path-path.result.now in
     let below : c.in_ok-folder.folder ≡ path = c.in_ok-folder.ensures.cases in
-    let key = c.key.view_is ∙ c.in_ok-key.ensures.cases in
+    let key = c.key.view_is ∙ c.in_ok-key.ensures in
     let made : ◌≡◌ {A = Queues} c.insert.new.self.entries (with_queue queues path (x ∷ [])) = c.in_ok-insert.ensures.entries ∙ ap (λ k. insert_entry path_cmp queues k c.in_ok-single.field-0) key ∙ ap (λ q. insert_entry path_cmp queues path q) c.in_ok-single.ensures in
-    let left : c.drop_queues_below-2.new.queues.entries ≡ without_below (with_queue queues path (x ∷ [])) path = rw (← made, ← below) c.drop_queues_below-2.ensures in
+    let left : c.drop_below-2.new.map.entries ≡ without_below (with_queue queues path (x ∷ [])) path = rw (← made, ← below) c.drop_below-2.ensures in
     left
     ∙ removal_by_insert queues path x c.insert.ensures.was_ordered (sym c.was_created_at.ensures ∙ c.if-was_created_at.false)
     ∙ ap (λ p. removal queues p x) c.first_path-path.ensures
@@ -26,6 +26,6 @@ returns-then-was_created_at-clause-ok g c =
     let x = c.args.event in
     let path = c.first_path-path.result.now in
     c.remove.ensures.entries
-    ∙ ap (remove_entry (is_at (path_cmp path))) c.drop_queues_below.ensures
+    ∙ ap (remove_entry (is_at (path_cmp path))) c.drop_below.ensures
     ∙ removal_of_created queues path x (sym c.was_created_at.ensures ∙ c.if-was_created_at.true)
     ∙ ap (λ p. removal queues p x) c.first_path-path.ensures

@@ -1,4 +1,4 @@
-use Rattle.std.proofs.Common.{◌≡◌, ◌∙◌, sym, ap}
+use Rattle.std.proofs.Common.{◌∙◌, sym, ap}
 use Rattle.std.specs.Path.{components_remaining, component_bytes}
 use Rattle.notify_paths.specs.PathMoves.{file_name_of, name_of}
 use Rattle.notify_paths.proofs.Folders.{file_name_at}

@@ -1,0 +1,123 @@
+//! Events, their kinds and errors: what they say, how they print, and their copies.
+use crate::build::{CREATE, event, path, timed};
+use notify_debouncer_full::{
+    DebouncedEvent, Error, ErrorKind, Event, EventAttributes, EventKind, Flag, ModifyKind,
+    RenameMode, age, sort_events,
+};
+use std::io;
+use std::process::Abort;
+
+fn full_event(rt: &(impl Abort + AllocGlobal)) -> Event {
+    let kind = EventKind::Modify(ModifyKind::Name(RenameMode::From));
+    let info = String::from_str(rt.alloc(), "words").expect(rt, "memory");
+    let plain = event(rt, kind, "/a");
+    plain.set_tracker(7).set_info(info).set_flag(Flag::Rescan)
+}
+
+#[test]
+fn events_are_built(rt: HostRuntime) {
+    let built = full_event(&rt);
+    assert_eq!(rt; (built.tracker(), built.info()), (Some(7), Some("words")));
+    assert!(rt; built.need_rescan());
+}
+
+#[test]
+fn events_are_copied(rt: HostRuntime) {
+    let built = full_event(&rt);
+    let copy = built.try_clone().expect(&rt, "memory");
+    assert!(rt; copy == built);
+}
+
+#[test]
+fn attributes_are_copied(rt: HostRuntime) {
+    let built = full_event(&rt);
+    let copy = built.attrs.try_clone(rt.alloc()).expect(&rt, "memory");
+    let plain = EventAttributes::default();
+    assert!(rt; copy == built.attrs && copy != plain);
+}
+
+#[test]
+fn debounced_events_differ_by_their_time(rt: HostRuntime) {
+    let first = timed(&rt, CREATE, "/a", 3);
+    let copy = first.try_clone().expect(&rt, "memory");
+    let later = timed(&rt, CREATE, "/a", 4);
+    assert!(rt; first == copy && first != later);
+}
+
+#[test]
+fn a_clock_that_went_back_gives_no_age(rt: HostRuntime) {
+    assert_eq!(rt; [age(5, 3), age(3, 5)], [2, 0]);
+}
+
+#[test]
+fn group_keeps_its_order(rt: HostRuntime) {
+    let events = vec![in rt.alloc();
+        timed(&rt, EventKind::Any, "/a", 5),
+        timed(&rt, EventKind::Any, "/a", 3),
+        timed(&rt, EventKind::Any, "/a", 7),
+        timed(&rt, EventKind::Any, "/b", 4),
+    ]
+    .expect(&rt, "memory");
+    let sorted = sort_events(rt.alloc(), events).expect(&rt, "memory");
+    check_times(&rt, sorted.as_slice());
+}
+
+fn check_times(rt: &impl Abort, sorted: &[DebouncedEvent]) {
+    assert_eq!(rt; sorted.len(), 4);
+    let times = [
+        sorted[0].time(),
+        sorted[1].time(),
+        sorted[2].time(),
+        sorted[3].time(),
+    ];
+    assert_eq!(rt; times, [4, 5, 3, 7]);
+    let first = sorted[0].first_path().expect(rt, "a path");
+    assert_eq!(rt; first.as_str(), "/b");
+}
+
+#[test]
+fn errors_print_as_one_word(rt: HostRuntime) {
+    let more = String::from_str(rt.alloc(), "more").expect(&rt, "memory");
+    check_error(&rt, ErrorKind::Generic(more), "Generic");
+    check_error(&rt, ErrorKind::Io(io::ErrorKind::NotFound), "Io");
+    check_error(&rt, ErrorKind::PathNotFound, "PathNotFound");
+    check_error(&rt, ErrorKind::WatchNotFound, "WatchNotFound");
+    check_error(&rt, ErrorKind::Full, "Full");
+    check_error(&rt, ErrorKind::Memory, "Memory");
+}
+
+fn check_error(rt: &(impl Abort + AllocGlobal), kind: ErrorKind, word: &str) {
+    let printed = format!(in rt.alloc(); "{kind}").expect(rt, "memory");
+    assert_eq!(rt; printed.as_str(), word);
+    let copy = kind.try_clone(rt.alloc()).expect(rt, "memory");
+    assert!(rt; copy == kind);
+    check_paths_count(
+        rt,
+        Error::new(rt.alloc(), kind),
+        Error::new(rt.alloc(), copy),
+    );
+}
+
+/// An error equals its copy, and another that names a path differs.
+fn check_paths_count(rt: &(impl Abort + AllocGlobal), plain: Error, other: Error) {
+    let error = other.add_path(path(rt, "/a")).expect(rt, "memory");
+    let copy = error.try_clone().expect(rt, "memory");
+    assert!(rt; copy == error && error != plain);
+}
+
+#[test]
+fn kinds_are_read_by_their_words(rt: HostRuntime) {
+    for word in [
+        "Any",
+        "Create(Folder)",
+        "Modify(Name(Both))",
+        "Access(Close(Write))",
+        "Other",
+    ] {
+        let kind = EventKind::from_word(word).expect(&rt, word);
+        assert_eq!(rt; kind.word(), word);
+    }
+    for word in ["", "any", "Create", "Create()", "Modify(Name)", "Any "] {
+        assert!(rt; EventKind::from_word(word).is_none(), "{word}");
+    }
+}
