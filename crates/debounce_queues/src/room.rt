@@ -4,16 +4,15 @@ ghost use Rattle.std.specs.List.Sorted.{IsStrictlySortedBy};
 ghost use Rattle.std.specs.Map.{keys_of};
 ghost use Rattle.notify_paths.specs.Path.{path_cmp, is_prefix};
 ghost use Rattle.notify_paths.specs.PathMoves.{in_place};
-ghost use Rattle.debounce_model.specs.Queues.{queue_at, with_queue, without_below};
+ghost use Rattle.debounce_model.specs.Queues.{queue_at, with_queue};
 ghost use Rattle.debounce_model.specs.Due.{waits};
 ghost use Rattle.debounce_model.specs.Moved.{moved_below, with_queues};
 ghost use Rattle.debounce_model.specs.WellFormed.{AreQueues};
 ghost use Rattle.debounce_model.specs.MapSteps.{reserved, reserved_all, nonempty_of, HasRoom, stale, stale_one, without_queues};
 
-use crate::keep::{Change, change_values};
-use crate::moved::moved_queue;
-use crate::queue::{Queue, QueueMap};
-use notify_paths::below::drop_below;
+use crate::map::{Change, QueueMap, change_values};
+use event_queue::moved::moved_queue;
+use event_queue::queue::Queue;
 use notify_paths::path::PathBuf;
 use notify_types::time::Moment;
 use std::alloc::{AllocError, Allocator};
@@ -185,11 +184,4 @@ pub(crate) fn set_all<A: Allocator>(queues: &mut QueueMap<A>, mut moved: Moved<A
     while let Some((path, queue)) = moved.pop() {
         set(queues, &path, queue);
     }
-}
-
-/// Drops what waits strictly below the path.
-pub(crate) fn drop_queues_below<A: Allocator + Copy>(queues: &mut QueueMap<A>, path: &PathBuf<A>)
-    ensures { queues.new.entries ≡ without_below queues.old.entries path.now }
-{
-    drop_below(queues, path);
 }
