@@ -84,7 +84,7 @@ pub(crate) fn stale_below<A: Allocator + Copy>(
     Ok(list)
 }
 
-/// Makes room for a queue at the path: puts an empty one there where there is none.
+/// Makes room for a queue at the path: puts an empty one there if it has none.
 fn reserve<A: Allocator + Copy>(
     queues: &mut QueueMap<A>,
     alloc: A,
@@ -176,7 +176,7 @@ fn set<A: Allocator>(queues: &mut QueueMap<A>, path: &PathBuf<A>, queue: Queue<A
     }
 }
 
-/// Puts each of these queues at its path, where there is room for it.
+/// Puts each of these queues at its path, for which there is room.
 pub(crate) fn set_all<A: Allocator>(queues: &mut QueueMap<A>, mut moved: Moved<A>)
     requires { HasRoom queues.old.entries moved.items }
     ensures { queues.new.entries ≡ with_queues queues.old.entries moved.items }

@@ -1,4 +1,4 @@
--- A joined rename as the code has it: words for the contracts of its private functions.
+-- A joined rename as the code has it, in parts.
 use Rattle.std.specs.Prelude.{◌≡◌, ℕ, List, Option, option_copied}
 use Rattle.std.specs.Option.{option_map}
 use Rattle.notify_types.specs.Event.{Timed, first_of}
@@ -15,7 +15,7 @@ use Rattle.event_queue.specs.declared.rename.Target.{Target}
 use Rattle.event_queue.specs.Target.{target_of}
 
 module _ {Z : Type 0} where
-  -- where it comes from
+  -- the path that it leaves
   abbrev pub source_path : Rename Z → PathValue
   source_path rename = rename.from.now
 
@@ -27,7 +27,7 @@ module _ {Z : Type 0} where
   abbrev pub joined_by : Queues → Rename Z → Queues
   joined_by queues rename = joined_rename queues rename.from.now rename.to.now rename.time rename.attrs
 
-  -- the event that tells it of this source, if it is told
+  -- the event that reports it, if what goes along from this source was not created
   abbrev pub renaming_by : Source Z → Rename Z → List Timed
   renaming_by source rename =
       let earlier = option_copied source.earlier in
@@ -38,7 +38,7 @@ module _ {Z : Type 0} where
   arrived_by source waited rename =
       arrived_of (option_copied source.earlier) source.moving.now waited rename.from.now rename.to.now rename.time rename.attrs
 
-  -- what then waits at its target, which the code has told apart so
+  -- what then waits at its target, of which the code knows this much
   abbrev pub HasArrived : Source Z → Target → Rename Z → List Timed → Type 0
   HasArrived source target rename queue =
       (waited : Option (List Timed)) → target ≡ target_of waited → queue ≡ arrived_by source waited rename

@@ -23,8 +23,8 @@ IsTarget queues f t stays target =
     (events : List Timed) → stays ≡ staying events
     → target ≡ target_of (if path_eq f t then queue_of (staying events) else queue_at queues t)
 
--- the removal that is told of it
-abbrev pub told : PathValue → ℕ → Target → List Timed
-told path time Free = []
-told path time Removed = override_event path no_attributes time ∷ []
-told path time Overridden = override_event path override_attributes time ∷ []
+-- the removal that is reported for it
+abbrev pub reported : PathValue → ℕ → Target → List Timed
+reported path time Free = []
+reported path time Removed = override_event path no_attributes time ∷ []
+reported path time Overridden = override_event path override_attributes time ∷ []

@@ -2,7 +2,7 @@
 ghost use Rattle.std.specs.Prelude.{◌≡◌, ◌++◌, ◌∷◌, [], IfOk, OnOk, map, option_copied, Some};
 ghost use Rattle.debounce_model.specs.Rename.{first_both, without_last, without_both, original_path, original_time, staying, moving, at_path, rename_event, override_event, override_attributes};
 ghost use Rattle.debounce_model.specs.WellFormed.{IsBothInFront};
-ghost use Rattle.event_queue.specs.Target.{target_of, IsStayTarget, told};
+ghost use Rattle.event_queue.specs.Target.{target_of, IsStayTarget, reported};
 ghost use Rattle.event_queue.specs.Renames.{HasArrived, renaming_by};
 
 use crate::queue::{Queue, is_both, removes, were_created};
@@ -12,7 +12,7 @@ use notify_types::kind::{EventKind, ModifyKind, RemoveKind, RenameMode};
 use notify_types::time::Moment;
 use std::alloc::{AllocError, Allocator};
 
-/// The first half of a rename: where it was, and when.
+/// The first half of a rename: its path, and its time.
 #[derive(Drop)]
 pub struct FirstHalf<'a, A: Allocator> {
     pub from: &'a PathBuf<A>,
@@ -216,7 +216,7 @@ fn override_event<A: Allocator + Copy>(
     Ok(DebouncedEvent::new(Event { kind, paths, attrs }, time))
 }
 
-/// Adds what is reported of the target.
+/// Adds what is reported for the target.
 fn add_override<A: Allocator + Copy>(
     queue: &mut Vec<DebouncedEvent<A>, A>,
     alloc: A,
@@ -224,7 +224,7 @@ fn add_override<A: Allocator + Copy>(
     target: Target,
     time: Moment,
 ) -> Result<(), AllocError>
-    ensures { OnOk result (queue.new.items ≡ queue.old.items ++ told path.now time target) }
+    ensures { OnOk result (queue.new.items ≡ queue.old.items ++ reported path.now time target) }
 {
     let attrs = match target {
         Target::Free => return Ok(()),
@@ -235,7 +235,7 @@ fn add_override<A: Allocator + Copy>(
     Ok(())
 }
 
-/// Where the rename began.
+/// The path at which the rename began.
 fn original<'a, A: Allocator>(
     earlier: Option<&'a DebouncedEvent<A>>,
     from: &'a PathBuf<A>,
