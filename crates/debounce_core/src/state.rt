@@ -13,8 +13,8 @@ ghost use Rattle.debounce_model.specs.Table.{FitsCase, taken_as};
 ghost use Rattle.debounce_model.specs.Tick.{is_slot_due, places, IsBatch, IsOnlyBatch, IsOutlook, IsOnlyOutlook, tick_step, is_due as is_tick_due};
 ghost use Rattle.debounce_model.specs.WellFormed.{IsWellFormed};
 ghost use Rattle.debounce_model.specs.declared.case.Case.TheVariants.{Rescan, Creation, Removal, RenameFrom, RenameTo, Ignored};
-ghost use Rattle.debounce_queues.specs.Due.{is_due};
-ghost use Rattle.debounce_queues.specs.Renames.{half_value};
+ghost use Rattle.event_queue.specs.Due.{is_due};
+ghost use Rattle.event_queue.specs.Renames.{half_value};
 
 use crate::emit::sort_events;
 use crate::rename_slot::{RenameSlot, first_half, set_slot};
@@ -22,9 +22,9 @@ use crate::rescan_slot::{add_due, held, is_slot_due, trim_slot};
 use crate::roots::{add_root, mode_in, remove_root};
 use debounce_model::case::Case;
 use debounce_model::file_id::FileId;
-use debounce_queues::due::Due;
 use debounce_queues::queues::Queues;
-use debounce_queues::rename::FirstHalf;
+use event_queue::due::Due;
+use event_queue::rename::FirstHalf;
 use file_id_cache::cache::FileIdCache;
 use notify_paths::error::Error;
 use notify_paths::path::PathBuf;
@@ -57,9 +57,13 @@ impl<A: Allocator> Model for State<A> {
 
     ghost use Rattle.debounce_core.specs.StateView.{state_of};
 
-    ghost view = { λ a. state_of a.queues a.roots.items a.rename_slot a.rescan_slot a.errors.items a.timeout a.latest a.taken a.given };
+    ghost view = { λ a.
+        state_of a.queues a.roots.items a.rename_slot a.rescan_slot a.errors.items a.timeout a.latest
+        a.taken a.given };
 
-    ghost invariant = { λ a. IsWellFormed (state_of a.queues a.roots.items a.rename_slot a.rescan_slot a.errors.items a.timeout a.latest a.taken a.given) };
+    ghost invariant = { λ a.
+        IsWellFormed (state_of a.queues a.roots.items a.rename_slot a.rescan_slot a.errors.items a.timeout a.latest
+        a.taken a.given) };
 }
 
 impl<A: Allocator + Copy> State<A> {

@@ -1,4 +1,4 @@
--- Worked rows, by evaluation.
+-- Worked cases of raised moments and moved queues, by evaluation.
 use Rattle.std.proofs.Common.{◌≡◌, ℕ, false, List, [], ◌∷◌, refl, Some, None}
 use Rattle.std.specs.Prelude.{codes}
 use Rattle.notify_types.specs.Event.{Timed, AttributesValue, no_attributes}
@@ -13,98 +13,117 @@ use Rattle.debounce_model.specs.State.{State, empty_state}
 use Rattle.debounce_model.specs.Table.{event_step}
 use Rattle.debounce_model.specs.Tick.{tick_step, places, is_expired_in}
 
+-- a path of one name
 abbrev at1 : List ℕ → PathValue
 at1 a = RootPart ∷ NamePart a ∷ []
 
+-- a path of two names
 abbrev at2 : List ℕ → List ℕ → PathValue
 at2 a b = RootPart ∷ NamePart a ∷ NamePart b ∷ []
 
+-- attributes with this tracker alone
 abbrev tracked : ℕ → AttributesValue
 tracked n = record { tracker = Some n; flag = None; info = None; source = None; process_id = None }
 
+-- an event of this kind at these paths
 abbrev ev : EventKind → List PathValue → AttributesValue → ℕ → Timed
 ev k ps a n = record { event = record { kind = k; paths = ps; attrs = a }; time = n }
 
+-- the first half of a rename
 abbrev from : PathValue → ℕ → ℕ → Timed
 from p t n = ev (Modify (modify.Name rename.From)) (p ∷ []) (tracked t) n
 
+-- the second half of a rename
 abbrev to : PathValue → ℕ → ℕ → Timed
 to p t n = ev (Modify (modify.Name rename.To)) (p ∷ []) (tracked t) n
 
+-- a joined rename
 abbrev both : PathValue → PathValue → ℕ → ℕ → Timed
 both p q t n = ev (Modify (modify.Name rename.Both)) (p ∷ q ∷ []) (tracked t) n
 
+-- a file is created
 abbrev made : PathValue → ℕ → Timed
 made p n = ev (Create create.File) (p ∷ []) no_attributes n
 
+-- a folder is created
 abbrev folder : PathValue → ℕ → Timed
 folder p n = ev (Create create.Folder) (p ∷ []) no_attributes n
 
+-- something is modified
 abbrev changed : PathValue → ℕ → Timed
 changed p n = ev (Modify modify.Any) (p ∷ []) no_attributes n
 
+-- a state after these events, of paths that do not exist
 abbrev taken : State → List Timed → State
 taken s [] = s
 taken s (x ∷ xs) = taken (event_step s x.event x.time false None) xs
 
+-- what waits after these events
 abbrev all_of : List Timed → Queues
 all_of xs = (taken (empty_state 50) xs).queues
 
--- row 59
-row59 : all_of (made (at2 (codes "d") (codes "x")) 0 ∷ from (at1 (codes "d")) 1 1 ∷ to (at1 (codes "e")) 1 2 ∷ [])
+-- a file that waits below a renamed folder goes along
+creation_goes_along : all_of (made (at2 (codes "d") (codes "x")) 0 ∷ from (at1 (codes "d")) 1 1 ∷ to (at1 (codes "e")) 1 2 ∷ [])
     ≡ (at1 (codes "e"), both (at1 (codes "d")) (at1 (codes "e")) 1 1 ∷ []) ∷ (at2 (codes "e") (codes "x"), made (at2 (codes "e") (codes "x")) 1 ∷ []) ∷ []
-row59 = refl
+creation_goes_along = refl
 
--- row 60
-row60 : all_of (changed (at2 (codes "e") (codes "y")) 0 ∷ made (at2 (codes "d") (codes "x")) 1 ∷ from (at1 (codes "d")) 1 2 ∷ to (at1 (codes "e")) 1 3 ∷ [])
+-- what waits below the new path is dropped
+target_below_is_dropped : all_of (changed (at2 (codes "e") (codes "y")) 0 ∷ made (at2 (codes "d") (codes "x")) 1 ∷ from (at1 (codes "d")) 1 2 ∷ to (at1 (codes "e")) 1 3 ∷ [])
     ≡ (at1 (codes "e"), both (at1 (codes "d")) (at1 (codes "e")) 1 2 ∷ []) ∷ (at2 (codes "e") (codes "x"), made (at2 (codes "e") (codes "x")) 2 ∷ []) ∷ []
-row60 = refl
+target_below_is_dropped = refl
 
--- row 61
-row61 : all_of (from (at2 (codes "d") (codes "a")) 1 0 ∷ to (at2 (codes "d") (codes "b")) 1 1 ∷ from (at1 (codes "d")) 2 2 ∷ to (at1 (codes "e")) 2 3 ∷ [])
+-- of a joined rename below the folder both paths go along
+joined_rename_goes_along : all_of (from (at2 (codes "d") (codes "a")) 1 0 ∷ to (at2 (codes "d") (codes "b")) 1 1 ∷ from (at1 (codes "d")) 2 2 ∷ to (at1 (codes "e")) 2 3 ∷ [])
     ≡ (at1 (codes "e"), both (at1 (codes "d")) (at1 (codes "e")) 2 2 ∷ []) ∷ (at2 (codes "e") (codes "b"), both (at2 (codes "e") (codes "a")) (at2 (codes "e") (codes "b")) 1 2 ∷ []) ∷ []
-row61 = refl
+joined_rename_goes_along = refl
 
--- row 62
-row62 : all_of (made (at2 (codes "d") (codes "x")) 0 ∷ from (at1 (codes "d")) 1 1 ∷ to (at2 (codes "d") (codes "e")) 1 2 ∷ [])
+-- below a folder that is renamed into itself nothing moves
+folder_into_itself : all_of (made (at2 (codes "d") (codes "x")) 0 ∷ from (at1 (codes "d")) 1 1 ∷ to (at2 (codes "d") (codes "e")) 1 2 ∷ [])
     ≡ (at2 (codes "d") (codes "e"), both (at1 (codes "d")) (at2 (codes "d") (codes "e")) 1 1 ∷ []) ∷ (at2 (codes "d") (codes "x"), made (at2 (codes "d") (codes "x")) 0 ∷ []) ∷ []
-row62 = refl
+folder_into_itself = refl
 
--- row 63
-row63 : all_of (made (at2 (codes "ab") (codes "x")) 0 ∷ from (at1 (codes "a")) 1 1 ∷ to (at1 (codes "c")) 1 2 ∷ [])
+-- a path that only has the folder as its text's beginning stays
+path_by_text_stays : all_of (made (at2 (codes "ab") (codes "x")) 0 ∷ from (at1 (codes "a")) 1 1 ∷ to (at1 (codes "c")) 1 2 ∷ [])
     ≡ (at2 (codes "ab") (codes "x"), made (at2 (codes "ab") (codes "x")) 0 ∷ []) ∷ (at1 (codes "c"), both (at1 (codes "a")) (at1 (codes "c")) 1 1 ∷ []) ∷ []
-row63 = refl
+path_by_text_stays = refl
 
--- row 64
-row64 : all_of (folder (at1 (codes "d")) 0 ∷ made (at2 (codes "d") (codes "x")) 5 ∷ from (at1 (codes "d")) 1 6 ∷ to (at1 (codes "e")) 1 7 ∷ [])
+-- an event that goes along is no older than the rename
+time_is_raised : all_of (folder (at1 (codes "d")) 0 ∷ made (at2 (codes "d") (codes "x")) 5 ∷ from (at1 (codes "d")) 1 6 ∷ to (at1 (codes "e")) 1 7 ∷ [])
     ≡ (at1 (codes "e"), folder (at1 (codes "e")) 0 ∷ []) ∷ (at2 (codes "e") (codes "x"), made (at2 (codes "e") (codes "x")) 6 ∷ []) ∷ []
-row64 = refl
+time_is_raised = refl
 
+-- an event that is ignored
 abbrev other : List ℕ → ℕ → Timed
 other a n = ev Other (at1 a ∷ []) no_attributes n
 
+-- something is created
 abbrev any : List ℕ → ℕ → Timed
 any a n = ev (Create create.Any) (at1 a ∷ []) no_attributes n
 
-abbrev after57 : State
-after57 = taken (tick_step (taken (tick_step (empty_state 50) 100 []) (any (codes "a") 20 ∷ [])) 60 []) (other (codes "q") 150 ∷ [])
+-- a tick at 100, an event at 20, a tick at 60, and an ignored event at 150
+abbrev after_early_events : State
+after_early_events = taken (tick_step (taken (tick_step (empty_state 50) 100 []) (any (codes "a") 20 ∷ [])) 60 []) (other (codes "q") 150 ∷ [])
 
--- row 57
-row57 : places (is_expired_in after57 70) after57 ≡ any (codes "a") 100 ∷ []
-row57 = refl
+-- an event and a tick that come early are taken at the latest moment: an ignored event raised it
+raised_by_an_ignored_event : places (is_expired_in after_early_events 70) after_early_events ≡ any (codes "a") 100 ∷ []
+raised_by_an_ignored_event = refl
 
-row57_quiet : places (is_expired_in (taken (tick_step (empty_state 50) 100 []) (any (codes "a") 20 ∷ [])) 60) (taken (tick_step (empty_state 50) 100 []) (any (codes "a") 20 ∷ [])) ≡ []
-row57_quiet = refl
+-- .. at 60 nothing is due, since the first tick came at 100
+early_tick_hands_out_nothing : places (is_expired_in (taken (tick_step (empty_state 50) 100 []) (any (codes "a") 20 ∷ [])) 60) (taken (tick_step (empty_state 50) 100 []) (any (codes "a") 20 ∷ [])) ≡ []
+early_tick_hands_out_nothing = refl
 
-row57_latest : (tick_step after57 70 (any (codes "a") 100 ∷ [])).latest ≡ 150
-row57_latest = refl
+-- .. a tick at 70 leaves the latest moment
+tick_keeps_the_latest : (tick_step after_early_events 70 (any (codes "a") 100 ∷ [])).latest ≡ 150
+tick_keeps_the_latest = refl
 
-abbrev after58 : State
-after58 = taken (empty_state 50) (other (codes "q") 30 ∷ any (codes "a") 10 ∷ [])
+-- an ignored event at 30, and an event at 10
+abbrev after_an_ignored_event : State
+after_an_ignored_event = taken (empty_state 50) (other (codes "q") 30 ∷ any (codes "a") 10 ∷ [])
 
--- row 58
-row58 : places (is_expired_in after58 79) after58 ≡ []
-row58 = refl
+-- an event that comes early waits from the raised moment on
+waits_from_the_raised_moment : places (is_expired_in after_an_ignored_event 79) after_an_ignored_event ≡ []
+waits_from_the_raised_moment = refl
 
-row58_due : places (is_expired_in after58 80) after58 ≡ any (codes "a") 30 ∷ []
-row58_due = refl
+-- .. and no longer than that
+waits_from_the_raised_moment_due : places (is_expired_in after_an_ignored_event 80) after_an_ignored_event ≡ any (codes "a") 30 ∷ []
+waits_from_the_raised_moment_due = refl

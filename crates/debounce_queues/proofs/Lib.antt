@@ -1,2 +1,1 @@
 mod RunLists
-mod TargetLemmas

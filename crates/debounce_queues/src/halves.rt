@@ -7,11 +7,12 @@ ghost use Rattle.debounce_model.specs.Queues.{queue_at, with_queue, events_at};
 ghost use Rattle.debounce_model.specs.Rename.{first_both, without_both, staying, moving};
 ghost use Rattle.debounce_model.specs.MapSteps.{before_half, left_at};
 ghost use Rattle.debounce_model.specs.WellFormed.{IsBothInFront};
-ghost use Rattle.debounce_queues.specs.Renames.{halves_by, source_path};
-ghost use Rattle.debounce_queues.specs.Target.{target_of, IsTarget};
+ghost use Rattle.event_queue.specs.Renames.{halves_by, source_path};
+ghost use Rattle.event_queue.specs.Target.{target_of, IsTarget};
 
-use crate::queue::{Queue, QueueMap, new_key};
-use crate::rename::{Rename, Source, Target, arrived, as_target, source_of, without_last};
+use crate::map::{QueueMap, new_key};
+use event_queue::queue::Queue;
+use event_queue::rename::{Rename, Source, Target, arrived, as_target, source_of, without_last};
 use notify_paths::path::PathBuf;
 use notify_types::event::DebouncedEvent;
 use std::alloc::{AllocError, Allocator};

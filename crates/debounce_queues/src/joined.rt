@@ -2,12 +2,12 @@
 ghost use Rattle.std.specs.Prelude.{◌≡◌, OnOk, OnErr};
 ghost use Rattle.debounce_model.specs.Moved.{are_apart};
 ghost use Rattle.debounce_model.specs.WellFormed.{AreQueues};
-ghost use Rattle.debounce_queues.specs.Renames.{joined_by};
+ghost use Rattle.event_queue.specs.Renames.{joined_by};
 
 use crate::halves::{join_halves, source_at};
-use crate::queue::QueueMap;
-use crate::rename::Rename;
+use crate::map::QueueMap;
 use crate::room::{drop_all, drop_empty, make_room, moved_below, set_all, stale_below};
+use event_queue::rename::Rename;
 use notify_paths::below::drop_below;
 use notify_paths::path::PathBuf;
 use std::alloc::{AllocError, Allocator};

@@ -13,12 +13,8 @@
 //! ```
 #![tactic(auto)]
 
-pub mod due;
 mod halves;
 mod joined;
-mod keep;
-mod moved;
-pub mod queue;
+mod map;
 pub mod queues;
-pub mod rename;
 mod room;

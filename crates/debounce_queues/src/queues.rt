@@ -5,15 +5,15 @@ ghost use Rattle.debounce_model.specs.Due.{place_list, rests, is_any_due, rest_a
 ghost use Rattle.debounce_model.specs.Memory.{skips_it, cancels};
 ghost use Rattle.debounce_model.specs.Queues.{queue_at, was_created_at, push, removal, waiting_in};
 ghost use Rattle.debounce_model.specs.Rename.{is_both_kind};
-ghost use Rattle.debounce_queues.specs.Due.{is_due};
-ghost use Rattle.debounce_queues.specs.Renames.{joined_to, renamed_by};
+ghost use Rattle.event_queue.specs.Due.{is_due};
+ghost use Rattle.event_queue.specs.Renames.{joined_to, renamed_by};
 
-use crate::due::{Due, add_last_of_kind, expired_count};
 use crate::joined::join;
-use crate::keep::{Change, change_values};
-use crate::queue::{Queue, QueueMap, new_key};
-use crate::rename::{FirstHalf, Rename};
+use crate::map::{Change, QueueMap, change_values, new_key};
 use debounce_model::case::first_path;
+use event_queue::due::{Due, add_last_of_kind, expired_count};
+use event_queue::queue::Queue;
+use event_queue::rename::{FirstHalf, Rename};
 use notify_paths::below::drop_below;
 use notify_paths::path::PathBuf;
 use notify_types::event::{DebouncedEvent, Event};

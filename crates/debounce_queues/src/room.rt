@@ -10,9 +10,9 @@ ghost use Rattle.debounce_model.specs.Moved.{moved_below, with_queues};
 ghost use Rattle.debounce_model.specs.WellFormed.{AreQueues};
 ghost use Rattle.debounce_model.specs.MapSteps.{reserved, reserved_all, nonempty_of, HasRoom, stale, stale_one, without_queues};
 
-use crate::keep::{Change, change_values};
-use crate::moved::moved_queue;
-use crate::queue::{Queue, QueueMap, new_key};
+use crate::map::{Change, QueueMap, change_values, new_key};
+use event_queue::moved::moved_queue;
+use event_queue::queue::Queue;
 use notify_paths::path::PathBuf;
 use notify_types::time::Moment;
 use std::alloc::{AllocError, Allocator};
@@ -84,7 +84,7 @@ pub(crate) fn stale_below<A: Allocator + Copy>(
     Ok(list)
 }
 
-/// Makes room for a queue at the path: puts an empty one there if there is none.
+/// Makes room for a queue at the path: puts an empty one there if it has none.
 fn reserve<A: Allocator + Copy>(
     queues: &mut QueueMap<A>,
     spare: &mut PathBuf<A>,
@@ -179,7 +179,7 @@ fn set<A: Allocator>(queues: &mut QueueMap<A>, path: &PathBuf<A>, queue: Queue<A
     }
 }
 
-/// Puts each of these queues at its path, where there is room for it.
+/// Puts each of these queues at its path, for which there is room.
 pub(crate) fn set_all<A: Allocator>(queues: &mut QueueMap<A>, mut moved: Moved<A>)
     requires { HasRoom queues.old.entries moved.items }
     ensures { queues.new.entries ≡ with_queues queues.old.entries moved.items }

@@ -22,7 +22,7 @@ pub use debounce_core::data::DebounceDataInner;
 pub use debounce_core::emit::sort_events;
 pub use debounce_model::command::{Command, Reply};
 pub use debounce_model::file_id::FileId;
-pub use debounce_queues::queue::Queue;
+pub use event_queue::queue::Queue;
 pub use file_id_cache::cache::{FileIdCache, NoCache};
 pub use notify_paths::error::{Error, ErrorKind};
 pub use notify_paths::part::{Folders, Part, Parts};

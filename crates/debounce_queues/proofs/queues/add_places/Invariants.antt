@@ -1,6 +1,6 @@
 use Rattle.std.proofs.Common.{◌≡◌, ◌++◌}
 use Rattle.debounce_model.specs.Due.{place_list}
-use Rattle.debounce_queues.specs.Due.{is_due}
+use Rattle.event_queue.specs.Due.{is_due}
 use Rattle.debounce_queues.proofs.queues.add_places.Given as goal
 
 -- what was added and what the other queues hand out are all

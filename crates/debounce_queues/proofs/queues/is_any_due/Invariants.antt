@@ -1,6 +1,6 @@
 use Rattle.std.proofs.Common.{◌≡◌}
 use Rattle.debounce_model.specs.Due.{is_any_due}
-use Rattle.debounce_queues.specs.Due.{is_due}
+use Rattle.event_queue.specs.Due.{is_due}
 use Rattle.debounce_queues.proofs.queues.is_any_due.Given as goal
 
 -- no front so far is due

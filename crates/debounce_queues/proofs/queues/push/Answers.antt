@@ -39,4 +39,3 @@ returns-clause-ok g c =
     ∙ ap (λ q. insert_entry path_cmp queues path q) c.in_ok-single.ensures
     ∙ push-new queues path x none
     ∙ ap (λ p. push queues p x) c.first_path-path.ensures
-

@@ -1,5 +1,5 @@
 use Rattle.debounce_model.proofs.QueueMaps.{map_rests}
-use Rattle.debounce_queues.specs.Due.{is_due}
+use Rattle.event_queue.specs.Due.{is_due}
 use Rattle.debounce_queues.proofs.queues.Queues.trim.Goals as goal
 
 pub invariant_of-self : goal.invariant_of-self

@@ -1,0 +1,83 @@
+//! What of a queue is due.
+ghost use Rattle.std.specs.Prelude.{◌≡◌, ◌++◌, ◌≤◌, OnOk, length, take, drop};
+ghost use Rattle.std.specs.List.{list_any};
+ghost use Rattle.notify_types.specs.KindNumbers.{kind_eq};
+ghost use Rattle.debounce_model.specs.Due.{expired_beginning, rest_after, last_of_kind};
+ghost use Rattle.event_queue.specs.Due.{is_due, unless_later};
+
+use notify_types::event::DebouncedEvent;
+use notify_types::kind::EventKind;
+use notify_types::time::{Moment, age};
+use std::alloc::{AllocError, Allocator};
+
+/// Which events are due.
+#[derive(Clone, Copy)]
+pub enum Due {
+    /// Those whose age is at least this timeout at this moment.
+    Expired(Moment, Moment),
+    /// All of them.
+    Always,
+}
+
+impl Due {
+    /// Whether the event is due.
+    pub fn is_due<A: Allocator>(self, event: &DebouncedEvent<A>) -> bool
+        ensures { result ≡ is_due self event.now }
+    {
+        match self {
+            Due::Expired(timeout, now) => age(now, event.time()) >= timeout,
+            Due::Always => true,
+        }
+    }
+}
+
+/// Returns how many of the first events are due.
+pub fn expired_count<A: Allocator>(events: &[DebouncedEvent<A>], due: Due) -> usize
+    ensures bound { result ≤ length events.now }
+    ensures front { take result events.now ≡ expired_beginning (is_due due) events.now }
+    ensures back { drop result events.now ≡ rest_after (is_due due) events.now }
+{
+    let mut count = 0;
+    for event in events {
+        if !due.is_due(event) {
+            return count;
+        }
+        count += 1;
+    }
+    count
+}
+
+/// Whether one of these events has this kind.
+fn has_kind<A: Allocator>(events: &[DebouncedEvent<A>], kind: EventKind) -> bool
+    ensures { result ≡ list_any (λ y. kind_eq kind y.event.kind) events.now }
+{
+    events.iter().any(|event| kind.is_same(event.kind()))
+}
+
+/// Adds copies of the events of which no later one has the same kind.
+pub fn add_last_of_kind<A: Allocator + Copy>(
+    out: &mut Vec<DebouncedEvent<A>, A>,
+    events: &[DebouncedEvent<A>],
+) -> Result<(), AllocError>
+    ensures { OnOk result (out.new.items ≡ out.old.items ++ last_of_kind events.now) }
+{
+    for (i, event) in events.iter().enumerate() {
+        add_unless_later(out, event, &events[i + 1..])?;
+    }
+    Ok(())
+}
+
+/// Adds a copy of the event, unless one of the later events has its kind.
+fn add_unless_later<A: Allocator + Copy>(
+    out: &mut Vec<DebouncedEvent<A>, A>,
+    event: &DebouncedEvent<A>,
+    later: &[DebouncedEvent<A>],
+) -> Result<(), AllocError>
+    ensures { OnOk result (out.new.items ≡ out.old.items ++ unless_later event.now later.now) }
+{
+    if has_kind(later, event.kind()) {
+        return Ok(());
+    }
+    out.push(event.clone()?)?;
+    Ok(())
+}

@@ -1,0 +1,219 @@
+//! The queue of one path.
+ghost use Rattle.std.specs.Prelude.{◌≡◌, ◌↔◌, OnOk, OnErr, IfOk, IfErr, IsTrue, false, is_some};
+ghost use Rattle.std.specs.Cmp.{partial_equiv_from_equiv};
+ghost use Rattle.notify_paths.specs.Errors.{out_of_memory};
+ghost use Rattle.debounce_model.specs.Equality.{events_eq};
+ghost use Rattle.debounce_model.specs.EqualityLaws.{events_eq_equiv};
+ghost use Rattle.debounce_model.specs.Queues.{was_created, was_removed, appended, skips, creates, removes};
+ghost use Rattle.debounce_model.specs.Due.{is_front_due, rest_after, waits};
+ghost use Rattle.debounce_model.specs.Rename.{is_both_kind, without_last, without_both, staying};
+ghost use Rattle.debounce_model.specs.MapSteps.{one_or_none};
+ghost use Rattle.event_queue.specs.Due.{is_due};
+
+use crate::due::{Due, expired_count};
+use notify_paths::error::Error;
+use notify_types::event::{DebouncedEvent, clone_events};
+use notify_types::kind::{EventKind, ModifyKind, RenameMode};
+use std::alloc::{AllocError, Allocator, Global};
+use std::marker::Model;
+
+/// Whether the path is there after an event of this kind.
+fn creates(kind: EventKind) -> bool
+    ensures { result ≡ creates kind }
+{
+    matches!(
+        kind,
+        EventKind::Create(_) | EventKind::Modify(ModifyKind::Name(RenameMode::To))
+    )
+}
+
+/// Whether the path is gone after an event of this kind.
+pub(crate) fn removes(kind: EventKind) -> bool
+    ensures { result ≡ removes kind }
+{
+    matches!(
+        kind,
+        EventKind::Remove(_) | EventKind::Modify(ModifyKind::Name(RenameMode::From))
+    )
+}
+
+/// Whether this is the kind of a joined rename.
+pub(crate) fn is_both(kind: EventKind) -> bool
+    ensures { result ≡ is_both_kind kind }
+{
+    matches!(kind, EventKind::Modify(ModifyKind::Name(RenameMode::Both)))
+}
+
+/// Whether the first event creates its path.
+pub(crate) fn were_created<A: Allocator>(events: &[DebouncedEvent<A>]) -> bool
+    ensures { result ≡ was_created events.now }
+{
+    match events.first() {
+        None => false,
+        Some(first) => creates(first.kind()),
+    }
+}
+
+/// Whether the first event removes its path.
+fn were_removed<A: Allocator>(events: &[DebouncedEvent<A>]) -> bool
+    ensures { result ≡ was_removed events.now }
+{
+    match events.first() {
+        None => false,
+        Some(first) => removes(first.kind()),
+    }
+}
+
+/// Drops the last event.
+fn drop_last<A: Allocator>(events: &mut Vec<DebouncedEvent<A>, A>)
+    ensures { events.new.items ≡ without_last events.old.items }
+{
+    let len = events.len();
+    events.truncate(len.saturating_sub(1));
+}
+
+/// Drops a joined rename from the front; one that stands second is dropped with what goes along.
+fn drop_front_both<A: Allocator>(events: &mut Vec<DebouncedEvent<A>, A>)
+    ensures { staying events.new.items ≡ staying (without_both events.old.items) }
+{
+    let Some(first) = events.first() else {
+        return;
+    };
+    if is_both(first.kind()) {
+        events.remove(0);
+    }
+}
+
+/// The events that wait at one path, in the order in which they came.
+#[derive(Debug, Drop)]
+pub struct Queue<A: Allocator = Global> {
+    events: Vec<DebouncedEvent<A>, A>,
+}
+
+impl<A: Allocator> Model for Queue<A> {
+    ghost use Rattle.std.specs.Prelude.{List};
+    ghost use Rattle.notify_types.specs.Event.{Timed};
+
+    ghost Value = { List Timed };
+
+    ghost view = { λ a. a.events.items };
+}
+
+impl<A: Allocator> Queue<A> {
+    /// Returns the queue of these events.
+    pub fn new(events: Vec<DebouncedEvent<A>, A>) -> Queue<A>
+        ensures { result ≡ events.items }
+    {
+        Queue { events }
+    }
+
+    /// Whether the first event is a `Create` or a `Modify(Name(To))`.
+    pub fn was_created(&self) -> bool
+        ensures { result ≡ was_created self.now }
+    {
+        were_created(self.events.as_slice())
+    }
+
+    /// Whether the first event is a `Remove` or a `Modify(Name(From))`.
+    pub fn was_removed(&self) -> bool
+        ensures { result ≡ was_removed self.now }
+    {
+        were_removed(self.events.as_slice())
+    }
+
+    /// Returns an equal queue.
+    pub fn try_clone(&self) -> Result<Queue<A>, Error<A>>
+    where
+        A: Copy,
+        ensures ok { IfOk result (λ queue. queue ≡ self.now) }
+        ensures err { IfErr result (λ e. e ≡ out_of_memory) }
+    {
+        let alloc = *self.events.allocator();
+        match clone_events(alloc, self.events.as_slice()) {
+            Ok(events) => Ok(Queue { events }),
+            Err(_) => Err(Error::out_of_memory(alloc)),
+        }
+    }
+
+    /// Returns the events that wait.
+    pub fn events(&self) -> &[DebouncedEvent<A>]
+        ensures { result.now ≡ self.now }
+    {
+        self.events.as_slice()
+    }
+
+    /// Whether something waits.
+    pub fn waits(&self) -> bool
+        ensures { result ≡ waits self.now }
+    {
+        !self.events.as_slice().is_empty()
+    }
+
+    /// Whether the first event is due.
+    pub fn is_front_due(&self, due: Due) -> bool
+        ensures { result ≡ is_front_due (is_due due) self.now }
+    {
+        match self.events.first() {
+            None => false,
+            Some(first) => due.is_due(first),
+        }
+    }
+
+    /// Puts an event after the others, unless the queue was created and skips it. If the allocation
+    /// fails, nothing has changed; none is needed for an event that is skipped.
+    pub fn append(&mut self, event: DebouncedEvent<A>) -> Result<(), AllocError>
+        ensures ok { OnOk result (self.new ≡ appended self.old event) }
+        ensures err { OnErr result (self.new ≡ self.old) }
+        ensures grown { OnErr result (skips self.old event.event.kind ≡ false) }
+    {
+        if event.kind().is_skippable() && self.was_created() {
+            return Ok(());
+        }
+        self.events.push(event)?;
+        Ok(())
+    }
+
+    /// Drops all but what a rename leaves at its source, and returns whether there is such an event.
+    pub fn keep_staying(&mut self) -> bool
+        ensures kept { self.new ≡ one_or_none (staying (without_both (without_last self.old))) }
+        ensures stays { result ≡ is_some (staying (without_both (without_last self.old))) }
+    {
+        drop_last(&mut self.events);
+        drop_front_both(&mut self.events);
+        if were_removed(self.events.as_slice()) {
+            self.events.truncate(1);
+            return true;
+        }
+        self.events.clear();
+        false
+    }
+
+    /// Drops the due beginning, and returns whether something still waits.
+    pub fn trim(&mut self, due: Due) -> bool
+        ensures rest { self.new ≡ rest_after (is_due due) self.old }
+        ensures waits { result ≡ waits (rest_after (is_due due) self.old) }
+    {
+        let count = expired_count(self.events.as_slice(), due);
+        self.events.as_mut_slice().rotate_left(count);
+        let left = self.events.len() - count;
+        self.events.truncate(left);
+        !self.events.as_slice().is_empty()
+    }
+}
+
+impl<A: Allocator> PartialEq for Queue<A> {
+    ghost eq = { events_eq };
+
+    ghost laws = { partial_equiv_from_equiv events_eq_equiv };
+
+    fn eq(&self, other: &Queue<A>) -> bool
+        ensures value { result ≡ events_eq self.now other.now }
+        ensures same { IsTrue result ↔ (self.now ≡ other.now) }
+    {
+        self.events == other.events
+    }
+}
+
+impl<A: Allocator> Eq for Queue<A> {
+    ghost laws = { events_eq_equiv };
+}
