@@ -25,13 +25,13 @@ pub use debounce_core::queue::Queue;
 pub use debounce_model::command::{Command, Reply};
 pub use debounce_model::file_id::FileId;
 pub use notify_paths::error::{Error, ErrorKind};
+pub use notify_paths::part::{Folders, Part, Parts};
+pub use notify_paths::path::PathBuf;
 pub use notify_types::event::{DebouncedEvent, Event, EventAttributes, Flag, RecursiveMode};
 pub use notify_types::kind::{
     AccessKind, AccessMode, CreateKind, DataChange, EventKind, MetadataKind, ModifyKind,
     RemoveKind, RenameMode,
 };
-pub use notify_paths::part::{Folders, Part, Parts};
-pub use notify_paths::path::PathBuf;
 pub use notify_types::time::{Moment, age};
 
 /// The cache that fits most programs.
