@@ -36,6 +36,10 @@ fn a_core_takes_events_and_emits_them(rt: HostRuntime) {
     let early = batch_len(&rt, &mut core, 49);
     let batch = batch_len(&rt, &mut core, 50);
     assert_eq!(rt; (core.answer(), [pending, early, batch]), (None, [2, 0, 1]));
+    check_counts(&rt, &core);
+}
+
+fn check_counts(rt: &impl Abort, core: &Core) {
     assert_eq!(rt; [core.taken(), core.given(), core.waiting()], [2, 1, 1]);
 }
 

@@ -71,8 +71,15 @@ fn check_times(rt: &impl Abort, sorted: &[DebouncedEvent]) {
         sorted[3].time(),
     ];
     assert_eq!(rt; times, [4, 5, 3, 7]);
-    let first = sorted[0].first_path().expect(rt, "a path");
-    assert_eq!(rt; first.as_str(), "/b");
+    check_first_path(rt, &sorted[0], "/b");
+    for event in &sorted[1..] {
+        check_first_path(rt, event, "/a");
+    }
+}
+
+fn check_first_path(rt: &impl Abort, event: &DebouncedEvent, text: &str) {
+    let first = event.first_path().expect(rt, text);
+    assert_eq!(rt; first.as_str(), text);
 }
 
 #[test]

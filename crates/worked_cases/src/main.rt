@@ -1,6 +1,6 @@
 //! The program `worked_cases`: it runs each case of a document, and says which of them print what the
-//! document says. `worked_cases DOCUMENT`. It ends with status 1 if a case differs, and with 2 if the
-//! document can't be read or the output fails.
+//! document says. `worked_cases DOCUMENT`. It ends with status 1 if a case differs or no document is
+//! named, and with 2 if the document can't be read or the output fails.
 #![tactic(auto)]
 
 mod case;
