@@ -1,6 +1,8 @@
 //! What asks for memory, and how often.
 use crate::build::{CREATE, REMOVE};
-use notify_debouncer_full::{DebounceDataInner, Event, EventKind, NoCache, PathBuf};
+use notify_debouncer_full::{
+    DebounceDataInner, DebouncedEvent, Event, EventKind, ModifyKind, NoCache, PathBuf, RenameMode,
+};
 use refusing_allocator::Refusing;
 use std::alloc::Global;
 use std::process::Abort;
@@ -71,4 +73,94 @@ fn check_cancelled(rt: &impl Abort, core: &mut Core, heap: Heap, texts: &str) {
     assert_eq!(rt; heap.left(), 1, "{texts}");
     heap.refuse(0);
     assert_eq!(rt; core.waiting(), 19, "{texts}");
+}
+
+/// What comes first, and the step of which each request for memory is refused in turn.
+const STORIES: [&str; 5] = [
+    "create /b; create /a",
+    "modify /a, modify /a/x; remove /a",
+    "modify /a, modify /b, from /a; to /b",
+    "create /d/x, modify /d/y/z, modify /e/y, from /d; to /e",
+    "modify /a, create /b, create /a/x; tick",
+];
+
+#[test]
+fn a_refused_step_leaves_all_as_it_was(rt: HostRuntime) {
+    let heap = new_heap(&rt);
+    for story in STORIES {
+        let (first, last) = story.split_once("; ").expect(&rt, story);
+        check_refusals(&rt, heap, first, last);
+    }
+}
+
+/// Refuses the first request of the last step, then the second and so on, until none is left.
+fn check_refusals(rt: &impl Abort, heap: Heap, first: &str, last: &str) {
+    let mut refused = 0u64;
+    for n in 1..200u64 {
+        let mut core = prepared(rt, heap, first);
+        if is_refused(rt, &mut core, heap, last, n) {
+            refused = n;
+        }
+    }
+    assert!(rt; 0 < refused && refused < 199, "{last}");
+}
+
+/// A debouncer that took these steps.
+fn prepared(rt: &impl Abort, heap: Heap, steps: &str) -> Core {
+    let mut core = DebounceDataInner::new(heap, NoCache::new(), 50);
+    for step in steps.split(", ") {
+        let taken = take_step(rt, &mut core, heap, step, 0);
+        assert!(rt; taken, "{step}");
+    }
+    core
+}
+
+/// Whether the step is refused if its nth request is; then nothing has changed.
+fn is_refused(rt: &impl Abort, core: &mut Core, heap: Heap, step: &str, n: u64) -> bool {
+    let before = seen(rt, core);
+    let taken = take_step(rt, core, heap, step, n);
+    assert!(rt; taken || seen(rt, core) == before, "{step}");
+    !taken
+}
+
+/// Whether the step is taken if the nth request for memory is refused.
+fn take_step(rt: &impl Abort, core: &mut Core, heap: Heap, step: &str, n: u64) -> bool {
+    match step.split_once(' ') {
+        Some((word, text)) => add_event(core, heap, event(rt, heap, kind_of(word), text), n),
+        None => emit(core, heap, n),
+    }
+}
+
+fn add_event(core: &mut Core, heap: Heap, event: Event<Heap>, n: u64) -> bool {
+    let event = event.set_tracker(1);
+    heap.refuse(n);
+    let taken = core.add_event(event, 0, true).is_ok();
+    heap.refuse(0);
+    taken
+}
+
+fn emit(core: &mut Core, heap: Heap, n: u64) -> bool {
+    heap.refuse(n);
+    let emitted = core.debounced_events(100).is_ok();
+    heap.refuse(0);
+    emitted
+}
+
+fn kind_of(word: &str) -> EventKind {
+    match word {
+        "create" => CREATE,
+        "remove" => REMOVE,
+        "from" => EventKind::Modify(ModifyKind::Name(RenameMode::From)),
+        "to" => EventKind::Modify(ModifyKind::Name(RenameMode::To)),
+        _ => EventKind::Modify(ModifyKind::Any),
+    }
+}
+
+/// What can be seen of a debouncer: its outlook, its counts and its latest moment.
+type Seen = (Vec<DebouncedEvent<Heap>, Heap>, [u64; 3], u128);
+
+fn seen(rt: &impl Abort, core: &Core) -> Seen {
+    let outlook = core.outlook().expect(rt, "memory");
+    let counts = [core.waiting(), core.taken(), core.given()];
+    (outlook, counts, core.latest())
 }
