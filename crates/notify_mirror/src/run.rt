@@ -1,10 +1,10 @@
 //! The run of a script over a reader and two writers.
-ghost use Rattle.std.specs.Prelude.{◌≡◌, ℕ, ◌⊎◌, ◌<◌, [], map, IfOk, IfErr, IfSome, OnOk, OnErr};
-ghost use Rattle.std.specs.Io.KnownBytes.{Keeps, Appends};
+ghost use Rattle.std.specs.Prelude.{◌≡◌, ◌⊎◌, ◌<◌, [], map, IfOk, IfErr, IfSome, OnOk, OnErr};
+ghost use Rattle.std.specs.Io.KnownBytes.{Appends};
 ghost use Rattle.std.specs.String.{string_bytes, string_len};
 ghost use Rattle.notify_mirror.specs.Faults.{fault_status, fault_line, broken_status, IsRunFault};
-ghost use Rattle.notify_mirror.specs.Script.{Reads, Fails, script_of};
-ghost use Rattle.notify_mirror.specs.ScriptView.{script_value, with_text, IsScript, IsScriptOf};
+ghost use Rattle.notify_mirror.specs.Script.{Reads, script_of};
+ghost use Rattle.notify_mirror.specs.ScriptView.{script_value, KeepsText, IsScript, IsScriptOf, IsFaulty};
 ghost use Rattle.notify_mirror.specs.Usage.{is_usage};
 ghost use Rattle.notify_mirror.specs.declared.run.Broken.TheVariants.{Memory};
 
@@ -137,7 +137,7 @@ fn read_bytes<A: Allocator + Copy>(alloc: A, bytes: &[u8]) -> Result<Script<A>, 
 /// taken at its word; any other error of it is `CannotRead`.
 pub fn read_from<A: Allocator + Copy, R: Read>(alloc: A, reader: &mut R) -> Result<Script<A>, Fault>
     ensures ok { IfOk result (λ script. IsScriptOf (R.remaining reader.old) script) }
-    ensures err { IfErr result (λ fault. IfSome (R.remaining reader.old) (λ given. IsRunFault (script_of given) fault)) }
+    ensures err { IfErr result (λ e. IfSome (R.remaining reader.old) (λ given. IsRunFault (script_of given) e)) }
 {
     let bytes = read_whole(alloc, reader)?;
     read_bytes(alloc, bytes.as_slice())
@@ -163,7 +163,7 @@ pub fn write_out<A: Allocator, O: Write>(text: &mut String<A>, out: &mut O) -> R
 /// Writes the text out, and empties it, where it is long: 64 KiB or more.
 pub fn write_full<A: Allocator, O: Write>(text: &mut String<A>, out: &mut O) -> Result<(), Broken>
     // What is written, with the text behind it, stays.
-    ensures kept { OnOk result (Keeps (with_text (O.contents out.old) text.old) (with_text (O.contents out.new) text.new)) }
+    ensures kept { OnOk result (KeepsText (O.contents out.old) text.old (O.contents out.new) text.new) }
     ensures short { OnOk result (string_len text.new < 65536) }
     ensures unchanged { OnErr result (string_bytes text.new ≡ string_bytes text.old) }
     ensures err { IfErr result (λ e. e ≡ Broken.OutputFailed) }
@@ -197,7 +197,7 @@ pub fn script_run<A: Allocator + Copy, R: Read, O: Write, E: Write>(
     err: &mut E,
 ) -> u8
     ensures reads { (result ≡ 0) ⊎ (result ≡ 6) → IfSome (R.remaining reader.old) IsScript }
-    ensures fails { result ≡ 3 → IfSome (R.remaining reader.old) (λ given. (line : ℕ) × (script_of given ≡ Fails line)) }
+    ensures fails { result ≡ 3 → IfSome (R.remaining reader.old) IsFaulty }
     ensures statuses { (result ≡ 0) ⊎ ((result ≡ 1) ⊎ ((result ≡ 3) ⊎ ((result ≡ 4) ⊎ (result ≡ 6)))) }
     ensures untouched { (result ≡ 1) ⊎ (result ≡ 3) → O.contents out.new ≡ O.contents out.old }
     ensures silent { (result ≡ 0) ⊎ (result ≡ 6) → E.contents err.new ≡ E.contents err.old }
