@@ -35,7 +35,7 @@ pub enum Fault {
     CannotRead,
     /// This line, counted from 1, is none that a script can have there.
     NotCommand(u64),
-    /// A growth was refused.
+    /// An allocation failed.
     Memory,
 }
 
@@ -66,7 +66,7 @@ impl Fault {
 /// Why a run can't go on.
 #[derive(Clone, Copy, Debug, PartialEq, Eq)]
 pub enum Broken {
-    /// A growth was refused.
+    /// An allocation failed.
     Memory,
     /// The output can't be written.
     OutputFailed,
@@ -162,7 +162,7 @@ pub fn write_out<A: Allocator, O: Write>(text: &mut String<A>, out: &mut O) -> R
 
 /// Writes the text out, and empties it, where it is long: 64 KiB or more.
 pub fn write_full<A: Allocator, O: Write>(text: &mut String<A>, out: &mut O) -> Result<(), Broken>
-    // What is written, with the text behind it, stays.
+    // What is written, with the text after it, stays.
     ensures kept { OnOk result (KeepsText (O.contents out.old) text.old (O.contents out.new) text.new) }
     ensures short { OnOk result (string_len text.new < 65536) }
     ensures unchanged { OnErr result (string_bytes text.new ≡ string_bytes text.old) }

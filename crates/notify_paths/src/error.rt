@@ -28,10 +28,10 @@ pub enum ErrorKind<A: Allocator = Global> {
     /// A path to be unwatched isn't watched.
     #[error("WatchNotFound")]
     WatchNotFound,
-    /// As many events were taken as can be counted.
+    /// The count of events is at its limit.
     #[error("Full")]
     Full,
-    /// A growth was refused.
+    /// An allocation failed.
     #[error("Memory")]
     Memory,
 }
@@ -116,14 +116,14 @@ impl<A: Allocator> Error<A> {
         }
     }
 
-    /// Returns the error that says that a growth was refused.
+    /// Returns the error that says that an allocation failed.
     pub fn out_of_memory(alloc: A) -> Error<A>
         ensures { result ≡ out_of_memory }
     {
         Error::new(alloc, ErrorKind::Memory)
     }
 
-    /// Puts a path behind the others. Where memory is refused, the error and the path are dropped.
+    /// Adds a path after the others. If the allocation fails, the error and the path are dropped.
     pub fn add_path(mut self, path: PathBuf<A>) -> Result<Error<A>, Error<A>>
     where
         A: Copy,
