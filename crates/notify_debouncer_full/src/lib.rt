@@ -1,21 +1,20 @@
-//! A debouncer of file events: it stands between a file watcher and a program that wants few,
-//! ordered events. Duplicates are dropped, creations are cancelled by removals, what waits below a
-//! removed folder is dropped with it, and the two halves of a rename are joined. This is a port of the
-//! Rust crate of the same name.
+//! A debouncer for file events: the Rust crate of the same name, ported.
 //!
-//! A caller that has its own clock makes a [`DebounceDataInner`], gives it events by `add_event`
-//! and asks for what is due by `debounced_events`; or it hands a list of commands to `run`.
+//! A file watcher reports too much. A [`DebounceDataInner`] takes its events by `add_event` and emits
+//! few, in order, by `debounced_events`: it merges duplicates, forgets what was created and removed
+//! again, reports one removal for a folder, and joins the two halves of a rename. A list of commands
+//! can be handed to `run` instead, whose contract is the whole run.
 //!
 //! ```text
-//! let mut core = DebounceDataInner::new(rt.alloc(), NoCache::new(), 50);
+//! let mut core = DebounceDataInner::new(rt.alloc(), NoCache::new(), 50_000_000);
 //! let path = PathBuf::parse(rt.alloc(), "/home/file.txt")?;
 //! let event = Event::new(rt.alloc(), EventKind::Create(CreateKind::File)).add_path(path)?;
-//! core.add_event(event, 0, true)?;
-//! let batch = core.debounced_events(50)?;
+//! core.add_event(event, now, true)?;
+//! let batch = core.debounced_events(now + 50_000_000)?;
 //! ```
 //!
-//! Moments are nanoseconds from a start that the caller chooses. The definitions that the contracts
-//! speak of are re-exported in `specs`.
+//! Moments are nanoseconds from a start that the caller chooses; the core reads no clock. The
+//! definitions that the contracts speak of are re-exported in `specs`.
 #![tactic(auto)]
 
 pub use debounce_core::data::DebounceDataInner;
@@ -34,5 +33,5 @@ pub use notify_types::kind::{
 };
 pub use notify_types::time::{Moment, age};
 
-/// The cache that fits most programs.
+/// The cache that fits most programs: it holds nothing, so renames are joined by their trackers alone.
 pub type RecommendedCache = NoCache;
