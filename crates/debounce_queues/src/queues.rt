@@ -129,7 +129,7 @@ impl<A: Allocator + Copy> Queues<A> {
     }
 
     /// Adds copies of what is due, in the order of the paths: of each queue's due beginning the
-    /// last of each kind.
+    /// last of each kind. If an allocation fails, `places` may hold some of them.
     pub fn add_places(
         &self,
         places: &mut Vec<DebouncedEvent<A>, A>,

@@ -54,7 +54,8 @@ fn has_kind<A: Allocator>(events: &[DebouncedEvent<A>], kind: EventKind) -> bool
     events.iter().any(|event| kind.is_same(event.kind()))
 }
 
-/// Adds copies of the events of which no later one has the same kind.
+/// Adds copies of the events of which no later one has the same kind. If an allocation fails, `out` may
+/// hold some of them.
 pub fn add_last_of_kind<A: Allocator + Copy>(
     out: &mut Vec<DebouncedEvent<A>, A>,
     events: &[DebouncedEvent<A>],
