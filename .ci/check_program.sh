@@ -1,6 +1,7 @@
 #!/usr/bin/env bash
 # check_program.sh PROGRAM: runs a built `mirror` for each status and form of its command line, and
-# ./mirror over stand-ins for the program and the toolchain. The last line is 'N passed, M failed'.
+# ./mirror over stand-ins for the program and the toolchain; then it compares the README's code and
+# output with what the gate compiles and runs. The last line is 'N passed, M failed'.
 program=$(realpath "$1") || exit 1
 top=$(cd "$(dirname "$0")/.." && pwd) || exit 1
 room=$(mktemp -d) || exit 1
@@ -101,6 +102,25 @@ rm "$room/top/crates/mirror/out/built"
 BUILD_STATUS=1 "$mirror" --build >out 2>err
 report 'a build that fails' "$([ $? = 125 ] && [ ! -e "$room/top/crates/mirror/out/built" ] &&
     grep -qx 'mirror: notify_paths could not be proved and built' err && echo yes)"
+
+# The README: each block of code stands in a test, and the script that it runs is the program's own.
+cd "$top" || exit 1
+squeezed() {
+    tr -s ' \n' ' ' | sed 's/^ //; s/ $//'
+}
+blocks=$(grep -c '^```rust' README.md)
+for number in $(seq "$blocks"); do
+    block=$(awk -v wanted="$number" '/^```/ { inside = /^```rust/ && ++seen == wanted; next } inside' README.md | squeezed)
+    well=no
+    for file in crates/*_tests/src/readme.rt; do
+        [[ $(squeezed <"$file") == *"$block"* ]] && well=yes
+    done
+    report "the README's code, block $number" "$([ -n "$block" ] && echo $well)"
+done
+script=$(sed -n 's,^\./mirror \(scripts/.*\),\1,p' README.md | head -n 1)
+report "the README's script" "$(cmp -s "$script" crates/mirror/data/example && echo yes)"
+output=$(cat crates/mirror/stdout)
+report "the README's output" "$([[ $(cat README.md) == *"$output"* ]] && echo yes)"
 
 echo "$passed passed, $failed failed"
 [ $failed = 0 ]

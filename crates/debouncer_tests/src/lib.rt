@@ -17,4 +17,6 @@ mod paths;
 #[cfg(test)]
 mod readers;
 #[cfg(test)]
+mod readme;
+#[cfg(test)]
 mod scripts;
