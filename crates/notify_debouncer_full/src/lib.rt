@@ -23,6 +23,8 @@ pub use debounce_model::command::{Command, Reply};
 pub use debounce_model::file_id::FileId;
 pub use event_queue::queue::Queue;
 pub use file_id_cache::cache::{FileIdCache, NoCache};
+pub use file_id_cache::file_id_map::FileIdMap;
+pub use file_id_cache::scan::Scan;
 pub use notify_paths::error::{Error, ErrorKind};
 pub use notify_paths::part::{Folders, Part, Parts};
 pub use notify_paths::path::PathBuf;
