@@ -132,13 +132,23 @@ fn take_numbers(
 fn equal_file_numbers_join_a_rename(rt: HostRuntime) {
     let mut core = new_core(&rt, &["/a /a=7", "/b /b=7"]);
     assert_eq!(rt; rename(&rt, &mut core), [None, Some(7), Some(7)]);
-    let batch = core.debounced_events(100).expect(&rt, "memory");
+    check_joined(&rt, &mut core);
+    assert_eq!(rt; take_numbers(&rt, &mut core, ["/b", "/a"]), [Some(7), None]);
+}
+
+fn check_joined(rt: &impl Abort, core: &mut Core) {
+    let batch = core.debounced_events(100).expect(rt, "memory");
     let [renamed, modified] = batch.as_slice() else {
         panic!(rt; "two events");
     };
-    assert_eq!(rt; seen(renamed), ("Modify(Name(Both))", ["/a", "/b"], 1));
-    assert_eq!(rt; seen(modified), ("Modify(Any)", ["/b", "/b"], 0));
-    assert_eq!(rt; take_numbers(&rt, &mut core, ["/b", "/a"]), [Some(7), None]);
+    let seen = [seen(renamed), seen(modified)];
+    assert_eq!(rt;
+        seen,
+        [
+            ("Modify(Name(Both))", ["/a", "/b"], 1),
+            ("Modify(Any)", ["/b", "/b"], 0)
+        ]
+    );
 }
 
 /// The word of an event's kind, its first and its last path, and its time.
@@ -152,27 +162,41 @@ fn seen(event: &DebouncedEvent) -> (&str, [&str; 2], u128) {
 fn different_file_numbers_join_nothing(rt: HostRuntime) {
     let mut core = new_core(&rt, &["/a /a=7", "/b /b=8"]);
     assert_eq!(rt; rename(&rt, &mut core), [None, Some(7), Some(8)]);
-    let batch = core.debounced_events(100).expect(&rt, "memory");
+    check_apart(&rt, &mut core);
+    assert_eq!(rt; take_numbers(&rt, &mut core, ["/b", "/a"]), [Some(8), None]);
+}
+
+fn check_apart(rt: &impl Abort, core: &mut Core) {
+    let batch = core.debounced_events(100).expect(rt, "memory");
     let [modified, from, to] = batch.as_slice() else {
         panic!(rt; "three events");
     };
     assert_eq!(rt; seen(modified), ("Modify(Any)", ["/a", "/a"], 0));
-    assert_eq!(rt; seen(from), ("Modify(Name(From))", ["/a", "/a"], 1));
-    assert_eq!(rt; seen(to), ("Modify(Name(To))", ["/b", "/b"], 2));
-    assert_eq!(rt; take_numbers(&rt, &mut core, ["/b", "/a"]), [Some(8), None]);
+    let halves = [seen(from), seen(to)];
+    assert_eq!(rt;
+        halves,
+        [
+            ("Modify(Name(From))", ["/a", "/a"], 1),
+            ("Modify(Name(To))", ["/b", "/b"], 2)
+        ]
+    );
 }
 
 #[test]
 fn a_rescan_keeps_the_number_of_a_path_that_is_gone(rt: HostRuntime) {
     let mut core = new_core(&rt, &["/a /a=7", "/a /a/b=8"]);
-    core.add_root(&path(&rt, "/a"), RecursiveMode::Recursive)
-        .expect(&rt, "memory");
+    add_root(&rt, &mut core);
     let rescan = Event::new(rt.alloc(), EventKind::Other).set_flag(Flag::Rescan);
     core.add_event(rescan, 0, false).expect(&rt, "memory");
     assert_eq!(rt;
         take_numbers(&rt, &mut core, ["/a/b", "/a"]),
         [Some(8), Some(7)]
     );
+}
+
+fn add_root(rt: &(impl Abort + AllocGlobal), core: &mut Core) {
+    core.add_root(&path(rt, "/a"), RecursiveMode::Recursive)
+        .expect(rt, "memory");
 }
 
 #[test]

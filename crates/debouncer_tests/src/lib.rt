@@ -13,6 +13,8 @@ mod devices;
 #[cfg(test)]
 mod events;
 #[cfg(test)]
+mod folders;
+#[cfg(test)]
 mod memory;
 #[cfg(test)]
 mod paths;

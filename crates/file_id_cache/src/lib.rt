@@ -9,5 +9,4 @@
 
 pub mod cache;
 pub mod file_id_map;
-pub mod folder_scan;
 pub mod scan;

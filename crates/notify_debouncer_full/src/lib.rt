@@ -25,6 +25,7 @@ pub use event_queue::queue::Queue;
 pub use file_id_cache::cache::{FileIdCache, NoCache};
 pub use file_id_cache::file_id_map::FileIdMap;
 pub use file_id_cache::scan::Scan;
+pub use folder_scan::folder_scan::FolderScan;
 pub use notify_paths::error::{Error, ErrorKind};
 pub use notify_paths::part::{Folders, Part, Parts};
 pub use notify_paths::path::PathBuf;

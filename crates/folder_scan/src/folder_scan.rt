@@ -1,12 +1,12 @@
 //! A scan of the real file system.
 ghost use Rattle.file_id_cache.specs.Scans.{some_scans};
 
-use crate::scan::Scan;
 use debounce_model::file_id::FileId;
+use file_id_cache::scan::Scan;
 use notify_paths::error::Error;
 use notify_paths::path::PathBuf;
 use std::alloc::{AllocError, Allocator, Global};
-use std::fs::{Files, Metadata};
+use std::fs::{DirEntry, Files};
 use std::os::unix::fs::MetadataExt;
 use std::{fs, io};
 
@@ -44,96 +44,127 @@ impl<R: Drop, A: Allocator + Copy> FolderScan<R, A> {
 }
 
 impl<A: Allocator + Copy, R: Files + Alloc + Clone + Drop> FolderScan<R, A> {
-    /// Scans the path, and the levels below it one after the other.
+    /// Scans the path, and so many levels below it.
     fn scan_levels(&mut self, path: &PathBuf<A>, depth: u32) -> Result<(), AllocError> {
         self.found.clear();
         let mut folders = Vec::new(self.alloc);
         self.add(&mut folders, path.clone()?, None)?;
+        self.add_levels(&mut folders, depth)
+    }
+
+    /// Adds what is in the folders, then what is in those that were found so, and so on.
+    fn add_levels(&mut self, folders: &mut Vec<Folder, A>, depth: u32) -> Result<(), AllocError> {
         let mut done = 0;
         for _level in 0..depth {
             let count = folders.len();
             if done == count {
                 return Ok(());
             }
-            for place in done..count {
-                self.add_entries(&mut folders, place)?;
+            for index in done..count {
+                self.add_folder(folders, index)?;
             }
             done = count;
         }
         Ok(())
     }
 
-    /// Adds what is in a folder.
+    /// Adds what is in the folder of this index.
+    fn add_folder(&mut self, folders: &mut Vec<Folder, A>, index: usize) -> Result<(), AllocError> {
+        match self.folder_path(folders.as_slice(), index)? {
+            Some(path) => self.add_entries(folders, index, &path),
+            None => Ok(()),
+        }
+    }
+
+    /// A copy of the path of the folder of this index.
+    fn folder_path(
+        &self,
+        folders: &[Folder],
+        index: usize,
+    ) -> Result<Option<PathBuf<A>>, AllocError> {
+        let Some(folder) = folders.get(index) else {
+            return Ok(None);
+        };
+        match self.found.get(folder.place) {
+            Some((path, _id)) => Ok(Some(path.clone()?)),
+            None => Ok(None),
+        }
+    }
+
+    /// Adds the entries of the folder at this path.
     fn add_entries(
         &mut self,
         folders: &mut Vec<Folder, A>,
         index: usize,
+        path: &PathBuf<A>,
     ) -> Result<(), AllocError> {
-        let Some(path) = self.folder_path(folders.get(index).copied())? else {
-            return Ok(());
-        };
         let Some(entries) = readable(fs::read_dir(&self.rt, path.as_str()))? else {
             return Ok(());
         };
         for entry in entries {
-            if let Some(entry) = readable(entry)? {
-                if let Some(child) = path.child(entry.file_name())? {
-                    self.add(folders, child, Some(index))?;
-                }
+            if let Some(child) = entry_path(path, entry)? {
+                self.add(folders, child, Some(index))?;
             }
         }
         Ok(())
     }
 
-    /// A copy of the folder's path.
-    fn folder_path(&self, folder: Option<Folder>) -> Result<Option<PathBuf<A>>, AllocError> {
-        match folder.and_then(|folder| self.found.get(folder.place)) {
-            Some((path, _number)) => Ok(Some(path.clone()?)),
-            None => Ok(None),
-        }
-    }
-
-    /// Adds the path, if it can be read.
+    /// Adds the path, if it can be read and isn't a link to a folder that it lies in.
     fn add(
         &mut self,
         folders: &mut Vec<Folder, A>,
         path: PathBuf<A>,
         above: Option<usize>,
     ) -> Result<(), AllocError> {
-        let Some(metadata) = readable(fs::metadata(&self.rt, path.as_str()))? else {
+        let Some((id, is_folder)) = self.look(&path)? else {
             return Ok(());
         };
-        let id = file_id(&metadata);
-        if metadata.is_dir() {
+        if is_folder {
             if self.lies_in(folders.as_slice(), above, id) {
                 return Ok(());
             }
-            folders.push(Folder {
-                place: self.found.len(),
-                above,
-            })?;
+            let place = self.found.len();
+            folders.push(Folder { place, above })?;
         }
         self.found.push((path, id))?;
         Ok(())
     }
 
-    /// Whether a folder with this number is this one or above it.
-    fn lies_in(&self, folders: &[Folder], folder: Option<usize>, id: FileId) -> bool {
-        let mut next = folder;
+    /// The number of the file at the path, and whether it is a folder.
+    fn look(&self, path: &PathBuf<A>) -> Result<Option<(FileId, bool)>, AllocError> {
+        let Some(metadata) = readable(fs::metadata(&self.rt, path.as_str()))? else {
+            return Ok(None);
+        };
+        let id = FileId {
+            device: metadata.dev(),
+            number: u128::from(metadata.ino()),
+        };
+        Ok(Some((id, metadata.is_dir())))
+    }
+
+    /// Whether the folder of this index, or one that it lies in, has this number.
+    fn lies_in(&self, folders: &[Folder], index: Option<usize>, id: FileId) -> bool {
+        let mut next = index;
         for _step in 0..folders.len() {
-            let Some(folder) = next.and_then(|index| folders.get(index)) else {
+            let Some(index) = next else {
                 return false;
             };
-            if self
-                .found
-                .get(folder.place)
-                .is_some_and(|pair| pair.1 == id)
-            {
+            let Some(folder) = folders.get(index) else {
+                return false;
+            };
+            if self.has_number(folder.place, id) {
                 return true;
             }
             next = folder.above;
         }
         false
+    }
+
+    fn has_number(&self, place: usize, id: FileId) -> bool {
+        match self.found.get(place) {
+            Some((_path, found)) => *found == id,
+            None => false,
+        }
     }
 }
 
@@ -153,11 +184,14 @@ impl<A: Allocator + Copy, R: Files + Alloc + Clone + Drop> Scan<A> for FolderSca
     }
 }
 
-/// The number of the file that this is said of.
-fn file_id(metadata: &Metadata) -> FileId {
-    FileId {
-        device: metadata.dev(),
-        number: u128::from(metadata.ino()),
+/// The path of an entry of the folder at this path, if it can be read.
+fn entry_path<R: Files + Drop, A: Allocator + Copy, B: Allocator>(
+    path: &PathBuf<A>,
+    entry: io::Result<DirEntry<R, B>>,
+) -> Result<Option<PathBuf<A>>, AllocError> {
+    match readable(entry)? {
+        Some(entry) => path.child(entry.file_name()),
+        None => Ok(None),
     }
 }
 
