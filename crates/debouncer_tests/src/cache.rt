@@ -206,7 +206,8 @@ fn a_later_pair_wins(rt: HostRuntime) {
     map.add_path(&place, RecursiveMode::Recursive)
         .expect(&rt, "memory");
     let number = map.cached_file_id(&place).map(|id| id.number);
-    assert_eq!(rt; (number, map.len()), (Some(2), 1));
+    assert_eq!(rt; (number, map.len(), map.is_empty()), (Some(2), 1, false));
+    assert_eq!(rt; map.scan().found().len(), 2);
 }
 
 type Heap = &'static Refusing<Global>;
