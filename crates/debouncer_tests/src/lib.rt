@@ -5,11 +5,15 @@
 #[cfg(test)]
 mod build;
 #[cfg(test)]
+mod cache;
+#[cfg(test)]
 mod debouncer;
 #[cfg(test)]
 mod devices;
 #[cfg(test)]
 mod events;
+#[cfg(test)]
+mod folders;
 #[cfg(test)]
 mod memory;
 #[cfg(test)]

@@ -12,6 +12,8 @@ pub use Rattle.notify_paths.specs.ErrorView
 pub use Rattle.notify_paths.specs.ErrorEquality
 pub use Rattle.notify_types.specs.Equality
 pub use Rattle.debounce_model.specs.Cache
+pub use Rattle.file_id_cache.specs.Scans
+pub use Rattle.file_id_cache.specs.FileIdMap
 pub use Rattle.debounce_model.specs.Queues
 pub use Rattle.debounce_model.specs.Order
 pub use Rattle.debounce_model.specs.Command

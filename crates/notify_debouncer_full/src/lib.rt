@@ -13,6 +13,9 @@
 //! let batch = core.debounced_events(now + 50_000_000)?;
 //! ```
 //!
+//! Renames whose halves have no trackers are joined by file numbers if the cache has some: `FileIdMap`
+//! over a `FolderScan` reads them from the file system, and `NoCache` has none.
+//!
 //! Moments are nanoseconds from a start that the caller chooses; the core reads no clock. The
 //! definitions that the contracts speak of are re-exported in `specs`.
 #![tactic(auto)]
@@ -23,6 +26,9 @@ pub use debounce_model::command::{Command, Reply};
 pub use debounce_model::file_id::FileId;
 pub use event_queue::queue::Queue;
 pub use file_id_cache::cache::{FileIdCache, NoCache};
+pub use file_id_cache::file_id_map::FileIdMap;
+pub use file_id_cache::scan::Scan;
+pub use folder_scan::folder_scan::FolderScan;
 pub use notify_paths::error::{Error, ErrorKind};
 pub use notify_paths::part::{Folders, Part, Parts};
 pub use notify_paths::path::PathBuf;
