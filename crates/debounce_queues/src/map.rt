@@ -2,13 +2,9 @@
 ghost use Rattle.std.specs.Prelude.{◌≡◌, Bool, IfOk};
 ghost use Rattle.debounce_model.specs.Due.{changed_entries};
 
-use event_queue::queue::Queue;
 use notify_paths::path::PathBuf;
 use std::alloc::{AllocError, Allocator};
 use std::collections::BTreeMap;
-
-/// The queues of all paths.
-pub(crate) type QueueMap<A> = BTreeMap<PathBuf<A>, Queue<A>, A>;
 
 /// Returns a copy of the path, and leaves room in `spare` for another.
 pub(crate) fn new_key<A: Allocator + Copy>(

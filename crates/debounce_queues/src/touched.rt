@@ -1,0 +1,159 @@
+//! The joined rename, with the index of the fronts.
+ghost use Rattle.std.specs.Prelude.{◌≡◌, ◌++◌, ◌||◌, ◌<◌, ℕ, true, false, length, IfOk, OnOk, OnErr};
+ghost use Rattle.notify_paths.specs.Path.{PathValue};
+ghost use Rattle.notify_types.specs.Event.{AttributesValue};
+ghost use Rattle.debounce_model.specs.Moved.{moved_below, below_of, joined_rename};
+ghost use Rattle.debounce_model.specs.WellFormed.{AreQueues, IsQueueMap};
+ghost use Rattle.event_queue.specs.Renames.{joined_by};
+ghost use Rattle.event_queue.specs.Front.{front_time};
+ghost use Rattle.front_index.specs.Fronts.{has, IsIndexed};
+ghost use Rattle.front_index.specs.Steps.{has_pair, pair_of, pairs_of, TellApart};
+ghost use Rattle.debounce_queues.specs.Touched.{moved_time, fronts_after};
+
+use crate::halves::source_at;
+use crate::joined::{are_apart, join};
+use event_queue::queue::Queue;
+use event_queue::rename::{Rename, Source};
+use front_index::fronts::{Fronts, QueueMap};
+use front_index::settle::{Pairs, add_front_at, add_pair, insert_copies, settle};
+use notify_paths::path::PathBuf;
+use notify_types::time::Moment;
+use std::alloc::{AllocError, Allocator};
+use std::ops::Bound;
+
+/// Adds the fronts of the queues strictly below the path.
+fn add_fronts_below<A: Allocator + Copy>(
+    pairs: &mut Pairs<A>,
+    queues: &QueueMap<A>,
+    path: &PathBuf<A>,
+) -> Result<(), AllocError>
+    ensures { OnOk result (pairs.new.items ≡ pairs.old.items ++ pairs_of (below_of queues.now.entries path.now)) }
+{
+    for (key, queue) in queues.range((Bound::Excluded(path), Bound::Unbounded)) {
+        if !key.starts_with(path) {
+            return Ok(());
+        }
+        add_pair(pairs, queue.front_time(), key)?;
+    }
+    Ok(())
+}
+
+/// Adds the front of a queue, as it is after the rename that began at this time.
+fn add_moved_front<A: Allocator + Copy>(
+    pairs: &mut Pairs<A>,
+    queue: &Queue<A>,
+    place: PathBuf<A>,
+    began: Moment,
+) -> Result<(), AllocError>
+    ensures { OnOk result (pairs.new.items ≡ pairs.old.items ++ pair_of (moved_time began (front_time queue.now)) place) }
+{
+    if let Some(time) = queue.front_time() {
+        pairs.push((time.max(began), place))?;
+    }
+    Ok(())
+}
+
+/// Adds the fronts of the queues strictly below `from`, as they are after the rename that began at this
+/// time.
+fn add_moved_fronts<A: Allocator + Copy>(
+    pairs: &mut Pairs<A>,
+    queues: &QueueMap<A>,
+    from: &PathBuf<A>,
+    to: &PathBuf<A>,
+    began: Moment,
+) -> Result<(), AllocError>
+    requires { 0 < length from.now }
+    ensures { OnOk result (pairs.new.items ≡ pairs.old.items ++ pairs_of (moved_below queues.now.entries from.now to.now began)) }
+{
+    for (path, queue) in queues.range((Bound::Excluded(from), Bound::Unbounded)) {
+        if !path.starts_with(from) {
+            return Ok(());
+        }
+        add_moved_front(pairs, queue, path.in_place(from, to)?, began)?;
+    }
+    Ok(())
+}
+
+/// Adds the fronts that a rename may leave at its two paths.
+fn add_fronts_after<A: Allocator + Copy>(
+    pairs: &mut Pairs<A>,
+    source: &Source<'_, A>,
+    from: &PathBuf<A>,
+    to: &PathBuf<A>,
+    time: Moment,
+) -> Result<(), AllocError>
+    ensures { OnOk result (pairs.new.items ≡ pairs.old.items ++ fronts_after source.now from.now to.now time) }
+{
+    add_pair(pairs, Some(source.original_time(time)), to)?;
+    add_pair(pairs, source.moving_time(), to)?;
+    add_pair(pairs, source.staying_time(), from)
+}
+
+/// The fronts of the queues that a rename changes, before it and, maybe with others, after it.
+fn touched_fronts<A: Allocator + Copy>(
+    queues: &QueueMap<A>,
+    alloc: A,
+    from: &PathBuf<A>,
+    to: &PathBuf<A>,
+    time: Moment,
+) -> Result<Pairs<A>, AllocError>
+    requires { AreQueues queues.now.entries }
+    ensures { IfOk result (λ pairs. (attrs : AttributesValue) → TellApart pairs.items queues.now.entries (joined_rename queues.now.entries from.now to.now time attrs)) }
+{
+    // The proof reads here that the paths ascend.
+    let _len = queues.len();
+    let source = source_at(queues, from);
+    let mut pairs = Vec::new(alloc);
+    add_front_at(&mut pairs, queues, from)?;
+    add_front_at(&mut pairs, queues, to)?;
+    add_fronts_after(&mut pairs, &source, from, to, time)?;
+    if !are_apart(from, to) {
+        return Ok(pairs);
+    }
+    let began = source.original_time(time);
+    add_fronts_below(&mut pairs, queues, from)?;
+    add_fronts_below(&mut pairs, queues, to)?;
+    add_moved_fronts(&mut pairs, queues, from, to, began)?;
+    Ok(pairs)
+}
+
+/// The joined rename, after the index got these pairs.
+fn insert_and_join<A: Allocator + Copy>(
+    queues: &mut QueueMap<A>,
+    fronts: &mut Fronts<A>,
+    spare: &mut PathBuf<A>,
+    pairs: &Pairs<A>,
+    rename: Rename<'_, A>,
+) -> Result<(), AllocError>
+    requires { AreQueues queues.old.entries }
+    ensures ok { OnOk result (queues.new.entries ≡ joined_by queues.old.entries rename.entry) }
+    ensures err { OnErr result (queues.new.entries ≡ queues.old.entries) }
+    ensures put { OnOk result ((t : ℕ) (p : PathValue) → has fronts.new t p ≡ (has_pair pairs.now.items t p || has fronts.old t p)) }
+    ensures grown { (t : ℕ) (p : PathValue) → has fronts.old t p ≡ true → has fronts.new t p ≡ true }
+    ensures others { (t : ℕ) (p : PathValue) → has_pair pairs.now.items t p ≡ false → has fronts.new t p ≡ has fronts.old t p }
+{
+    let alloc = *pairs.allocator();
+    insert_copies(fronts, pairs.as_slice())?;
+    join(queues, spare, alloc, rename)
+}
+
+/// The joined rename whose first half is what came last at its source. The index gets all fronts that
+/// may come first, by what can fail; after the rename, or if it is refused, it loses what is no front.
+pub(crate) fn join_indexed<A: Allocator + Copy>(
+    queues: &mut QueueMap<A>,
+    fronts: &mut Fronts<A>,
+    spare: &mut PathBuf<A>,
+    alloc: A,
+    rename: Rename<'_, A>,
+) -> Result<(), AllocError>
+    requires map { IsQueueMap queues.old.entries }
+    requires indexed { IsIndexed fronts.old queues.old.entries }
+    ensures ok { OnOk result (queues.new.entries ≡ joined_by queues.old.entries rename.entry) }
+    ensures err { OnErr result (queues.new.entries ≡ queues.old.entries) }
+    ensures indexed { IsIndexed fronts.new queues.new.entries }
+{
+    let pairs = touched_fronts(queues, alloc, rename.from, rename.to, rename.time)?;
+    let joined = insert_and_join(queues, fronts, spare, &pairs, rename);
+    settle(queues, fronts, pairs.as_slice());
+    joined
+}

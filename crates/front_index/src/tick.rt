@@ -1,0 +1,154 @@
+//! A tick by the index: it opens only the queues whose fronts are due.
+ghost use Rattle.std.specs.Prelude.{◌≡◌, ◌&&◌, ◌||◌, ◌+◌, ℕ, OnOk, OnErr, IfOk, true, false, if◌then◌else◌};
+ghost use Rattle.std.specs.BTreeMap.{is_at};
+ghost use Rattle.std.specs.List.{AllByRecursion, list_any};
+ghost use Rattle.notify_paths.specs.Path.{PathValue, path_cmp};
+ghost use Rattle.debounce_model.specs.Due.{rests, due_fronts};
+ghost use Rattle.debounce_model.specs.Queues.{queue_at};
+ghost use Rattle.debounce_model.specs.WellFormed.{IsNonempty};
+ghost use Rattle.event_queue.specs.Due.{is_due, is_due_at};
+ghost use Rattle.front_index.specs.Fronts.{is_time, is_front, has, IsIndexed};
+ghost use Rattle.front_index.specs.Steps.{has_pair, is_due_front, front_after, is_later};
+
+use crate::fronts::{Fronts, QueueMap, is_front, pop_due};
+use event_queue::due::Due;
+use notify_paths::path::PathBuf;
+use notify_types::time::Moment;
+use std::alloc::{AllocError, Allocator};
+
+/// Drops the due beginning of what waits at the path.
+fn trim_at<A: Allocator>(map: &mut QueueMap<A>, path: &PathBuf<A>, due: Due)
+    ensures rests { rests (is_due due) map.new.entries ≡ rests (is_due due) map.old.entries }
+    ensures trimmed { (p : PathValue) → is_due_front due (queue_at map.new.entries p) ≡ (if is_at (path_cmp path.now) p then false else is_due_front due (queue_at map.old.entries p)) }
+    ensures others { (p : PathValue) → is_at (path_cmp path.now) p ≡ false → queue_at map.new.entries p ≡ queue_at map.old.entries p }
+    ensures filled { AllByRecursion (λ e. IsNonempty e.1) map.old.entries → AllByRecursion (λ e. IsNonempty e.1) map.new.entries }
+    ensures counted { is_due_front due (queue_at map.old.entries path.now) ≡ true → due_fronts (is_due due) map.old.entries ≡ due_fronts (is_due due) map.new.entries + 1 }
+{
+    let stays = match map.get_mut(path) {
+        None => return,
+        Some(queue) => queue.trim(due),
+    };
+    if !stays {
+        map.remove(path);
+    }
+}
+
+/// Drops the due beginnings of all queues whose fronts are due by the index, which has the later
+/// fronts already. Returns how many queues these are.
+fn trim_due<A: Allocator>(map: &mut QueueMap<A>, fronts: &mut Fronts<A>, due: Due) -> usize
+    requires later { (t : ℕ) (p : PathValue) → is_due_at due t ≡ false → has fronts.old t p ≡ is_front (rests (is_due due) map.old.entries) t p }
+    requires now { (t : ℕ) (p : PathValue) → is_due_at due t ≡ true → has fronts.old t p ≡ is_front map.old.entries t p }
+    requires filled { AllByRecursion (λ e. IsNonempty e.1) map.old.entries }
+    ensures rests { map.new.entries ≡ rests (is_due due) map.old.entries }
+    ensures indexed { IsIndexed fronts.new map.new.entries }
+    ensures count { result ≡ due_fronts (is_due due) map.old.entries }
+{
+    // The proof reads here that the queues can be counted.
+    let _most = map.len();
+    let mut count = 0;
+    while let Some(front) = pop_due(fronts, due) {
+        trim_at(map, &front.1, due);
+        count += 1;
+    }
+    // The proof reads here that the paths ascend.
+    let _len = map.len();
+    count
+}
+
+/// When what is not due of what waits at the path has its front.
+fn time_after<A: Allocator>(map: &QueueMap<A>, path: &PathBuf<A>, due: Due) -> Option<Moment>
+    ensures { result ≡ front_after due (queue_at map.now.entries path.now) }
+{
+    match map.get(path) {
+        None => None,
+        Some(queue) => queue.time_after(due),
+    }
+}
+
+/// Adds the pair of what is not due of what waits at the path.
+fn add_later<A: Allocator + Copy>(
+    later: &mut Vec<(Moment, PathBuf<A>), A>,
+    map: &QueueMap<A>,
+    path: &PathBuf<A>,
+    due: Due,
+) -> Result<(), AllocError>
+    ensures { OnOk result ((t : ℕ) (p : PathValue) → has_pair later.new.items t p ≡ (has_pair later.old.items t p || (is_at (path_cmp p) path.now && is_time (front_after due (queue_at map.now.entries path.now)) t))) }
+{
+    let time = match time_after(map, path, due) {
+        None => return Ok(()),
+        Some(time) => time,
+    };
+    let key = path.clone()?;
+    later.push((time, key))?;
+    Ok(())
+}
+
+/// The pairs that the index gets once what is due is gone: the rest of each queue that is due in part
+/// has another front.
+fn later_fronts<A: Allocator + Copy>(
+    map: &QueueMap<A>,
+    fronts: &Fronts<A>,
+    alloc: A,
+    due: Due,
+) -> Result<Vec<(Moment, PathBuf<A>), A>, AllocError>
+    ensures { IfOk result (λ later. (t : ℕ) (p : PathValue) → has_pair later.items t p ≡ list_any (is_later due map.now.entries t p) fronts.now.keys) }
+{
+    // The proof reads here that the pairs ascend.
+    let _len = fronts.len();
+    let mut later = Vec::new(alloc);
+    for front in fronts {
+        if !due.is_due_at(front.0) {
+            return Ok(later);
+        }
+        add_later(&mut later, map, &front.1, due)?;
+    }
+    Ok(later)
+}
+
+/// Puts these pairs into the index.
+fn add_fronts<A: Allocator + Copy>(
+    fronts: &mut Fronts<A>,
+    later: Vec<(Moment, PathBuf<A>), A>,
+) -> Result<(), AllocError>
+    ensures ok { OnOk result ((t : ℕ) (p : PathValue) → has fronts.new t p ≡ (has_pair later.items t p || has fronts.old t p)) }
+    ensures grown { (t : ℕ) (p : PathValue) → has fronts.old t p ≡ true → has fronts.new t p ≡ true }
+{
+    for front in later {
+        fronts.insert(front)?;
+    }
+    Ok(())
+}
+
+/// Takes out of the index what is no front.
+fn tidy<A: Allocator>(map: &QueueMap<A>, fronts: &mut Fronts<A>)
+    requires covered { (t : ℕ) (p : PathValue) → is_front map.now.entries t p ≡ true → has fronts.old t p ≡ true }
+    ensures { (t : ℕ) (p : PathValue) → has fronts.new t p ≡ is_front map.now.entries t p }
+{
+    fronts.retain(|front| is_front(map, &front.1, front.0));
+}
+
+/// Drops the due beginning of each queue, and returns how many queues had one. The later fronts go
+/// into the index first, by what alone can fail; if that is refused, nothing has changed.
+pub fn trim<A: Allocator + Copy>(
+    map: &mut QueueMap<A>,
+    fronts: &mut Fronts<A>,
+    alloc: A,
+    due: Due,
+) -> Result<usize, AllocError>
+    requires { IsIndexed fronts.old map.old.entries }
+    ensures count { IfOk result (λ count. count ≡ due_fronts (is_due due) map.old.entries) }
+    ensures ok { OnOk result (map.new.entries ≡ rests (is_due due) map.old.entries) }
+    ensures err { OnErr result (map.new.entries ≡ map.old.entries) }
+    ensures indexed { IsIndexed fronts.new map.new.entries }
+{
+    let later = later_fronts(map, fronts, alloc, due)?;
+    // The proof reads here that the paths ascend.
+    let _len = map.len();
+    match add_fronts(fronts, later) {
+        Ok(()) => Ok(trim_due(map, fronts, due)),
+        Err(refused) => {
+            tidy(map, fronts);
+            Err(refused)
+        }
+    }
+}
