@@ -6,7 +6,7 @@ use Rattle.mirror_script.specs.declared.fault.Fault.{Fault}
 use Rattle.mirror_script.specs.declared.fault.Fault.TheVariants.{Usage, NotUtf8, CannotRead, NotCommand, Memory, OutputFailed}
 use Rattle.notify_mirror.specs.declared.transcript.Report.{Report}
 use Rattle.notify_mirror.specs.Ending.{status_of, IsStopped}
-use Rattle.notify_mirror.specs.Transcript.{PrintsTranscript, BeginsTranscript, IsGiven}
+use Rattle.notify_mirror.specs.Transcript.{PrintsRun, BeginsRun, IsGiven}
 
 -- bytes that are a script
 given_script : (bytes : Option (List ℕ)) (script : ScriptValue) → IsGiven bytes script → IfSome bytes IsScript
@@ -21,10 +21,10 @@ given_faulty (Some given) line h = (line, h)
 module _ {A : Type 0} (report : Report) (bytes old new : Option (List ℕ)) where
   -- a run, from what is known of its success and of its faults
   abbrev pub IsRun : Result A Fault → Type 0
-  IsRun r = OnOk r (PrintsTranscript report bytes old new) × IfErr r (λ e. IsStopped report bytes old new e)
+  IsRun r = OnOk r (PrintsRun report bytes old new) × IfErr r (λ e. IsStopped report bytes old new e)
 
   -- at 0 the transcript is printed
-  pub at_0 : (r : Result A Fault) → IsRun r → status_of r ≡ 0 → PrintsTranscript report bytes old new
+  pub at_0 : (r : Result A Fault) → IsRun r → status_of r ≡ 0 → PrintsRun report bytes old new
   at_0 (Ok x) h s = h.0
   at_0 (Err Usage) h s = absurd (omega (arith, s))
   at_0 (Err NotUtf8) h s = absurd (omega (arith, s))
@@ -34,7 +34,7 @@ module _ {A : Type 0} (report : Report) (bytes old new : Option (List ℕ)) wher
   at_0 (Err OutputFailed) h s = absurd (omega (arith, s))
 
   -- at 6 a beginning of it
-  pub at_6 : (r : Result A Fault) → IsRun r → status_of r ≡ 6 → BeginsTranscript report bytes old new
+  pub at_6 : (r : Result A Fault) → IsRun r → status_of r ≡ 6 → BeginsRun report bytes old new
   at_6 (Ok x) h s = absurd (omega (arith, s))
   at_6 (Err Usage) h s = absurd (omega (arith, s))
   at_6 (Err NotUtf8) h s = absurd (omega (arith, s))
@@ -44,7 +44,7 @@ module _ {A : Type 0} (report : Report) (bytes old new : Option (List ℕ)) wher
   at_6 (Err OutputFailed) h s = h.1
 
   -- at 4 nothing, or a beginning of it
-  pub at_4 : (r : Result A Fault) → IsRun r → status_of r ≡ 4 → (new ≡ old) ⊎ BeginsTranscript report bytes old new
+  pub at_4 : (r : Result A Fault) → IsRun r → status_of r ≡ 4 → (new ≡ old) ⊎ BeginsRun report bytes old new
   at_4 (Ok x) h s = absurd (omega (arith, s))
   at_4 (Err Usage) h s = absurd (omega (arith, s))
   at_4 (Err NotUtf8) h s = absurd (omega (arith, s))

@@ -12,7 +12,7 @@ use Rattle.mirror_script.specs.declared.fault.Fault.{Fault}
 use Rattle.mirror_script.specs.declared.fault.Fault.TheVariants.{Memory, OutputFailed}
 use Rattle.notify_mirror.specs.declared.transcript.Report.{Report}
 use Rattle.notify_mirror.specs.Output.{Begins}
-use Rattle.notify_mirror.specs.Transcript.{PlayedValue, transcript, IsRunFrom, IsRunOf, IsPrinted, IsBegun, IsGiven, PrintsTranscript}
+use Rattle.notify_mirror.specs.Transcript.{PlayedValue, transcript, IsRunFrom, IsRunOf, IsPrinted, IsBegun, IsGiven, PrintsRun}
 use Rattle.notify_mirror.specs.Ending.{IsStopped}
 use Rattle.notify_types.specs.Event.{Timed}
 use Rattle.debounce_model.specs.Cache.{no_numbers}
@@ -73,7 +73,7 @@ module _ {C : Type 0} (s : Core C) (start : Paths) (cs told : List CommandValue)
 
 module _ {A : Type 0} (report : Report) (bytes old new : Option (List ℕ)) (script : ScriptValue) (given : IsGiven bytes script) where
   -- what is printed of a script is printed of the bytes that it was read from
-  pub printed_given : (r : Result A Fault) → OnOk r (IsPrinted report (IsRunOf script) old new) → OnOk r (PrintsTranscript report bytes old new)
+  pub printed_given : (r : Result A Fault) → OnOk r (IsPrinted report (IsRunOf script) old new) → OnOk r (PrintsRun report bytes old new)
   printed_given (Ok x) h = (script, given, h)
   printed_given (Err e) h = h
 

@@ -1,5 +1,5 @@
 -- The whole output of a run: its transcript.
-use Rattle.std.specs.Prelude.{◌≡◌, ℕ, Option, None, List, [], ◌++◌, codes, IfSome}
+use Rattle.std.specs.Prelude.{◌≡◌, ◌⊎◌, ℕ, Option, None, List, [], ◌++◌, codes, IfSome}
 use Rattle.std.specs.Io.KnownBytes.{Appends}
 use Rattle.notify_types.specs.Event.{Timed}
 use Rattle.file_id_cache.specs.declared.cache.NoCache.{NoCache}
@@ -13,6 +13,8 @@ use Rattle.path_sets.specs.Played.{with_paths, reader_paths}
 use Rattle.path_sets.specs.Clock.{clock_kept}
 use Rattle.path_sets.specs.Stream.{is_honest}
 use Rattle.mirror_script.specs.Script.{ScriptValue, Reads, script_of}
+use Rattle.mirror_script.specs.declared.fault.Fault.{Fault}
+use Rattle.mirror_script.specs.declared.fault.Fault.TheVariants.{Memory}
 use Rattle.notify_mirror.specs.declared.transcript.Report.{Report}
 use Rattle.notify_mirror.specs.declared.transcript.Report.TheVariants.{Plain, Check}
 use Rattle.notify_mirror.specs.Output.{Begins}
@@ -56,7 +58,8 @@ abbrev pub transcript : Report → PlayedValue → List ℕ
 transcript report p = replies_lines p.commands p.replies ++ ending_lines report p
 
 -- from s, with no numbers of files, the commands ran and left t
-pub record IsRunFrom {C : Type 0} (s : Core C) (from : Paths) (asked : List CommandValue) (t : Core C) (p : PlayedValue) : Type 0 where
+pub record IsRunFrom {C : Type 0} (s : Core C) (from : Paths) (asked : List CommandValue) (t : Core C) (p : PlayedValue)
+    : Type 0 where
   pub start : p.start ≡ from
   pub commands : p.commands ≡ asked
   pub run : Run no_numbers s asked p.replies t
@@ -71,7 +74,7 @@ pub record IsRunOf (script : ScriptValue) (p : PlayedValue) : Type 0 where
   pub unanswered : first.answer ≡ None
   pub run : IsRunFrom first (with_paths [] script.start) script.commands last p
 
--- what was written grew by the transcript of such a run
+-- what was written grew by the transcript of a run
 abbrev pub IsPrinted : Report → (PlayedValue → Type 0) → Option (List ℕ) → Option (List ℕ) → Type 0
 IsPrinted report IsRun old new = (p : PlayedValue) × IsRun p × Appends old new (transcript report p)
 
@@ -83,10 +86,20 @@ IsBegun report IsRun old new = (p : PlayedValue) × IsRun p × Begins old [] new
 abbrev pub IsGiven : Option (List ℕ) → ScriptValue → Type 0
 IsGiven bytes script = IfSome bytes (λ given. script_of given ≡ Reads script)
 
+-- nothing was written, since an allocation failed, or a beginning was
+abbrev pub BeginsOrNot : Report → (PlayedValue → Type 0) → Option (List ℕ) → Option (List ℕ) → Fault → Type 0
+BeginsOrNot report IsRun old new e = ((e ≡ Memory) × (new ≡ old)) ⊎ IsBegun report IsRun old new
+
 -- the transcript of a run of the script that was read is printed
-abbrev pub PrintsTranscript : Report → Option (List ℕ) → Option (List ℕ) → Option (List ℕ) → Type 0
-PrintsTranscript report bytes old new = (script : ScriptValue) × IsGiven bytes script × IsPrinted report (IsRunOf script) old new
+abbrev pub PrintsRun : Report → Option (List ℕ) → Option (List ℕ) → Option (List ℕ) → Type 0
+PrintsRun report bytes old new =
+    (script : ScriptValue) × IsGiven bytes script × IsPrinted report (IsRunOf script) old new
 
 -- a beginning of the transcript of a run of the script that was read is printed
-abbrev pub BeginsTranscript : Report → Option (List ℕ) → Option (List ℕ) → Option (List ℕ) → Type 0
-BeginsTranscript report bytes old new = (script : ScriptValue) × IsGiven bytes script × IsBegun report (IsRunOf script) old new
+abbrev pub BeginsRun : Report → Option (List ℕ) → Option (List ℕ) → Option (List ℕ) → Type 0
+BeginsRun report bytes old new =
+    (script : ScriptValue) × IsGiven bytes script × IsBegun report (IsRunOf script) old new
+
+-- nothing is printed, or a beginning of such a transcript
+abbrev pub StopsRun : Report → Option (List ℕ) → Option (List ℕ) → Option (List ℕ) → Type 0
+StopsRun report bytes old new = (new ≡ old) ⊎ BeginsRun report bytes old new

@@ -2,7 +2,8 @@
 ghost use Rattle.std.specs.Prelude.{◌≡◌, ◌<◌, [], OnOk, OnErr, IfErr};
 ghost use Rattle.std.specs.Io.KnownBytes.{Appends};
 ghost use Rattle.std.specs.String.{string_bytes, string_len};
-ghost use Rattle.notify_mirror.specs.Output.{Prints, Begins};
+ghost use Rattle.notify_mirror.specs.PlayedView.{PrintsText};
+ghost use Rattle.notify_mirror.specs.Output.{Begins};
 
 use mirror_script::Fault;
 use std::alloc::Allocator;
@@ -50,7 +51,7 @@ pub(crate) fn write_full<A: Allocator, O: Write>(
     out: &mut O,
 ) -> Result<(), Fault>
     // What is written, with the text after it, stays.
-    ensures kept { OnOk result (Prints (O.contents out.old) (string_bytes text.old) (O.contents out.new) (string_bytes text.new) []) }
+    ensures kept { OnOk result (PrintsText (O.contents out.old) text.old (O.contents out.new) text.new []) }
     ensures short { OnOk result (string_len text.new < 65536) }
     ensures begun { OnErr result (Begins (O.contents out.old) (string_bytes text.old) (O.contents out.new) []) }
     ensures err { IfErr result (λ e. e ≡ Fault.OutputFailed) }

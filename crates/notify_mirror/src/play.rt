@@ -1,8 +1,8 @@
 //! A script on a debouncer: its commands are run, and what comes of them is printed.
 ghost use Rattle.std.specs.Prelude.{◌≡◌, ◌⊎◌, OnOk, IfOk, IfErr};
 ghost use Rattle.debounce_model.specs.CommandView.{command_values};
-ghost use Rattle.mirror_script.specs.ScriptView.{script_value};
-ghost use Rattle.notify_mirror.specs.Transcript.{IsRunFrom, IsRunOf, IsPrinted, IsBegun};
+ghost use Rattle.notify_mirror.specs.PlayedView.{IsPlayed, IsTaken};
+ghost use Rattle.notify_mirror.specs.Transcript.{IsPrinted, BeginsOrNot};
 
 use crate::transcript::{Played, Report, print_run};
 use mirror_script::{Counts, Fault, Script};
@@ -19,8 +19,8 @@ pub(crate) fn play_script<A: Allocator + Copy, O: Write>(
     script: Script<A>,
     out: &mut O,
 ) -> Result<(), Fault>
-    ensures ok { OnOk result (IsPrinted report (IsRunOf (script_value script)) (O.contents out.old) (O.contents out.new)) }
-    ensures begun { IfErr result (λ e. ((e ≡ Fault.Memory) × (O.contents out.new ≡ O.contents out.old)) ⊎ IsBegun report (IsRunOf (script_value script)) (O.contents out.old) (O.contents out.new)) }
+    ensures ok { OnOk result (IsPrinted report (IsPlayed script) (O.contents out.old) (O.contents out.new)) }
+    ensures begun { IfErr result (BeginsOrNot report (IsPlayed script) (O.contents out.old) (O.contents out.new)) }
     ensures err { IfErr result (λ e. (e ≡ Fault.Memory) ⊎ (e ≡ Fault.OutputFailed)) }
 {
     let Script {
@@ -43,8 +43,8 @@ fn play_commands<A: Allocator + Copy, O: Write>(
     commands: Vec<Command<A>, A>,
     out: &mut O,
 ) -> Result<(), Fault>
-    ensures ok { OnOk result (IsPrinted report (IsRunFrom core.old start.now (command_values commands.items) core.new) (O.contents out.old) (O.contents out.new)) }
-    ensures begun { IfErr result (λ e. ((e ≡ Fault.Memory) × (O.contents out.new ≡ O.contents out.old)) ⊎ IsBegun report (IsRunFrom core.old start.now (command_values commands.items) core.new) (O.contents out.old) (O.contents out.new)) }
+    ensures ok { OnOk result (IsPrinted report (IsTaken core.old start.now commands.items core.new) (O.contents out.old) (O.contents out.new)) }
+    ensures begun { IfErr result (BeginsOrNot report (IsTaken core.old start.now commands.items core.new) (O.contents out.old) (O.contents out.new)) }
     ensures err { IfErr result (λ e. (e ≡ Fault.Memory) ⊎ (e ≡ Fault.OutputFailed)) }
 {
     let alloc = *commands.allocator();

@@ -2,8 +2,8 @@
 ghost use Rattle.std.specs.Prelude.{◌≡◌, ◌⊎◌, IfSome, OnOk, IfErr};
 ghost use Rattle.mirror_script.specs.ScriptView.{IsScript, IsFaulty};
 ghost use Rattle.notify_mirror.specs.declared.transcript.Report.TheVariants.{Plain, Check};
-ghost use Rattle.notify_mirror.specs.Ending.{IsStopped, status_of};
-ghost use Rattle.notify_mirror.specs.Transcript.{PrintsTranscript, BeginsTranscript};
+ghost use Rattle.notify_mirror.specs.Ending.{IsStopped, status_of, IsRunStatus};
+ghost use Rattle.notify_mirror.specs.Transcript.{PrintsRun, BeginsRun, StopsRun};
 
 use crate::play::play_script;
 use crate::transcript::Report;
@@ -24,13 +24,13 @@ pub fn script_run<A: Allocator + Copy, R: Read, O: Write, E: Write>(
     out: &mut O,
     err: &mut E,
 ) -> u8
-    ensures prints { result ≡ 0 → PrintsTranscript Plain (R.remaining reader.old) (O.contents out.old) (O.contents out.new) }
-    ensures begins { result ≡ 6 → BeginsTranscript Plain (R.remaining reader.old) (O.contents out.old) (O.contents out.new) }
-    ensures stops { result ≡ 4 → (O.contents out.new ≡ O.contents out.old) ⊎ BeginsTranscript Plain (R.remaining reader.old) (O.contents out.old) (O.contents out.new) }
+    ensures prints { result ≡ 0 → PrintsRun Plain (R.remaining reader.old) (O.contents out.old) (O.contents out.new) }
+    ensures begins { result ≡ 6 → BeginsRun Plain (R.remaining reader.old) (O.contents out.old) (O.contents out.new) }
+    ensures stops { result ≡ 4 → StopsRun Plain (R.remaining reader.old) (O.contents out.old) (O.contents out.new) }
     ensures untouched { (result ≡ 1) ⊎ (result ≡ 3) → O.contents out.new ≡ O.contents out.old }
     ensures reads { (result ≡ 0) ⊎ (result ≡ 6) → IfSome (R.remaining reader.old) IsScript }
     ensures fails { result ≡ 3 → IfSome (R.remaining reader.old) IsFaulty }
-    ensures statuses { (result ≡ 0) ⊎ ((result ≡ 1) ⊎ ((result ≡ 3) ⊎ ((result ≡ 4) ⊎ (result ≡ 6)))) }
+    ensures statuses { IsRunStatus result }
     ensures silent { (result ≡ 0) ⊎ (result ≡ 6) → E.contents err.new ≡ E.contents err.old }
 {
     let run = play(alloc, Report::Plain, reader, out);
@@ -47,13 +47,13 @@ pub fn check_run<A: Allocator + Copy, R: Read, O: Write, E: Write>(
     out: &mut O,
     err: &mut E,
 ) -> u8
-    ensures prints { result ≡ 0 → PrintsTranscript Check (R.remaining reader.old) (O.contents out.old) (O.contents out.new) }
-    ensures begins { result ≡ 6 → BeginsTranscript Check (R.remaining reader.old) (O.contents out.old) (O.contents out.new) }
-    ensures stops { result ≡ 4 → (O.contents out.new ≡ O.contents out.old) ⊎ BeginsTranscript Check (R.remaining reader.old) (O.contents out.old) (O.contents out.new) }
+    ensures prints { result ≡ 0 → PrintsRun Check (R.remaining reader.old) (O.contents out.old) (O.contents out.new) }
+    ensures begins { result ≡ 6 → BeginsRun Check (R.remaining reader.old) (O.contents out.old) (O.contents out.new) }
+    ensures stops { result ≡ 4 → StopsRun Check (R.remaining reader.old) (O.contents out.old) (O.contents out.new) }
     ensures untouched { (result ≡ 1) ⊎ (result ≡ 3) → O.contents out.new ≡ O.contents out.old }
     ensures reads { (result ≡ 0) ⊎ (result ≡ 6) → IfSome (R.remaining reader.old) IsScript }
     ensures fails { result ≡ 3 → IfSome (R.remaining reader.old) IsFaulty }
-    ensures statuses { (result ≡ 0) ⊎ ((result ≡ 1) ⊎ ((result ≡ 3) ⊎ ((result ≡ 4) ⊎ (result ≡ 6)))) }
+    ensures statuses { IsRunStatus result }
     ensures silent { (result ≡ 0) ⊎ (result ≡ 6) → E.contents err.new ≡ E.contents err.old }
 {
     let run = play(alloc, Report::Check, reader, out);
@@ -67,8 +67,8 @@ fn play<A: Allocator + Copy, R: Read, O: Write>(
     reader: &mut R,
     out: &mut O,
 ) -> Result<(), Fault>
-    ensures ok { OnOk result (PrintsTranscript report (R.remaining reader.old) (O.contents out.old) (O.contents out.new)) }
-    ensures err { IfErr result (λ e. IsStopped report (R.remaining reader.old) (O.contents out.old) (O.contents out.new) e) }
+    ensures ok { OnOk result (PrintsRun report (R.remaining reader.old) (O.contents out.old) (O.contents out.new)) }
+    ensures err { IfErr result (IsStopped report (R.remaining reader.old) (O.contents out.old) (O.contents out.new)) }
 {
     let script = read_script(alloc, reader)?;
     play_script(alloc, report, script, out)

@@ -2,11 +2,10 @@
 ghost use Rattle.std.specs.Prelude.{◌≡◌, ◌⊎◌, ◌++◌, [], OnOk, OnErr, IfErr, codes};
 ghost use Rattle.std.specs.Io.KnownBytes.{Appends};
 ghost use Rattle.std.specs.String.{string_bytes};
-ghost use Rattle.debounce_model.specs.CommandView.{command_values, reply_values};
-ghost use Rattle.notify_mirror.specs.Output.{Prints, Begins};
-ghost use Rattle.notify_mirror.specs.PlayedView.{played_value};
-ghost use Rattle.notify_mirror.specs.Printed.{replies_lines, paths_line};
-ghost use Rattle.notify_mirror.specs.Transcript.{state_lines, reader_lines, raw_line, check_lines, ending_lines, transcript};
+ghost use Rattle.notify_mirror.specs.Output.{Begins};
+ghost use Rattle.notify_mirror.specs.PlayedView.{played_value, printed_run, printed_replies, printed_ending, PrintsText, BeginsText};
+ghost use Rattle.notify_mirror.specs.Printed.{paths_line};
+ghost use Rattle.notify_mirror.specs.Transcript.{state_lines, reader_lines, raw_line, check_lines};
 
 use crate::output::{write_full, write_last};
 use crate::print::{push_answer, push_counts, push_events, push_list, push_reply};
@@ -43,8 +42,8 @@ pub(crate) fn print_run<A: Allocator + Copy, O: Write>(
     played: &Played<'_, A>,
     out: &mut O,
 ) -> Result<(), Fault>
-    ensures ok { OnOk result (Appends (O.contents out.old) (O.contents out.new) (transcript report (played_value played.now))) }
-    ensures begun { OnErr result (Begins (O.contents out.old) [] (O.contents out.new) (transcript report (played_value played.now))) }
+    ensures ok { OnOk result (Appends (O.contents out.old) (O.contents out.new) (printed_run report played.now)) }
+    ensures begun { OnErr result (Begins (O.contents out.old) [] (O.contents out.new) (printed_run report played.now)) }
     ensures err { IfErr result (λ e. (e ≡ Fault.Memory) ⊎ (e ≡ Fault.OutputFailed)) }
 {
     let mut text = String::new(alloc);
@@ -60,8 +59,8 @@ fn print_replies<A: Allocator, O: Write>(
     replies: &[Reply<A>],
     out: &mut O,
 ) -> Result<(), Fault>
-    ensures ok { OnOk result (Prints (O.contents out.old) (string_bytes text.old) (O.contents out.new) (string_bytes text.new) (replies_lines (command_values commands.now) (reply_values replies.now))) }
-    ensures begun { OnErr result (Begins (O.contents out.old) (string_bytes text.old) (O.contents out.new) (replies_lines (command_values commands.now) (reply_values replies.now))) }
+    ensures ok { OnOk result (PrintsText (O.contents out.old) text.old (O.contents out.new) text.new (printed_replies commands.now replies.now)) }
+    ensures begun { OnErr result (BeginsText (O.contents out.old) text.old (O.contents out.new) (printed_replies commands.now replies.now)) }
     ensures err { IfErr result (λ e. (e ≡ Fault.Memory) ⊎ (e ≡ Fault.OutputFailed)) }
 {
     for (command, reply) in commands.iter().zip(replies) {
@@ -77,7 +76,7 @@ fn push_ending<A: Allocator + Copy>(
     report: Report,
     played: &Played<'_, A>,
 ) -> Result<(), Fault>
-    ensures ok { OnOk result (string_bytes text.new ≡ string_bytes text.old ++ ending_lines report (played_value played.now)) }
+    ensures ok { OnOk result (string_bytes text.new ≡ string_bytes text.old ++ printed_ending report played.now) }
     ensures err { IfErr result (λ e. e ≡ Fault.Memory) }
 {
     push_state(text, played)?;
