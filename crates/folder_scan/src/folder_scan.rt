@@ -102,11 +102,23 @@ impl<A: Allocator + Copy, R: Files + Alloc + Clone + Drop> FolderScan<R, A> {
             return Ok(());
         };
         for entry in entries {
-            if let Some(child) = entry_path(path, entry)? {
-                self.add(folders, child, Some(index))?;
-            }
+            self.add_entry(folders, index, path, entry)?;
         }
         Ok(())
+    }
+
+    /// Adds an entry of the folder at this path, if it can be read.
+    fn add_entry(
+        &mut self,
+        folders: &mut Vec<Folder, A>,
+        index: usize,
+        path: &PathBuf<A>,
+        entry: io::Result<DirEntry<R, R::A>>,
+    ) -> Result<(), AllocError> {
+        match entry_path(path, entry)? {
+            Some(child) => self.add(folders, child, Some(index)),
+            None => Ok(()),
+        }
     }
 
     /// Adds the path, if it can be read and isn't a link to a folder that it lies in.
@@ -116,18 +128,36 @@ impl<A: Allocator + Copy, R: Files + Alloc + Clone + Drop> FolderScan<R, A> {
         path: PathBuf<A>,
         above: Option<usize>,
     ) -> Result<(), AllocError> {
-        let Some((id, is_folder)) = self.look(&path)? else {
-            return Ok(());
+        match self.enter(folders, &path, above)? {
+            Some(id) => self.add_pair(path, id),
+            None => Ok(()),
+        }
+    }
+
+    fn add_pair(&mut self, path: PathBuf<A>, id: FileId) -> Result<(), AllocError> {
+        self.found.push((path, id))?;
+        Ok(())
+    }
+
+    /// The number of the file at the path. A folder is noted, at the place that its pair will have.
+    /// There is none if the path can't be read, or is a link to a folder that it lies in.
+    fn enter(
+        &self,
+        folders: &mut Vec<Folder, A>,
+        path: &PathBuf<A>,
+        above: Option<usize>,
+    ) -> Result<Option<FileId>, AllocError> {
+        let Some((id, is_folder)) = self.look(path)? else {
+            return Ok(None);
         };
         if is_folder {
             if self.lies_in(folders.as_slice(), above, id) {
-                return Ok(());
+                return Ok(None);
             }
             let place = self.found.len();
             folders.push(Folder { place, above })?;
         }
-        self.found.push((path, id))?;
-        Ok(())
+        Ok(Some(id))
     }
 
     /// The number of the file at the path, and whether it is a folder.
