@@ -29,15 +29,23 @@ expect() {
     report "$name" $well
 }
 
-usage='usage: mirror SCRIPT | --threads SCRIPT.. | --watch DIR TICKS'
+usage='usage: mirror SCRIPT | --check SCRIPT | --threads SCRIPT.. | --watch DIR TICKS'
 : >nothing
 cp "$top/crates/mirror/data/example" example
 printf 'timeout 50\nbogus\n' >fault
 mkdir folder
 expect 'a script is run' 0 "$top/crates/mirror/stdout" '' "$program" example
+{
+    cat "$top/crates/mirror/stdout"
+    echo honest yes
+    echo clock yes
+} >checked
+expect 'a script is checked' 0 checked '' "$program" --check example
 expect 'no word' 2 nothing "$usage" "$program"
 expect 'two words' 2 nothing "$usage" "$program" example example
+expect 'a check of nothing' 2 nothing "$usage" "$program" --check
 expect 'an unknown form' 2 nothing "$usage" "$program" --nothing
+expect 'a word that is not UTF-8' 2 nothing 'mirror: an argument is not UTF-8' "$program" $'\xff'
 expect 'a missing file' 1 nothing 'mirror: cannot read missing' "$program" missing
 expect 'a folder' 1 nothing 'mirror: cannot read folder' "$program" folder
 expect 'a text that is no script' 3 nothing 'mirror: fault: line 2: not a command' "$program" fault
