@@ -7,11 +7,11 @@ use Rattle.debounce_model.specs.Queues.{Queues}
 use Rattle.debounce_model.specs.Due.{is_front_due, is_any_due, due_fronts}
 
 -- one more queue
-abbrev count_of : Bool → ℕ → ℕ
+abbrev pub count_of : Bool → ℕ → ℕ
 count_of true n = n + 1
 count_of false n = n
 
-due_step : (due : Timed → Bool) (e : PathValue × List Timed) (es : Queues) → due_fronts due (e ∷ es) ≡ count_of (is_front_due due e.1) (due_fronts due es)
+pub due_step : (due : Timed → Bool) (e : PathValue × List Timed) (es : Queues) → due_fronts due (e ∷ es) ≡ count_of (is_front_due due e.1) (due_fronts due es)
 due_step due e es = by (is_front_due due e.1) refl
   where
     by : (b : Bool) → is_front_due due e.1 ≡ b → due_fronts due (e ∷ es) ≡ count_of b (due_fronts due es)

@@ -342,7 +342,7 @@ end_quiet due g k ks n s = rw n (all ks s.0)
         rw no (all js a.1)
 
 -- above all keys there is none
-above_all : (p : PathValue) (es : Queues) → AllByRecursion (λ y. path_cmp p y ≡ Less) (keys_of es) → queue_at es p ≡ None
+pub above_all : (p : PathValue) (es : Queues) → AllByRecursion (λ y. path_cmp p y ≡ Less) (keys_of es) → queue_at es p ≡ None
 above_all p [] a = refl
 above_all p (e ∷ es) a = rw a.0 (above_all p es a.1)
 

@@ -3,3 +3,4 @@ pub mod FrontMoves
 pub mod FrontPlaces
 pub mod FrontSettle
 pub mod FrontTicks
+pub mod FrontWhole

@@ -14,8 +14,10 @@
 #![tactic(auto)]
 
 pub mod below;
+pub mod change;
 pub mod fronts;
 pub mod places;
 pub mod put;
 pub mod settle;
 pub mod tick;
+mod whole;

@@ -11,6 +11,7 @@ ghost use Rattle.front_index.specs.Fronts.{IsIndexed};
 ghost use Rattle.front_index.specs.Steps.{is_due_front, is_due_pair, handed_of};
 
 use crate::fronts::{Fronts, QueueMap};
+use crate::whole::{add_all_places, is_last_due};
 use event_queue::due::{Due, add_last_of_kind, expired_count};
 use notify_paths::path::PathBuf;
 use notify_types::event::DebouncedEvent;
@@ -87,6 +88,9 @@ pub fn add_places<A: Allocator + Copy>(
     requires { IsIndexed fronts.now map.now.entries }
     ensures { OnOk result (places.new.items ≡ places.old.items ++ place_list (is_due due) map.now.entries) }
 {
+    if is_last_due(fronts, due) {
+        return add_all_places(places, map, due);
+    }
     let paths = due_paths(fronts, *places.allocator(), due)?;
     add_due_of(places, map, &paths, due)
 }

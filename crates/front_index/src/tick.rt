@@ -11,6 +11,7 @@ ghost use Rattle.front_index.specs.Fronts.{is_time, is_front, has, IsIndexed};
 ghost use Rattle.front_index.specs.Steps.{has_pair, is_due_front, front_after, is_later};
 
 use crate::fronts::{Fronts, QueueMap, is_front, pop_due};
+use crate::whole::{is_last_due, trim_all};
 use event_queue::due::Due;
 use notify_paths::path::PathBuf;
 use notify_types::time::Moment;
@@ -141,6 +142,9 @@ pub fn trim<A: Allocator + Copy>(
     ensures err { OnErr result (map.new.entries ≡ map.old.entries) }
     ensures indexed { IsIndexed fronts.new map.new.entries }
 {
+    if is_last_due(fronts, due) {
+        return trim_all(map, fronts, alloc, due);
+    }
     let later = later_fronts(map, fronts, alloc, due)?;
     // The proof reads here that the paths ascend.
     let _len = map.len();
