@@ -1,5 +1,6 @@
 //! The steps of a running debouncer. Each is done while the book's lock is held.
 ghost use Rattle.std.specs.Prelude.{◌≡◌, false, IfErr, OnOk};
+ghost use Rattle.notify_paths.specs.Errors.{out_of_memory};
 ghost use Rattle.debounce_model.specs.Command.{RootCommand, UnrootCommand, RootedReply, UnrootedReply, RefusedReply};
 ghost use Rattle.debounce_model.specs.CommandView.{reply_value};
 ghost use Rattle.debounce_book.specs.Book.{GivesErrors, IsDone, IsNotDone, Ticks, TicksBoth, fed_command, fed_reply};
@@ -98,6 +99,7 @@ pub fn root_step<C: FileIdCache<A>, A: Allocator + Copy>(
 ) -> Result<(), Error<A>>
     ensures ok { OnOk result (IsDone C.rules book.old 0 (RootCommand path.now mode) RootedReply book.new) }
     ensures err { IfErr result (λ e. IsNotDone C.rules book.old (RootCommand path.now mode) e book.new) }
+    ensures memory { IfErr result (λ e. e ≡ out_of_memory) }
 {
     if !book.is_journaled() {
         return book.add_root(path, mode);
@@ -114,6 +116,7 @@ pub fn unroot_step<C: FileIdCache<A>, A: Allocator + Copy>(
 ) -> Result<(), Error<A>>
     ensures ok { OnOk result (IsDone C.rules book.old 0 (UnrootCommand path.now) UnrootedReply book.new) }
     ensures err { IfErr result (λ e. IsNotDone C.rules book.old (UnrootCommand path.now) e book.new) }
+    ensures memory { IfErr result (λ e. e ≡ out_of_memory) }
 {
     if !book.is_journaled() {
         return book.remove_root(path);
