@@ -1,12 +1,13 @@
 //! A script on a debouncer: its commands are run, and what comes of them is printed.
-ghost use Rattle.std.specs.Prelude.{◌≡◌, ◌⊎◌, OnOk, IfOk, IfErr};
+ghost use Rattle.std.specs.Prelude.{◌≡◌, ◌⊎◌, None, OnOk, IfOk, IfErr};
+ghost use Rattle.debounce_model.specs.State.{counted_state};
 ghost use Rattle.debounce_model.specs.CommandView.{command_values};
 ghost use Rattle.notify_mirror.specs.PlayedView.{IsPlayed, IsTaken};
 ghost use Rattle.notify_mirror.specs.Transcript.{IsPrinted, BeginsOrNot};
 
 use crate::transcript::{Played, Report, print_run};
 use mirror_script::{Counts, Fault, Script};
-use notify_debouncer_full::{Command, DebounceDataInner, NoCache};
+use notify_debouncer_full::{Command, DebounceDataInner, Moment, NoCache};
 use path_sets::PathSet;
 use std::alloc::Allocator;
 use std::io::Write;
@@ -29,10 +30,22 @@ pub(crate) fn play_script<A: Allocator + Copy, O: Write>(
         start,
         commands,
     } = script;
-    let Counts { taken, given } = counts;
     let start = PathSet::from_paths(alloc, start)?;
-    let mut core = DebounceDataInner::with_counts(alloc, NoCache::new(), timeout, taken, given);
+    let mut core = opening(alloc, timeout, counts);
     play_commands(report, &mut core, &start, commands, out)
+}
+
+/// The debouncer that a script opens with.
+fn opening<A: Allocator + Copy>(
+    alloc: A,
+    timeout: Moment,
+    counts: Counts,
+) -> DebounceDataInner<NoCache, A>
+    ensures state { result.state ≡ counted_state timeout counts.taken counts.given }
+    ensures answer { result.answer ≡ None }
+{
+    let Counts { taken, given } = counts;
+    DebounceDataInner::with_counts(alloc, NoCache::new(), timeout, taken, given)
 }
 
 /// Runs the commands on the debouncer, and prints the run.
