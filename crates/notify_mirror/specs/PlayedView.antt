@@ -16,7 +16,7 @@ use Rattle.notify_mirror.specs.declared.transcript.Played.{Played}
 use Rattle.notify_mirror.specs.declared.transcript.Report.{Report}
 use Rattle.notify_mirror.specs.Output.{Prints, Begins}
 use Rattle.notify_mirror.specs.Printed.{words_field, tracker_words, info_words, rescan_words, replies_lines, reply_lines, batch_lines}
-use Rattle.notify_mirror.specs.Transcript.{PlayedValue, IsRunFrom, IsRunOf, transcript, state_lines, reader_lines, raw_line, check_lines, ending_lines}
+use Rattle.notify_mirror.specs.Transcript.{PlayedValue, IsRunFrom, IsRunOf, transcript, ending_lines}
 
 module _ {Z : Type 0} where
   -- a run of the code as a value
@@ -34,8 +34,8 @@ module _ {Z : Type 0} where
   IsPlayed script p = IsRunOf (script_value script) p
 
   -- a run of the commands, from one debouncer to another
-  abbrev pub IsTaken : {C : Type 0} → Core C → Paths → List (Command Z) → Core C → PlayedValue → Type 0
-  IsTaken s start commands t p = IsRunFrom s start (command_values commands) t p
+  abbrev pub IsCarriedOut : {C : Type 0} → Core C → Paths → List (Command Z) → Core C → PlayedValue → Type 0
+  IsCarriedOut s start commands t p = IsRunFrom s start (command_values commands) t p
 
   -- the options without a tracker
   abbrev pub untracked_field : Option (String Z) → Option Flag → List ℕ

@@ -4,10 +4,10 @@ use Rattle.notify_mirror.proofs.play.play_script.Goals as goal
 
 pub returns-clause-ok : goal.returns-clause-ok
 returns-clause-ok g c =
-    printed_script c.args.report _ _ (script_value c.args.script) c.opening-core.result _ _
-    c.in_ok-start.ensures.ok c.opening-core.ensures.state c.opening-core.ensures.answer c.play_commands.result c.play_commands.ensures.ok
+    printed_script c.args.report _ _ (script_value c.args.script) c.opening-core.result _
+    c.opening-core.ensures.state c.opening-core.ensures.answer c.play_from.result c.play_from.ensures.ok
 
 pub returns-clause-begun : goal.returns-clause-begun
 returns-clause-begun g c =
-    begun_script c.args.report _ _ (script_value c.args.script) c.opening-core.result _ _
-    c.in_ok-start.ensures.ok c.opening-core.ensures.state c.opening-core.ensures.answer c.play_commands.result c.play_commands.ensures.begun
+    begun_script c.args.report _ _ (script_value c.args.script) c.opening-core.result _
+    c.opening-core.ensures.state c.opening-core.ensures.answer c.play_from.result c.play_from.ensures.begun
