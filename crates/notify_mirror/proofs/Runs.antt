@@ -1,7 +1,6 @@
 -- From the output of the parts to that of a run. The functions that play commands and scripts cite these.
-use Rattle.std.proofs.Common.{◌≡◌, ◌∙◌, sym, ℕ, ◌⊎◌, inl, inr, subst, List, [], Option, None, Result, Ok, Err, OnOk, OnErr, IfErr, refl}
+use Rattle.std.proofs.Common.{◌≡◌, sym, ℕ, ◌⊎◌, inl, inr, subst, List, [], Option, None, Result, Ok, Err, OnOk, OnErr, IfErr, refl}
 use Rattle.std.specs.Io.KnownBytes.{Appends}
-use Rattle.std.specs.Result.{IsErrAnd}
 use Rattle.file_id_cache.specs.declared.cache.NoCache.{NoCache}
 use Rattle.debounce_model.specs.Command.{CommandValue, ReplyValue}
 use Rattle.debounce_model.specs.Play.{Paths}
@@ -12,7 +11,7 @@ use Rattle.mirror_script.specs.declared.fault.Fault.{Fault}
 use Rattle.mirror_script.specs.declared.fault.Fault.TheVariants.{Memory, OutputFailed}
 use Rattle.notify_mirror.specs.declared.transcript.Report.{Report}
 use Rattle.notify_mirror.specs.Output.{Begins}
-use Rattle.notify_mirror.specs.Transcript.{PlayedValue, transcript, IsRunFrom, IsRunOf, IsPrinted, IsBegun, IsGiven, PrintsRun}
+use Rattle.notify_mirror.specs.Transcript.{PlayedValue, transcript, IsRunFrom, IsRunOf, IsPrinted, IsBegun, BeginsOrNot, IsGiven, PrintsRun}
 use Rattle.notify_mirror.specs.Ending.{IsStopped}
 use Rattle.notify_types.specs.Event.{Timed}
 use Rattle.debounce_model.specs.Cache.{no_numbers}
@@ -30,35 +29,27 @@ module _ (report : Report) (old new : Option (List ℕ)) where
   begun (Ok x) Is p h w = w
   begun (Err e) Is p h w = inr (p, h, w)
 
-  module _ (script : ScriptValue) (s : Core NoCache) (start : Paths) (t : Core NoCache)
-      (e : start ≡ with_paths [] script.start) (opens : s.state ≡ counted_state script.timeout script.counts.taken script.counts.given) (answer : s.answer ≡ None) where
-    -- the commands are the script's, and they run from its paths and its counts
-    of_script : (p : PlayedValue) → IsRunFrom s start script.commands t p → IsRunOf script p
-    of_script p h = record { first = s; last = t; opens = opens; unanswered = answer; run = subst (λ k. IsRunFrom s k script.commands t p) e h }
+  -- from an equal set
+  pub printed_from : {A E C : Type 0} (r : Result A E) (s : Core C) (start from : Paths) (cs : List CommandValue) (t : Core C) → start ≡ from → OnOk r (IsPrinted report (IsRunFrom s start cs t) old new) → OnOk r (IsPrinted report (IsRunFrom s from cs t) old new)
+  printed_from r s start from cs t e h = subst (λ k. OnOk r (IsPrinted report (IsRunFrom s k cs t) old new)) e h
 
-    pub printed_script : {A E : Type 0} (r : Result A E) → OnOk r (IsPrinted report (IsRunFrom s start script.commands t) old new) → OnOk r (IsPrinted report (IsRunOf script) old new)
+  pub begun_from : {A C : Type 0} (r : Result A Fault) (s : Core C) (start from : Paths) (cs : List CommandValue) (t : Core C) → start ≡ from → IfErr r (BeginsOrNot report (IsRunFrom s start cs t) old new) → IfErr r (BeginsOrNot report (IsRunFrom s from cs t) old new)
+  begun_from r s start from cs t e h = subst (λ k. IfErr r (BeginsOrNot report (IsRunFrom s k cs t) old new)) e h
+
+  module _ (script : ScriptValue) (s t : Core NoCache)
+      (opens : s.state ≡ counted_state script.timeout script.counts.taken script.counts.given) (answer : s.answer ≡ None) where
+    -- the commands are the script's, and they run from its paths and its counts
+    of_script : (p : PlayedValue) → IsRunFrom s (with_paths [] script.start) script.commands t p → IsRunOf script p
+    of_script p h = record { first = s; last = t; opens = opens; unanswered = answer; run = h }
+
+    pub printed_script : {A E : Type 0} (r : Result A E) → OnOk r (IsPrinted report (IsRunFrom s (with_paths [] script.start) script.commands t) old new) → OnOk r (IsPrinted report (IsRunOf script) old new)
     printed_script (Ok x) h = (h.0, of_script h.0 h.1, h.2)
     printed_script (Err e) h = h
 
-    pub begun_script : {A : Type 0} (r : Result A Fault) → IfErr r (λ e. ((e ≡ Memory) × (new ≡ old)) ⊎ IsBegun report (IsRunFrom s start script.commands t) old new) → IfErr r (λ e. ((e ≡ Memory) × (new ≡ old)) ⊎ IsBegun report (IsRunOf script) old new)
+    pub begun_script : {A : Type 0} (r : Result A Fault) → IfErr r (BeginsOrNot report (IsRunFrom s (with_paths [] script.start) script.commands t) old new) → IfErr r (BeginsOrNot report (IsRunOf script) old new)
     begun_script (Ok x) h = h
     begun_script (Err e) (inl m) = inl m
     begun_script (Err e) (inr h) = inr (h.0, of_script h.0 h.1, h.2)
-
--- memory was out, and nothing was written
-pub unwritten : {A : Type 0} (Q : Type 0) (r : Result A Fault) (a b : Option (List ℕ)) → b ≡ a → IfErr r (λ e. e ≡ Memory) → IfErr r (λ e. ((e ≡ Memory) × (b ≡ a)) ⊎ Q)
-unwritten Q (Ok x) a b k h = h
-unwritten Q (Err e) a b k h = inl (h, k)
-
--- an error that is turned into a fault is handed on
-pub handed_on : {A : Type 0} (r : Result A Fault) → IsErrAnd r (λ e. e ≡ Memory) → IfErr r (λ e. e ≡ Memory)
-handed_on (Ok x) h = tt
-handed_on (Err e) h = h
-
--- .. and so is a fault
-pub handed_same : {A : Type 0} (r : Result A Fault) (m : Fault) → m ≡ Memory → IsErrAnd r (λ e. e ≡ m) → IfErr r (λ e. e ≡ Memory)
-handed_same (Ok x) m k h = tt
-handed_same (Err e) m k h = h ∙ k
 
 module _ {C : Type 0} (s : Core C) (start : Paths) (cs told : List CommandValue) (rs said : List ReplyValue) (t : Core C) (outlook shown : List Timed) where
   -- the run of the commands, told by copies of them

@@ -1,5 +1,6 @@
 -- What runs and what they print are, over the commands and replies of the code.
-use Rattle.std.specs.Prelude.{ℕ, List, Option}
+use Rattle.std.specs.Prelude.{ℕ, List, ◌++◌, Option, Some}
+use Rattle.std.specs.Option.{option_map}
 use Rattle.std.specs.String.{string_bytes}
 use Rattle.std.specs.declared.string.String.{String}
 use Rattle.debounce_model.specs.CommandView.{command_value, reply_value, command_values, reply_values}
@@ -10,11 +11,12 @@ use Rattle.debounce_model.specs.declared.command.Reply.{Reply}
 use Rattle.mirror_script.specs.ScriptView.{script_value}
 use Rattle.mirror_script.specs.declared.script.Script.{Script}
 use Rattle.notify_types.specs.Event.{Timed}
+use Rattle.notify_types.specs.declared.event.Flag.{Flag}
 use Rattle.notify_mirror.specs.declared.transcript.Played.{Played}
 use Rattle.notify_mirror.specs.declared.transcript.Report.{Report}
 use Rattle.notify_mirror.specs.Output.{Prints, Begins}
-use Rattle.notify_mirror.specs.Printed.{replies_lines, reply_lines, batch_lines}
-use Rattle.notify_mirror.specs.Transcript.{PlayedValue, IsRunFrom, IsRunOf, transcript, state_lines, reader_lines, raw_line, check_lines, ending_lines}
+use Rattle.notify_mirror.specs.Printed.{words_field, tracker_words, info_words, rescan_words, replies_lines, reply_lines, batch_lines}
+use Rattle.notify_mirror.specs.Transcript.{PlayedValue, IsRunFrom, IsRunOf, transcript, ending_lines}
 
 module _ {Z : Type 0} where
   -- a run of the code as a value
@@ -32,8 +34,17 @@ module _ {Z : Type 0} where
   IsPlayed script p = IsRunOf (script_value script) p
 
   -- a run of the commands, from one debouncer to another
-  abbrev pub IsTaken : {C : Type 0} → Core C → Paths → List (Command Z) → Core C → PlayedValue → Type 0
-  IsTaken s start commands t p = IsRunFrom s start (command_values commands) t p
+  abbrev pub IsCarriedOut : {C : Type 0} → Core C → Paths → List (Command Z) → Core C → PlayedValue → Type 0
+  IsCarriedOut s start commands t p = IsRunFrom s start (command_values commands) t p
+
+  -- the options without a tracker
+  abbrev pub untracked_field : Option (String Z) → Option Flag → List ℕ
+  untracked_field info flag = words_field (info_words (option_map string_bytes info) ++ rescan_words flag)
+
+  -- the options with this tracker
+  abbrev pub tracked_field : ℕ → Option (String Z) → Option Flag → List ℕ
+  tracked_field tracker info flag =
+      words_field (tracker_words (Some tracker) ++ (info_words (option_map string_bytes info) ++ rescan_words flag))
 
   -- what the replies print
   abbrev pub printed_replies : List (Command Z) → List (Reply Z) → List ℕ

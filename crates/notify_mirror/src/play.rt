@@ -1,12 +1,14 @@
 //! A script on a debouncer: its commands are run, and what comes of them is printed.
-ghost use Rattle.std.specs.Prelude.{◌≡◌, ◌⊎◌, OnOk, IfOk, IfErr};
+ghost use Rattle.std.specs.Prelude.{◌≡◌, ◌⊎◌, [], None, OnOk, IfOk, IfErr};
+ghost use Rattle.debounce_model.specs.State.{counted_state};
 ghost use Rattle.debounce_model.specs.CommandView.{command_values};
-ghost use Rattle.notify_mirror.specs.PlayedView.{IsPlayed, IsTaken};
+ghost use Rattle.path_sets.specs.Played.{with_paths};
+ghost use Rattle.notify_mirror.specs.PlayedView.{IsPlayed, IsCarriedOut};
 ghost use Rattle.notify_mirror.specs.Transcript.{IsPrinted, BeginsOrNot};
 
 use crate::transcript::{Played, Report, print_run};
 use mirror_script::{Counts, Fault, Script};
-use notify_debouncer_full::{Command, DebounceDataInner, NoCache};
+use notify_debouncer_full::{Command, DebounceDataInner, Moment, NoCache, PathBuf};
 use path_sets::PathSet;
 use std::alloc::Allocator;
 use std::io::Write;
@@ -29,10 +31,37 @@ pub(crate) fn play_script<A: Allocator + Copy, O: Write>(
         start,
         commands,
     } = script;
+    let mut core = opening(alloc, timeout, counts);
+    play_from(report, &mut core, start, commands, out)
+}
+
+/// The debouncer that a script opens with.
+fn opening<A: Allocator + Copy>(
+    alloc: A,
+    timeout: Moment,
+    counts: Counts,
+) -> DebounceDataInner<NoCache, A>
+    ensures state { result.state ≡ counted_state timeout counts.taken counts.given }
+    ensures answer { result.answer ≡ None }
+{
     let Counts { taken, given } = counts;
-    let start = PathSet::from_paths(alloc, start)?;
-    let mut core = DebounceDataInner::with_counts(alloc, NoCache::new(), timeout, taken, given);
-    play_commands(report, &mut core, &start, commands, out)
+    DebounceDataInner::with_counts(alloc, NoCache::new(), timeout, taken, given)
+}
+
+/// Runs the commands on the debouncer, and prints the run from the set of these paths on.
+fn play_from<A: Allocator + Copy, O: Write>(
+    report: Report,
+    core: &mut DebounceDataInner<NoCache, A>,
+    start: Vec<PathBuf<A>, A>,
+    commands: Vec<Command<A>, A>,
+    out: &mut O,
+) -> Result<(), Fault>
+    ensures ok { OnOk result (IsPrinted report (IsCarriedOut core.old (with_paths [] start.items) commands.items core.new) (O.contents out.old) (O.contents out.new)) }
+    ensures begun { IfErr result (BeginsOrNot report (IsCarriedOut core.old (with_paths [] start.items) commands.items core.new) (O.contents out.old) (O.contents out.new)) }
+    ensures err { IfErr result (λ e. (e ≡ Fault.Memory) ⊎ (e ≡ Fault.OutputFailed)) }
+{
+    let start = PathSet::from_paths(*commands.allocator(), start)?;
+    play_commands(report, core, &start, commands, out)
 }
 
 /// Runs the commands on the debouncer, and prints the run.
@@ -43,8 +72,8 @@ fn play_commands<A: Allocator + Copy, O: Write>(
     commands: Vec<Command<A>, A>,
     out: &mut O,
 ) -> Result<(), Fault>
-    ensures ok { OnOk result (IsPrinted report (IsTaken core.old start.now commands.items core.new) (O.contents out.old) (O.contents out.new)) }
-    ensures begun { IfErr result (BeginsOrNot report (IsTaken core.old start.now commands.items core.new) (O.contents out.old) (O.contents out.new)) }
+    ensures ok { OnOk result (IsPrinted report (IsCarriedOut core.old start.now commands.items core.new) (O.contents out.old) (O.contents out.new)) }
+    ensures begun { IfErr result (BeginsOrNot report (IsCarriedOut core.old start.now commands.items core.new) (O.contents out.old) (O.contents out.new)) }
     ensures err { IfErr result (λ e. (e ≡ Fault.Memory) ⊎ (e ≡ Fault.OutputFailed)) }
 {
     let alloc = *commands.allocator();

@@ -26,7 +26,7 @@ pub(crate) enum Report {
 
 /// A run: the set that it begins with, its commands and their replies, the debouncer at its end, and
 /// what waits in it.
-#[derive(Clone, Copy)]
+#[derive(Drop)]
 pub(crate) struct Played<'a, A: Allocator> {
     pub(crate) start: &'a PathSet<A>,
     pub(crate) commands: &'a [Command<A>],

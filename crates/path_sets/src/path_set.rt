@@ -88,10 +88,19 @@ impl<A: Allocator + Copy> PathSet<A> {
         ensures err { IfErr result (λ e. e ≡ out_of_memory) }
     {
         let mut played = self.try_clone()?;
-        for event in events {
-            played.play_event(&event.event)?;
-        }
+        played.play_in_place(events)?;
         *self = played;
+        Ok(())
+    }
+
+    /// Plays the events on the set itself. If an allocation fails, some of them may be played.
+    pub(crate) fn play_in_place(&mut self, events: &[DebouncedEvent<A>]) -> Result<(), Error<A>>
+        ensures ok { OnOk result (self.new ≡ play self.old (events_of events.now)) }
+        ensures err { IfErr result (λ e. e ≡ out_of_memory) }
+    {
+        for event in events {
+            self.play_event(&event.event)?;
+        }
         Ok(())
     }
 

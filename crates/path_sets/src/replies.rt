@@ -27,7 +27,7 @@ impl<A: Allocator + Copy> PathSet<A> {
         ensures err { IfErr result (λ e. e ≡ out_of_memory) }
     {
         match reply {
-            Reply::Batch(batch) => self.play(batch.as_slice()),
+            Reply::Batch(batch) => self.play_in_place(batch.as_slice()),
             _ => Ok(()),
         }
     }
