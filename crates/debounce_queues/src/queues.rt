@@ -77,7 +77,13 @@ impl<A: Allocator + Copy> Queues<A> {
         ensures err { OnErr result (self.new ≡ self.old) }
         ensures grown { OnErr result (skips_it self.old event.event ≡ false) }
     {
-        push(&mut self.map, &mut self.fronts, &mut self.spare, self.alloc, event)
+        push(
+            &mut self.map,
+            &mut self.fronts,
+            &mut self.spare,
+            self.alloc,
+            event,
+        )
     }
 
     /// The removal of the event's first path: what waits below it is dropped; its own queue goes away
@@ -90,7 +96,13 @@ impl<A: Allocator + Copy> Queues<A> {
         ensures err { OnErr result (self.new ≡ self.old) }
         ensures grown { OnErr result (cancels self.old event.event ≡ false) }
     {
-        remove(&mut self.map, &mut self.fronts, &mut self.spare, self.alloc, event)
+        remove(
+            &mut self.map,
+            &mut self.fronts,
+            &mut self.spare,
+            self.alloc,
+            event,
+        )
     }
 
     /// The second half of a rename to the event's first path. If there is a first half, it is what
@@ -128,7 +140,13 @@ impl<A: Allocator + Copy> Queues<A> {
             time: half.time,
             attrs,
         };
-        join_indexed(&mut self.map, &mut self.fronts, &mut self.spare, self.alloc, rename)
+        join_indexed(
+            &mut self.map,
+            &mut self.fronts,
+            &mut self.spare,
+            self.alloc,
+            rename,
+        )
     }
 
     /// Whether the front of some queue is due.

@@ -12,11 +12,7 @@ use notify_paths::path::PathBuf;
 use std::alloc::Allocator;
 
 /// Takes out what waits at the path. It takes no memory.
-pub fn remove<A: Allocator + Copy>(
-    map: &mut QueueMap<A>,
-    fronts: &mut Fronts<A>,
-    path: &PathBuf<A>,
-)
+pub fn remove<A: Allocator + Copy>(map: &mut QueueMap<A>, fronts: &mut Fronts<A>, path: &PathBuf<A>)
     requires indexed { (t : ℕ) → has fronts.old t path.now ≡ is_front map.old.entries t path.now }
     ensures map { map.new.entries ≡ without_queue map.old.entries path.now }
     ensures fronts { (t : ℕ) (p : PathValue) → has fronts.new t p ≡ (if is_at (path_cmp path.now) p then false else has fronts.old t p) }
