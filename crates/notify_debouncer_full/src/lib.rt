@@ -18,7 +18,7 @@
 #![tactic(auto)]
 
 pub use debounce_core::data::DebounceDataInner;
-pub use debounce_core::emit::sort_events;
+pub use event_order::order::sort_events;
 pub use debounce_model::command::{Command, Reply};
 pub use debounce_model::file_id::FileId;
 pub use event_queue::queue::Queue;
