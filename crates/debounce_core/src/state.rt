@@ -16,13 +16,13 @@ ghost use Rattle.debounce_model.specs.declared.case.Case.TheVariants.{Rescan, Cr
 ghost use Rattle.event_queue.specs.Due.{is_due};
 ghost use Rattle.event_queue.specs.Renames.{half_value};
 
-use crate::emit::sort_events;
 use crate::rename_slot::{RenameSlot, first_half, set_slot};
 use crate::rescan_slot::{add_due, held, is_slot_due, trim_slot};
 use crate::roots::{add_root, mode_in, remove_root};
 use debounce_model::case::Case;
 use debounce_model::file_id::FileId;
 use debounce_queues::queues::Queues;
+use event_order::order::sort_events;
 use event_queue::due::Due;
 use event_queue::rename::FirstHalf;
 use file_id_cache::cache::FileIdCache;

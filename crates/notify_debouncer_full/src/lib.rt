@@ -24,7 +24,7 @@ pub use debounce_book::book::{Book, command_step};
 pub use debounce_book::entry::Entry;
 pub use debounce_book::steps::{Ticked, feed_step, root_step, tick_step, unroot_step};
 pub use debounce_core::data::DebounceDataInner;
-pub use debounce_core::emit::sort_events;
+pub use event_order::order::sort_events;
 pub use debounce_model::command::{Command, Reply};
 pub use debounce_model::file_id::FileId;
 pub use debounce_shell::debouncer::{Debouncer, new_debouncer_opt, new_journaled_debouncer};
