@@ -9,12 +9,12 @@ ghost use Rattle.debounce_shell.specs.Watched.{AsksFirst};
 
 use crate::clock::start_of;
 use crate::feed::Feed;
-use crate::handler::{DebounceEventHandler, DebounceEventResult};
 use crate::locked::Shared;
 use crate::worker::{Pace, work};
 use debounce_book::book::Book;
 use debounce_book::entry::Entry;
 use debounce_book::steps::{root_step, unroot_step};
+use debounce_gate::handler::{DebounceEventHandler, DebounceEventResult};
 use file_id_cache::cache::FileIdCache;
 use notify_paths::error::{Error, ErrorKind};
 use notify_paths::path::PathBuf;

@@ -3,8 +3,8 @@ ghost use Rattle.std.specs.Prelude.{◌≡◌, IfErr};
 ghost use Rattle.notify_paths.specs.Errors.{out_of_memory};
 
 use crate::clock::now;
-use crate::gate::feed_one;
 use crate::locked::{Locked, Shared};
+use debounce_gate::gate::feed_one;
 use file_id_cache::cache::FileIdCache;
 use notify_paths::error::Error;
 use notify_types::event::Event;

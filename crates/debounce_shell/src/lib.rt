@@ -2,8 +2,8 @@
 //! batches and errors.
 //!
 //! [`debouncer::new_debouncer_opt`] starts it all and returns a [`debouncer::Debouncer`], by which
-//! paths are watched. What happens in a thread's turn is [`gate::turn`], whose contract says what the
-//! handler is called with; what happens under the lock is a step of `debounce_book`.
+//! paths are watched. What happens in a turn of its thread is `turn` of `debounce_gate`, whose contract
+//! says what the handler is called with; what happens under the lock is a step of `debounce_book`.
 //!
 //! ```text
 //! let handler = |outcome: DebounceEventResult| { .. };
@@ -14,11 +14,8 @@
 #![tactic(auto)]
 
 mod clock;
-mod closures;
 pub mod debouncer;
 mod feed;
-pub mod gate;
-pub mod handler;
 mod locked;
 pub mod send_to;
 mod worker;

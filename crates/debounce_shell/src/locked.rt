@@ -2,9 +2,9 @@
 ghost use Rattle.std.specs.Prelude.{◌≡◌, IfErr};
 ghost use Rattle.notify_paths.specs.Errors.{out_of_memory};
 
-use crate::gate::Gate;
 use debounce_book::book::Book;
 use debounce_book::steps::{Ticked, feed_step, tick_step};
+use debounce_gate::gate::Gate;
 use file_id_cache::cache::FileIdCache;
 use notify_paths::error::Error;
 use notify_types::event::{DebouncedEvent, Event};

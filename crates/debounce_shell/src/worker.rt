@@ -1,7 +1,7 @@
 //! The worker: the debouncer's own thread.
 use crate::clock::now;
-use crate::gate::{Gate, turn};
-use crate::handler::{DebounceEventHandler, DebounceEventResult};
+use debounce_gate::gate::{Gate, turn};
+use debounce_gate::handler::{DebounceEventHandler, DebounceEventResult};
 use notify_paths::error::Error;
 use notify_types::event::{DebouncedEvent, Event};
 use std::alloc::Allocator;

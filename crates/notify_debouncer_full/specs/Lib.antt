@@ -42,7 +42,7 @@ pub use Rattle.notify_watch.specs.Config
 pub use Rattle.debounce_book.specs.Journal
 pub use Rattle.debounce_book.specs.Book
 pub use Rattle.debounce_book.specs.EntryEquality
-pub use Rattle.debounce_shell.specs.Turn
+pub use Rattle.debounce_gate.specs.Turn
 pub use Rattle.debounce_shell.specs.Start
 pub use Rattle.debounce_shell.specs.Watched
 pub use Rattle.debounce_threads.specs.Merged

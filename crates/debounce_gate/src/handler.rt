@@ -7,8 +7,7 @@ use std::alloc::Global;
 /// least.
 pub type DebounceEventResult<A = Global> = Result<Vec<DebouncedEvent<A>, A>, Vec<Error<A>, A>>;
 
-/// Takes what a debouncer hands out: `T` is [`DebounceEventResult`]. Closures are handlers, and so is
-/// [`crate::send_to::SendTo`].
+/// Takes what a debouncer hands out: `T` is [`DebounceEventResult`]. Closures are handlers.
 ///
 /// `T` has no bound, so that the trait can be implemented over any allocator.
 pub trait DebounceEventHandler<T>: Send + Drop + 'static {

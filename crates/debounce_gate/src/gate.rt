@@ -1,9 +1,8 @@
 //! The way to a book, and what a thread does by it.
 ghost use Rattle.std.specs.Prelude.{◌≡◌, ℕ, Bool, Result};
-ghost use Rattle.debounce_shell.specs.Turn.{Turns, HandsBatch, HandsErrors, refusal_of};
+ghost use Rattle.debounce_gate.specs.Turn.{Turns, HandsBatch, HandsErrors, refusal_of};
 
 use crate::handler::{DebounceEventHandler, DebounceEventResult};
-use debounce_book::steps::Ticked;
 use notify_paths::error::Error;
 use notify_types::event::{DebouncedEvent, Event};
 use notify_types::time::Moment;
