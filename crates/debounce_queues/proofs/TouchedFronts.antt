@@ -24,7 +24,7 @@ use Rattle.debounce_model.specs.Rename.{first_both, without_both, staying, movin
 use Rattle.debounce_model.specs.WellFormed.{AreQueues, IsQueueMap}
 use Rattle.debounce_model.proofs.Entries.{lookup-insert_same, lookup-insert_other, same_entries, sorted-filter}
 use Rattle.debounce_model.proofs.MovedLemmas.{queue-below_of, queue-moved_below, queue-moved_from, queue-moved_other, moved_found, sorted-with_queues}
-use Rattle.debounce_model.proofs.MovedPaths.{same_at, below_prefix, below_in_place, not_at_both}
+use Rattle.debounce_model.proofs.MovedPaths.{same_at, below_prefix, below_in_place}
 use Rattle.debounce_model.proofs.MoveSteps.{sorted-halves, halves-other, differs, below_itself, not_below, apart_both}
 use Rattle.debounce_model.proofs.RenameLemmas.{good-halves}
 use Rattle.debounce_model.proofs.RenameMoves.{at_source}

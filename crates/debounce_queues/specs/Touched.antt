@@ -3,6 +3,7 @@
 use Rattle.std.specs.Prelude.{ℕ, ◌==◌, max, Bool, not, ◌&&◌, ◌||◌, List, ◌++◌, length, Option, Some, None}
 use Rattle.std.specs.Option.{option_copied, option_map}
 use Rattle.notify_paths.specs.Path.{PathValue}
+use Rattle.notify_types.specs.Event.{Timed}
 use Rattle.debounce_model.specs.MapSteps.{before_half}
 use Rattle.debounce_model.specs.Moved.{are_apart, below_of, moved_below, began}
 use Rattle.debounce_model.specs.Queues.{Queues, queue_at}
@@ -16,6 +17,14 @@ use Rattle.front_index.specs.Steps.{pair_of, pairs_of}
 abbrev pub moved_time : ℕ → Option ℕ → Option ℕ
 moved_time began None = None
 moved_time began (Some t) = Some (max t began)
+
+-- the pair of a queue, if it has one, at its place after the rename
+abbrev pub moved_pair : ℕ → List Timed → PathValue → List (ℕ × PathValue)
+moved_pair began events place = pair_of (moved_time began (front_time events)) place
+
+-- the pairs of the queues that go along
+abbrev pub moved_pairs : Queues → PathValue → PathValue → ℕ → List (ℕ × PathValue)
+moved_pairs queues f t began = pairs_of (moved_below queues f t began)
 
 module _ {Z : Type 0} where
   -- the fronts that a rename from f to t may leave at these two: of the rename, of what goes along, and of what stays

@@ -1,15 +1,14 @@
 //! The joined rename, with the index of the fronts.
-ghost use Rattle.std.specs.Prelude.{◌≡◌, ◌++◌, ◌||◌, ◌<◌, ℕ, true, false, length, IfOk, OnOk, OnErr};
+ghost use Rattle.std.specs.Prelude.{◌≡◌, ◌++◌, ◌<◌, true, length, IfOk, OnOk, OnErr};
 ghost use Rattle.std.specs.List.Sorted.{IsStrictlySortedBy};
 ghost use Rattle.std.specs.Map.{keys_of};
-ghost use Rattle.notify_paths.specs.Path.{PathValue, path_cmp};
-ghost use Rattle.debounce_model.specs.Moved.{moved_below, below_of, are_apart};
+ghost use Rattle.notify_paths.specs.Path.{path_cmp};
+ghost use Rattle.debounce_model.specs.Moved.{below_of, are_apart};
 ghost use Rattle.debounce_model.specs.WellFormed.{AreQueues, IsQueueMap};
 ghost use Rattle.event_queue.specs.Renames.{halves_by, joined_by};
-ghost use Rattle.event_queue.specs.Front.{front_time};
-ghost use Rattle.front_index.specs.Fronts.{has, IsIndexed};
-ghost use Rattle.front_index.specs.Steps.{has_pair, pair_of, pairs_of};
-ghost use Rattle.debounce_queues.specs.Touched.{moved_time, fronts_after, fronts_of_two, fronts_of_all, touches_two};
+ghost use Rattle.front_index.specs.Fronts.{IsIndexed};
+ghost use Rattle.front_index.specs.Steps.{DifferAt, IsKept, IsWith, pairs_of};
+ghost use Rattle.debounce_queues.specs.Touched.{moved_pair, moved_pairs, fronts_after, fronts_of_two, fronts_of_all, touches_two};
 
 use crate::halves::{join_halves, source_at};
 use crate::joined::{are_apart, join};
@@ -47,7 +46,7 @@ fn add_moved_front<A: Allocator + Copy>(
     place: PathBuf<A>,
     began: Moment,
 ) -> Result<(), AllocError>
-    ensures { OnOk result (pairs.new.items ≡ pairs.old.items ++ pair_of (moved_time began (front_time queue.now)) place) }
+    ensures { OnOk result (pairs.new.items ≡ pairs.old.items ++ moved_pair began queue.now place) }
 {
     if let Some(time) = queue.front_time() {
         pairs.push((time.max(began), place))?;
@@ -65,7 +64,7 @@ fn add_moved_fronts<A: Allocator + Copy>(
     began: Moment,
 ) -> Result<(), AllocError>
     requires { 0 < length from.now }
-    ensures { OnOk result (pairs.new.items ≡ pairs.old.items ++ pairs_of (moved_below queues.now.entries from.now to.now began)) }
+    ensures { OnOk result (pairs.new.items ≡ pairs.old.items ++ moved_pairs queues.now.entries from.now to.now began) }
 {
     for (path, queue) in queues.range((Bound::Excluded(from), Bound::Unbounded)) {
         if !path.starts_with(from) {
@@ -152,9 +151,9 @@ fn insert_and_join_two<A: Allocator + Copy>(
     requires { AreQueues queues.old.entries }
     ensures ok { OnOk result (queues.new.entries ≡ halves_by queues.old.entries rename.entry) }
     ensures err { OnErr result (queues.new.entries ≡ queues.old.entries) }
-    ensures put { OnOk result ((t : ℕ) (p : PathValue) → has fronts.new t p ≡ (has_pair pairs.now.items t p || has fronts.old t p)) }
-    ensures grown { (t : ℕ) (p : PathValue) → has fronts.old t p ≡ true → has fronts.new t p ≡ true }
-    ensures others { (t : ℕ) (p : PathValue) → has_pair pairs.now.items t p ≡ false → has fronts.new t p ≡ has fronts.old t p }
+    ensures put { OnOk result (IsWith pairs.now.items fronts.old fronts.new) }
+    ensures grown { IsKept fronts.old fronts.new }
+    ensures others { DifferAt pairs.now.items fronts.old fronts.new }
 {
     let alloc = *pairs.allocator();
     insert_copies(fronts, pairs.as_slice())?;
@@ -193,9 +192,9 @@ fn insert_and_join_all<A: Allocator + Copy>(
     requires { AreQueues queues.old.entries }
     ensures ok { OnOk result (queues.new.entries ≡ joined_by queues.old.entries rename.entry) }
     ensures err { OnErr result (queues.new.entries ≡ queues.old.entries) }
-    ensures put { OnOk result ((t : ℕ) (p : PathValue) → has fronts.new t p ≡ (has_pair pairs.now.items t p || has fronts.old t p)) }
-    ensures grown { (t : ℕ) (p : PathValue) → has fronts.old t p ≡ true → has fronts.new t p ≡ true }
-    ensures others { (t : ℕ) (p : PathValue) → has_pair pairs.now.items t p ≡ false → has fronts.new t p ≡ has fronts.old t p }
+    ensures put { OnOk result (IsWith pairs.now.items fronts.old fronts.new) }
+    ensures grown { IsKept fronts.old fronts.new }
+    ensures others { DifferAt pairs.now.items fronts.old fronts.new }
 {
     let alloc = *pairs.allocator();
     insert_copies(fronts, pairs.as_slice())?;

@@ -1,6 +1,3 @@
-use Rattle.std.proofs.Common.{sym}
-use Rattle.std.specs.List.Sorted.{IsStrictlySortedBy}
-use Rattle.debounce_model.proofs.RenameLemmas.{good-halves}
 use Rattle.debounce_queues.proofs.TouchedFronts.{index_follows, halves_told, kept_halves}
 use Rattle.debounce_queues.proofs.touched.join_two.Goals as goal
 
