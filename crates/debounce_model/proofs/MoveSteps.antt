@@ -239,7 +239,7 @@ sorted-left queues f None o = sorted-remove_entry path_cmp_total (is_at (path_cm
 sorted-left queues f (Some x) o = sorted-insert_entry path_cmp_total queues f (x ∷ []) o
 
 -- .. also after the join
-sorted-halves : (queues : Queues) (f t : PathValue) (time : ℕ) (attrs : AttributesValue) → IsStrictlySortedBy path_cmp (keys_of queues) → IsStrictlySortedBy path_cmp (keys_of (joined_halves queues f t time attrs))
+pub sorted-halves : (queues : Queues) (f t : PathValue) (time : ℕ) (attrs : AttributesValue) → IsStrictlySortedBy path_cmp (keys_of queues) → IsStrictlySortedBy path_cmp (keys_of (joined_halves queues f t time attrs))
 sorted-halves queues f t time attrs o = sorted-insert_entry path_cmp_total _ t _ (sorted-left queues f (staying (without_both (without_last (events_at queues f)))) o)
 
 -- where two have the same at a path, they still have after the same is left at f

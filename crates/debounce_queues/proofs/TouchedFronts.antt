@@ -1,5 +1,5 @@
 -- The pairs that are collected before a joined rename tell its queues from those before it.
-use Rattle.std.proofs.Common.{◌≡◌, ℕ, Bool, true, false, cond, not, ◌&&◌, ◌||◌, List, [], ◌∷◌, ◌++◌, map, refl, ap, sym, ◌∙◌, Option, Some, None, true≢false, arith}
+use Rattle.std.proofs.Common.{◌≡◌, ℕ, Bool, true, false, cond, not, ◌&&◌, ◌||◌, List, [], ◌∷◌, ◌++◌, map, refl, ap, sym, ◌∙◌, Option, Some, None, length, true≢false, arith}
 use Rattle.std.specs.Prelude.{OnOk, OnErr}
 use Rattle.std.specs.Bool.{◌==◌}
 use Rattle.std.specs.Option.{option_map}
@@ -15,23 +15,26 @@ use Rattle.std.proofs.lemmas.List.Folds.{list_any-append}
 use Rattle.notify_types.specs.Event.{Timed, AttributesValue}
 use Rattle.notify_paths.specs.Path.{PathValue, path_cmp, is_below}
 use Rattle.notify_paths.specs.PathLaws.{path_cmp_total}
+use Rattle.notify_paths.proofs.Prefixes.{same_path}
 use Rattle.notify_paths.specs.PathMoves.{in_place}
-use Rattle.debounce_model.specs.Queues.{Queues, queue_at, was_created}
+use Rattle.debounce_model.specs.Queues.{Queues, queue_at, was_created, without_below, waiting_in}
 use Rattle.debounce_model.specs.MapSteps.{before_half, queue_of}
-use Rattle.debounce_model.specs.Moved.{are_apart, below_of, moved_below, moved_queue, moved, began, joined_rename}
+use Rattle.debounce_model.specs.Moved.{are_apart, below_of, moved_below, moved_queue, moved, moved_along, began, joined_rename}
 use Rattle.debounce_model.specs.Rename.{first_both, without_both, staying, moving, original_path, original_time, at_path, overriding, renaming, arrived, joined_halves}
-use Rattle.debounce_model.specs.WellFormed.{AreQueues}
-use Rattle.debounce_model.proofs.Entries.{lookup-insert_same, lookup-insert_other}
-use Rattle.debounce_model.proofs.MovedLemmas.{queue-below_of, queue-moved_below, queue-moved_from, queue-moved_other, moved_found}
-use Rattle.debounce_model.proofs.MovedPaths.{same_at, below_prefix, below_in_place, not_at_both}
-use Rattle.debounce_model.proofs.MoveSteps.{halves-other, differs, below_itself, not_below, apart_both}
+use Rattle.debounce_model.specs.WellFormed.{AreQueues, IsQueueMap}
+use Rattle.debounce_model.proofs.Entries.{lookup-insert_same, lookup-insert_other, same_entries, sorted-filter}
+use Rattle.debounce_model.proofs.MovedLemmas.{queue-below_of, queue-moved_below, queue-moved_from, queue-moved_other, moved_found, sorted-with_queues}
+use Rattle.debounce_model.proofs.MovedPaths.{same_at, below_prefix, below_in_place}
+use Rattle.debounce_model.proofs.MoveSteps.{sorted-halves, halves-other, differs, below_itself, not_below, apart_both}
+use Rattle.debounce_model.proofs.RenameLemmas.{good-halves}
 use Rattle.debounce_model.proofs.RenameMoves.{at_source}
 use Rattle.event_queue.specs.Front.{front_time}
 use Rattle.front_index.specs.Fronts.{front_of, is_time, is_front, has, IsIndexed}
 use Rattle.front_index.specs.Steps.{has_pair, pair_of, pairs_of, TellApart}
 use Rattle.front_index.proofs.FrontLemmas.{same_front}
 use Rattle.front_index.proofs.FrontSettle.{settled_ok, settled_err}
-use Rattle.debounce_queues.specs.Touched.{moved_time}
+use Rattle.front_index.proofs.FrontTicks.{number_is}
+use Rattle.debounce_queues.specs.Touched.{moved_time, fronts_before, fronts_of_two, fronts_of_all, touches_two}
 use Rattle.debounce_queues.proofs.Outcomes.{filled_of}
 
 -- ---- pairs that are not there
@@ -107,25 +110,15 @@ module _ (m : Queues) (f t : PathValue) (time : ℕ) (attrs : AttributesValue) (
   abbrev events : List Timed
   events = before_half m f
 
-  -- the fronts at f and t, and those that may come there
-  abbrev pub old_pairs : List (ℕ × PathValue)
-  old_pairs = pair_of (front_of (queue_at m f)) f ++ pair_of (front_of (queue_at m t)) t
-
-  abbrev pub new_pairs : List (ℕ × PathValue)
-  new_pairs = pair_of (Some (original_time (first_both events) time)) t ++ (pair_of (front_time (moving (without_both events))) t ++ pair_of (option_map (λ x. x.time) (staying (without_both events))) f)
-
-  abbrev pub at_both : List (ℕ × PathValue)
-  at_both = old_pairs ++ new_pairs
-
   -- the front of what stays
   stay_front : (x : Option Timed) → front_of (queue_of x) ≡ option_map (λ y. y.time) x
   stay_front None = refl
   stay_front (Some x) = refl
 
   -- they tell the queues at f and t
-  pub halves_told : TellApart at_both m (joined_halves m f t time attrs)
+  pub halves_told : TellApart (fronts_of_two m f t time) m (joined_halves m f t time attrs)
   halves_told s p h =
-      let first = neither old_pairs new_pairs s p h in
+      let first = neither (fronts_before m f t) (pair_of (Some (original_time (first_both events) time)) t ++ (pair_of (front_time (moving (without_both events))) t ++ pair_of (option_map (λ x. x.time) (staying (without_both events))) f)) s p h in
       let old = neither (pair_of (front_of (queue_at m f)) f) (pair_of (front_of (queue_at m t)) t) s p first.0 in
       let come = neither (pair_of (Some (original_time (first_both events) time)) t) (pair_of (front_time (moving (without_both events))) t ++ pair_of (option_map (λ x. x.time) (staying (without_both events))) f) s p first.1 in
       let more = neither (pair_of (front_time (moving (without_both events))) t) (pair_of (option_map (λ x. x.time) (staying (without_both events))) f) s p come.1 in
@@ -150,20 +143,17 @@ module _ (m : Queues) (f t : PathValue) (time : ℕ) (attrs : AttributesValue) (
       by old_f old_t began going stays false i false j = ap (λ q. is_time (front_of q) s) (halves-other m f t time attrs p j i)
 
   -- with those below they tell all
-  abbrev pub at_all : List (ℕ × PathValue)
-  at_all = ((at_both ++ pairs_of (below_of m f)) ++ pairs_of (below_of m t)) ++ pairs_of (moved_below m f t (began m f time))
-
-  pub moved_told : are_apart f t ≡ true → TellApart at_all m (moved (joined_halves m f t time attrs) f t (began m f time))
+  pub moved_told : are_apart f t ≡ true → TellApart (fronts_of_all m f t time) m (moved (joined_halves m f t time attrs) f t (began m f time))
   moved_told apart s p h =
-      let last = neither ((at_both ++ pairs_of (below_of m f)) ++ pairs_of (below_of m t)) (pairs_of (moved_below m f t (began m f time))) s p h in
-      let under_t = neither (at_both ++ pairs_of (below_of m f)) (pairs_of (below_of m t)) s p last.0 in
-      let under_f = neither at_both (pairs_of (below_of m f)) s p under_t.0 in
+      let last = neither (((fronts_of_two m f t time) ++ pairs_of (below_of m f)) ++ pairs_of (below_of m t)) (pairs_of (moved_below m f t (began m f time))) s p h in
+      let under_t = neither ((fronts_of_two m f t time) ++ pairs_of (below_of m f)) (pairs_of (below_of m t)) s p last.0 in
+      let under_f = neither (fronts_of_two m f t time) (pairs_of (below_of m f)) s p under_t.0 in
       by under_f.0 under_f.1 under_t.1 last.1 (is_below p t) refl (is_below p f) refl
     where
       old : (q : PathValue) → is_below p q ≡ true → has_pair (pairs_of (below_of m q)) s p ≡ false → is_front m s p ≡ false
       old q b n = ap (λ r. is_time (front_of r) s) (sym (queue-below_of m q p true b)) ∙ no_front (below_of m q) s p n
 
-      by : has_pair at_both s p ≡ false → has_pair (pairs_of (below_of m f)) s p ≡ false → has_pair (pairs_of (below_of m t)) s p ≡ false → has_pair (pairs_of (moved_below m f t (began m f time))) s p ≡ false → (b : Bool) → is_below p t ≡ b → (c : Bool) → is_below p f ≡ c → is_front (moved (joined_halves m f t time attrs) f t (began m f time)) s p ≡ is_front m s p
+      by : has_pair (fronts_of_two m f t time) s p ≡ false → has_pair (pairs_of (below_of m f)) s p ≡ false → has_pair (pairs_of (below_of m t)) s p ≡ false → has_pair (pairs_of (moved_below m f t (began m f time))) s p ≡ false → (b : Bool) → is_below p t ≡ b → (c : Bool) → is_below p f ≡ c → is_front (moved (joined_halves m f t time attrs) f t (began m f time)) s p ≡ is_front m s p
       by both under_f under_t came true i c j =
           let n : ℕ = began m f time in
           let there : is_below (in_place t f p) f ≡ true = below_in_place t f p i in
@@ -180,12 +170,59 @@ module _ (m : Queues) (f t : PathValue) (time : ℕ) (attrs : AttributesValue) (
           ap (λ q. is_time (front_of q) s) (queue-moved_other (joined_halves m f t time attrs) f t (began m f time) p i j)
           ∙ halves_told s p both
 
-  -- the pairs of a move, or of one that isn't made
-  pub told_apart : are_apart f t ≡ true → TellApart at_all m (joined_rename m f t time attrs)
-  told_apart apart = rw apart (moved_told apart)
+  -- where the move is made
+  pub told_all : are_apart f t ≡ true → TellApart (fronts_of_all m f t time) m (joined_rename m f t time attrs)
+  told_all apart = rw apart (moved_told apart)
 
-  pub told_near : are_apart f t ≡ false → TellApart at_both m (joined_rename m f t time attrs)
-  told_near near = rw near halves_told
+  -- where nothing lies below the two paths, nothing moves
+  nothing_moves : are_apart f t ≡ true → below_of m f ≡ [] → below_of m t ≡ [] → moved (joined_halves m f t time attrs) f t (began m f time) ≡ joined_halves m f t time attrs
+  nothing_moves apart none_f none_t =
+      let h : Queues = joined_halves m f t time attrs in
+      let n : ℕ = began m f time in
+      let s : IsStrictlySortedBy path_cmp (keys_of h) = sorted-halves m f t time attrs o in
+      same_entries path_cmp_total same_path (moved h f t n) h
+      (sorted-with_queues (without_below (without_below h f) t) (moved_below h f t n) (sorted-filter path_cmp_total (λ e. not (is_below e.0 t)) (without_below h f) (sorted-filter path_cmp_total (λ e. not (is_below e.0 f)) h s)))
+      s
+      (λ q. by q (is_below q t) refl (is_below q f) refl)
+    where
+      absent : (q r : PathValue) → is_below q r ≡ true → below_of m r ≡ [] → queue_at m q ≡ None
+      absent q r b none = sym (queue-below_of m r q true b) ∙ ap (λ es. queue_at es q) none
+
+      by : (q : PathValue) (b : Bool) → is_below q t ≡ b → (c : Bool) → is_below q f ≡ c → queue_at (moved (joined_halves m f t time attrs) f t (began m f time)) q ≡ queue_at (joined_halves m f t time attrs) q
+      by q true i c j =
+          let there : is_below (in_place t f q) f ≡ true = below_in_place t f q i in
+          queue-moved_below (joined_halves m f t time attrs) f t (began m f time) q i
+          ∙ ap (option_map (moved_queue f t (began m f time))) (halves-other m f t time attrs (in_place t f q) (differs (in_place t f q) f f there (below_itself f)) (differs (in_place t f q) t f there (not_below t f (apart_both f t apart).0)) ∙ absent (in_place t f q) f there none_f)
+          ∙ sym (halves-other m f t time attrs q (differs q f t i (not_below f t (apart_both f t apart).1)) (differs q t t i (below_itself t)) ∙ absent q t i none_t)
+      by q false i true j =
+          queue-moved_from (joined_halves m f t time attrs) f t (began m f time) q i j
+          ∙ sym (halves-other m f t time attrs q (differs q f f j (below_itself f)) (differs q t f j (not_below t f (apart_both f t apart).0)) ∙ absent q f j none_f)
+      by q false i false j = queue-moved_other (joined_halves m f t time attrs) f t (began m f time) q i j
+
+  -- a rename that touches two queues is made by what it makes of these
+  pub two_joined : touches_two m f t ≡ true → joined_halves m f t time attrs ≡ joined_rename m f t time attrs
+  two_joined two = by (are_apart f t) refl two
+    where
+      empty : (es : Queues) → (length es == 0) ≡ true → es ≡ []
+      empty [] h = refl
+      empty (e ∷ es) h = let z : length (e ∷ es) ≡ 0 = number_is (length (e ∷ es)) 0 h in absurd (omega (arith, z))
+
+      both : (a b : Bool) → (a && b) ≡ true → (a ≡ true) × (b ≡ true)
+      both true true h = (refl, refl)
+      both true false h = absurd (true≢false (sym h))
+      both false b h = absurd (true≢false (sym h))
+
+      by : (b : Bool) → are_apart f t ≡ b → (not b || ((length (below_of m f) == 0) && (length (below_of m t) == 0))) ≡ true → joined_halves m f t time attrs ≡ moved_along (joined_halves m f t time attrs) f t (began m f time)
+      by false e h = rw e refl
+      by true e h = let none = both (length (below_of m f) == 0) (length (below_of m t) == 0) h in rw e (sym (nothing_moves e (empty (below_of m f) none.0) (empty (below_of m t) none.1)))
+
+  -- one that touches others is made where the paths are apart
+  pub others_apart : touches_two m f t ≡ false → are_apart f t ≡ true
+  others_apart two = by (are_apart f t) two
+    where
+      by : (b : Bool) → (not b || ((length (below_of m f) == 0) && (length (below_of m t) == 0))) ≡ false → b ≡ true
+      by true h = refl
+      by false h = absurd (true≢false h)
 
 -- ---- the index follows
 
@@ -204,3 +241,7 @@ index_follows (Err x) fs gs hs pairs m n after i a b ok err put grown others apa
 pub moved_front : (f t : PathValue) (n : ℕ) (e : PathValue × List Timed) → pair_of (moved_time n (front_time e.1)) (in_place f t e.0) ≡ pair_of (front_time (moved_queue f t n e.1)) (in_place f t e.0)
 moved_front f t n (p, []) = refl
 moved_front f t n (p, x ∷ xs) = refl
+
+-- the queues at the two paths keep their laws
+pub kept_halves : (m : Queues) (f t : PathValue) (time : ℕ) (attrs : AttributesValue) → IsQueueMap m → AreQueues (joined_halves m f t time attrs)
+kept_halves m f t time attrs g = (good-halves m f t time attrs (waiting_in m) (record { kept = g.kept; ordered = g.ordered; bounded = omega arith })).kept

@@ -5,9 +5,10 @@ ghost use Rattle.std.specs.List.Sorted.{IsStrictlySortedBy};
 ghost use Rattle.std.specs.Map.{keys_of};
 ghost use Rattle.notify_paths.specs.Path.{path_cmp};
 ghost use Rattle.front_index.specs.Fronts.{IsIndexed};
+ghost use Rattle.debounce_queues.specs.Replaced.{replaced};
 ghost use Rattle.debounce_model.specs.Due.{place_list, rests, is_any_due, due_fronts};
 ghost use Rattle.debounce_model.specs.Memory.{skips_it, cancels};
-ghost use Rattle.debounce_model.specs.Queues.{queue_at, with_queue, without_queue, without_below, was_created_at, push, removal, waiting_in};
+ghost use Rattle.debounce_model.specs.Queues.{queue_at, without_queue, without_below, was_created_at, push, removal, waiting_in};
 ghost use Rattle.debounce_model.specs.Rename.{is_both_kind};
 ghost use Rattle.event_queue.specs.Due.{is_due};
 ghost use Rattle.event_queue.specs.Renames.{joined_to, renamed_by};
@@ -51,6 +52,7 @@ impl<A: Allocator> Model for Queues<A> {
     ghost view = { λ a. a.map.entries };
 
     ghost use Rattle.front_index.specs.Fronts.{IsIndexed};
+    ghost use Rattle.debounce_queues.specs.Replaced.{replaced};
 
     ghost invariant = { λ a. IsQueueMap a.map.entries × IsIndexed a.fronts a.map.entries };
 }
@@ -265,7 +267,7 @@ fn replace<A: Allocator + Copy>(
 ) -> Result<(), AllocError>
     requires path { 0 < length event.event.paths }
     requires indexed { IsIndexed fronts.old queues.old.entries }
-    ensures ok { OnOk result (queues.new.entries ≡ without_below (with_queue queues.old.entries (first_of event.event.paths) (event ∷ [])) (first_of event.event.paths)) }
+    ensures ok { OnOk result (queues.new.entries ≡ replaced queues.old.entries (first_of event.event.paths) event) }
     ensures err { OnErr result (queues.new.entries ≡ queues.old.entries) }
     ensures indexed { IsIndexed fronts.new queues.new.entries }
     ensures was_ordered { IsStrictlySortedBy path_cmp (keys_of queues.old.entries) }

@@ -1,10 +1,10 @@
 //! A queue is taken out, or all that lie below a path, and their fronts out of the index. None of it can
 //! fail.
-ghost use Rattle.std.specs.Prelude.{◌≡◌, ◌&&◌, ℕ, None, false, not, if◌then◌else◌};
-ghost use Rattle.std.specs.BTreeMap.{is_at};
-ghost use Rattle.notify_paths.specs.Path.{PathValue, path_cmp, is_below};
-ghost use Rattle.debounce_model.specs.Queues.{queue_at, without_queue, without_below};
-ghost use Rattle.front_index.specs.Fronts.{has, is_front, IsIndexed};
+ghost use Rattle.std.specs.Prelude.{◌≡◌, ℕ};
+ghost use Rattle.notify_paths.specs.Path.{is_below};
+ghost use Rattle.debounce_model.specs.Queues.{without_queue, without_below};
+ghost use Rattle.front_index.specs.Fronts.{IsIndexed, has, is_front};
+ghost use Rattle.front_index.specs.Steps.{IsGone, IsWithout};
 
 use crate::fronts::{Fronts, QueueMap};
 use notify_paths::below::{copy_first_below, count_below, drop_below as drop_keys_below};
@@ -15,8 +15,8 @@ use std::alloc::Allocator;
 pub fn remove<A: Allocator + Copy>(map: &mut QueueMap<A>, fronts: &mut Fronts<A>, path: &PathBuf<A>)
     requires indexed { (t : ℕ) → has fronts.old t path.now ≡ is_front map.old.entries t path.now }
     ensures map { map.new.entries ≡ without_queue map.old.entries path.now }
-    ensures fronts { (t : ℕ) (p : PathValue) → has fronts.new t p ≡ (if is_at (path_cmp path.now) p then false else has fronts.old t p) }
-    ensures updated { (p : PathValue) → queue_at map.new.entries p ≡ (if is_at (path_cmp path.now) p then None else queue_at map.old.entries p) }
+    ensures fronts { IsWithout path.now fronts.old fronts.new }
+    ensures updated { IsGone path.now map.old.entries map.new.entries }
 {
     match map.remove_entry(path) {
         None => {}

@@ -1,11 +1,10 @@
 //! The index, and what it says of what is due.
-ghost use Rattle.std.specs.Prelude.{◌≡◌, ◌<◌, ℕ, Some, IfSome, IfNone, true, false, length, slice_get, if◌then◌else◌};
-ghost use Rattle.std.specs.BTreeMap.{is_at};
-ghost use Rattle.notify_paths.specs.Path.{PathValue};
+ghost use Rattle.std.specs.Prelude.{◌≡◌, ◌<◌, IfSome, IfNone, true, false, length};
 ghost use Rattle.debounce_model.specs.Due.{is_any_due};
 ghost use Rattle.debounce_model.specs.Queues.{queue_at};
 ghost use Rattle.event_queue.specs.Due.{is_due, is_due_at};
-ghost use Rattle.front_index.specs.Fronts.{front_of, front_cmp, has, is_front, IsIndexed};
+ghost use Rattle.front_index.specs.Fronts.{IsIndexed, front_of, has, is_front};
+ghost use Rattle.front_index.specs.Steps.{HasFirstDue, HasNoneDue, IsPopped, IsSame};
 
 use event_queue::due::Due;
 use event_queue::queue::Queue;
@@ -42,8 +41,8 @@ pub(crate) fn is_front<A: Allocator>(map: &QueueMap<A>, path: &PathBuf<A>, time:
 
 /// Whether the first pair of the index is due.
 fn is_first_due<A: Allocator>(fronts: &Fronts<A>, due: Due) -> bool
-    ensures none { result ≡ false → (t : ℕ) (p : PathValue) → is_due_at due t ≡ true → has fronts.now t p ≡ false }
-    ensures some { result ≡ true → (k : ℕ × PathValue) × (is_due_at due k.0 ≡ true) × (has fronts.now k.0 k.1 ≡ true) × (slice_get fronts.now.keys 0 ≡ Some k) }
+    ensures none { result ≡ false → HasNoneDue due fronts.now }
+    ensures some { result ≡ true → HasFirstDue due fronts.now }
 {
     match fronts.first() {
         None => false,
@@ -68,10 +67,10 @@ pub(crate) fn pop_due<A: Allocator>(
 ) -> Option<(Moment, PathBuf<A>)>
     ensures due { IfSome result (λ k. is_due_at due k.0 ≡ true) }
     ensures there { IfSome result (λ k. has fronts.old k.0 k.1 ≡ true) }
-    ensures popped { IfSome result (λ k. (t : ℕ) (p : PathValue) → has fronts.new t p ≡ (if is_at (front_cmp k) (t, p) then false else has fronts.old t p)) }
+    ensures popped { IfSome result (λ k. IsPopped k fronts.old fronts.new) }
     ensures fewer { IfSome result (λ k. length fronts.new.keys < length fronts.old.keys) }
-    ensures none { IfNone result ((t : ℕ) (p : PathValue) → is_due_at due t ≡ true → has fronts.new t p ≡ false) }
-    ensures kept { IfNone result ((t : ℕ) (p : PathValue) → has fronts.new t p ≡ has fronts.old t p) }
+    ensures none { IfNone result (HasNoneDue due fronts.new) }
+    ensures kept { IfNone result (IsSame fronts.old fronts.new) }
 {
     if !is_first_due(fronts, due) {
         return None;

@@ -2,13 +2,12 @@
 //! paths.
 ghost use Rattle.std.specs.Prelude.{◌≡◌, ◌++◌, OnOk, IfOk};
 ghost use Rattle.std.specs.BTreeSet.{contains};
-ghost use Rattle.std.specs.List.{list_any};
 ghost use Rattle.notify_paths.specs.Path.{PathValue, path_cmp};
 ghost use Rattle.debounce_model.specs.Due.{place_list};
 ghost use Rattle.debounce_model.specs.Queues.{queue_at};
 ghost use Rattle.event_queue.specs.Due.{is_due};
 ghost use Rattle.front_index.specs.Fronts.{IsIndexed};
-ghost use Rattle.front_index.specs.Steps.{is_due_front, is_due_pair, handed_of};
+ghost use Rattle.front_index.specs.Steps.{AreDuePaths, handed_of, is_due_front};
 
 use crate::fronts::{Fronts, QueueMap};
 use crate::whole::{add_all_places, is_last_due};
@@ -24,7 +23,7 @@ fn due_paths<A: Allocator + Copy>(
     alloc: A,
     due: Due,
 ) -> Result<BTreeSet<PathBuf<A>, A>, AllocError>
-    ensures { IfOk result (λ paths. (p : PathValue) → contains path_cmp paths p ≡ list_any (is_due_pair due p) fronts.now.keys) }
+    ensures { IfOk result (λ paths. AreDuePaths due fronts.now paths) }
 {
     // The proof reads here that the pairs ascend.
     let _len = fronts.len();

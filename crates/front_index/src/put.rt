@@ -5,7 +5,7 @@ ghost use Rattle.std.specs.Map.{keys_of};
 ghost use Rattle.notify_paths.specs.Path.{path_cmp};
 ghost use Rattle.debounce_model.specs.Queues.{queue_at, with_queue};
 ghost use Rattle.event_queue.specs.Front.{front_time};
-ghost use Rattle.front_index.specs.Fronts.{front_of, IsIndexed};
+ghost use Rattle.front_index.specs.Fronts.{IsIndexed, front_of};
 
 use crate::fronts::{Fronts, QueueMap, front_at};
 use event_queue::queue::Queue;

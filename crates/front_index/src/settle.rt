@@ -1,10 +1,7 @@
 //! A change of several queues at once: first the index gets each front that may come, then the queues
 //! are changed, and then the index loses what is no front.
-ghost use Rattle.std.specs.Prelude.{◌≡◌, ◌++◌, ◌&&◌, ◌||◌, ℕ, OnOk, OnErr, true, false, not};
-ghost use Rattle.notify_paths.specs.Path.{PathValue};
-ghost use Rattle.debounce_model.specs.Queues.{queue_at};
-ghost use Rattle.front_index.specs.Fronts.{has, front_of, is_front};
-ghost use Rattle.front_index.specs.Steps.{is_pair, has_pair, pair_of};
+ghost use Rattle.std.specs.Prelude.{◌≡◌, ◌++◌, OnOk, OnErr};
+ghost use Rattle.front_index.specs.Steps.{DifferAt, IsKept, IsSame, IsSettled, IsSettledPair, IsWith, IsWithPair, front_pair, pair_of};
 
 use crate::fronts::{Fronts, QueueMap, front_at, is_front};
 use notify_paths::path::PathBuf;
@@ -34,7 +31,7 @@ pub fn add_front_at<A: Allocator + Copy>(
     map: &QueueMap<A>,
     path: &PathBuf<A>,
 ) -> Result<(), AllocError>
-    ensures { OnOk result (pairs.new.items ≡ pairs.old.items ++ pair_of (front_of (queue_at map.now.entries path.now)) path.now) }
+    ensures { OnOk result (pairs.new.items ≡ pairs.old.items ++ front_pair map.now.entries path.now) }
 {
     add_pair(pairs, front_at(map, path), path)
 }
@@ -44,8 +41,8 @@ fn insert_copy<A: Allocator + Copy>(
     fronts: &mut Fronts<A>,
     pair: &(Moment, PathBuf<A>),
 ) -> Result<(), AllocError>
-    ensures ok { OnOk result ((t : ℕ) (p : PathValue) → has fronts.new t p ≡ (is_pair pair.now t p || has fronts.old t p)) }
-    ensures err { OnErr result ((t : ℕ) (p : PathValue) → has fronts.new t p ≡ has fronts.old t p) }
+    ensures ok { OnOk result (IsWithPair pair.now fronts.old fronts.new) }
+    ensures err { OnErr result (IsSame fronts.old fronts.new) }
 {
     if fronts.contains(pair) {
         return Ok(());
@@ -59,9 +56,9 @@ pub fn insert_copies<A: Allocator + Copy>(
     fronts: &mut Fronts<A>,
     pairs: &[(Moment, PathBuf<A>)],
 ) -> Result<(), AllocError>
-    ensures ok { OnOk result ((t : ℕ) (p : PathValue) → has fronts.new t p ≡ (has_pair pairs.now t p || has fronts.old t p)) }
-    ensures grown { (t : ℕ) (p : PathValue) → has fronts.old t p ≡ true → has fronts.new t p ≡ true }
-    ensures others { (t : ℕ) (p : PathValue) → has_pair pairs.now t p ≡ false → has fronts.new t p ≡ has fronts.old t p }
+    ensures ok { OnOk result (IsWith pairs.now fronts.old fronts.new) }
+    ensures grown { IsKept fronts.old fronts.new }
+    ensures others { DifferAt pairs.now fronts.old fronts.new }
 {
     for pair in pairs {
         insert_copy(fronts, pair)?;
@@ -71,7 +68,7 @@ pub fn insert_copies<A: Allocator + Copy>(
 
 /// Takes the pair out of the index, unless it is a front.
 fn settle_one<A: Allocator>(map: &QueueMap<A>, fronts: &mut Fronts<A>, pair: &(Moment, PathBuf<A>))
-    ensures { (t : ℕ) (p : PathValue) → has fronts.new t p ≡ ((is_front map.now.entries t p || not (is_pair pair.now t p)) && has fronts.old t p) }
+    ensures { IsSettledPair map.now.entries pair.now fronts.old fronts.new }
 {
     if !is_front(map, &pair.1, pair.0) {
         fronts.remove(pair);
@@ -84,7 +81,7 @@ pub fn settle<A: Allocator>(
     fronts: &mut Fronts<A>,
     pairs: &[(Moment, PathBuf<A>)],
 )
-    ensures { (t : ℕ) (p : PathValue) → has fronts.new t p ≡ ((is_front map.now.entries t p || not (has_pair pairs.now t p)) && has fronts.old t p) }
+    ensures { IsSettled map.now.entries pairs.now fronts.old fronts.new }
 {
     for pair in pairs {
         settle_one(map, fronts, pair);

@@ -1,14 +1,11 @@
 //! A tick by the index: it opens only the queues whose fronts are due.
-ghost use Rattle.std.specs.Prelude.{◌≡◌, ◌&&◌, ◌||◌, ◌+◌, ℕ, OnOk, OnErr, IfOk, true, false, if◌then◌else◌};
-ghost use Rattle.std.specs.BTreeMap.{is_at};
-ghost use Rattle.std.specs.List.{AllByRecursion, list_any};
-ghost use Rattle.notify_paths.specs.Path.{PathValue, path_cmp};
+ghost use Rattle.std.specs.Prelude.{◌≡◌, ℕ, OnOk, OnErr, IfOk, true};
+ghost use Rattle.notify_paths.specs.Path.{PathValue};
 ghost use Rattle.debounce_model.specs.Due.{rests, due_fronts};
 ghost use Rattle.debounce_model.specs.Queues.{queue_at};
-ghost use Rattle.debounce_model.specs.WellFormed.{IsNonempty};
-ghost use Rattle.event_queue.specs.Due.{is_due, is_due_at};
-ghost use Rattle.front_index.specs.Fronts.{is_time, is_front, has, IsIndexed};
-ghost use Rattle.front_index.specs.Steps.{has_pair, is_due_front, front_after, is_later};
+ghost use Rattle.event_queue.specs.Due.{is_due};
+ghost use Rattle.front_index.specs.Fronts.{IsIndexed, has, is_front};
+ghost use Rattle.front_index.specs.Steps.{AddsLater, AreFilled, AreLater, HasDue, HasLater, IsKept, IsOneFewer, IsTrimmed, IsWith, OthersStay, front_after};
 
 use crate::fronts::{Fronts, QueueMap, is_front, pop_due};
 use crate::whole::{is_last_due, trim_all};
@@ -20,10 +17,10 @@ use std::alloc::{AllocError, Allocator};
 /// Drops the due beginning of what waits at the path.
 fn trim_at<A: Allocator>(map: &mut QueueMap<A>, path: &PathBuf<A>, due: Due)
     ensures rests { rests (is_due due) map.new.entries ≡ rests (is_due due) map.old.entries }
-    ensures trimmed { (p : PathValue) → is_due_front due (queue_at map.new.entries p) ≡ (if is_at (path_cmp path.now) p then false else is_due_front due (queue_at map.old.entries p)) }
-    ensures others { (p : PathValue) → is_at (path_cmp path.now) p ≡ false → queue_at map.new.entries p ≡ queue_at map.old.entries p }
-    ensures filled { AllByRecursion (λ e. IsNonempty e.1) map.old.entries → AllByRecursion (λ e. IsNonempty e.1) map.new.entries }
-    ensures counted { is_due_front due (queue_at map.old.entries path.now) ≡ true → due_fronts (is_due due) map.old.entries ≡ due_fronts (is_due due) map.new.entries + 1 }
+    ensures trimmed { IsTrimmed due path.now map.old.entries map.new.entries }
+    ensures others { OthersStay path.now map.old.entries map.new.entries }
+    ensures filled { AreFilled map.old.entries → AreFilled map.new.entries }
+    ensures counted { IsOneFewer due path.now map.old.entries map.new.entries }
 {
     let stays = match map.get_mut(path) {
         None => return,
@@ -37,9 +34,9 @@ fn trim_at<A: Allocator>(map: &mut QueueMap<A>, path: &PathBuf<A>, due: Due)
 /// Drops the due beginnings of all queues whose fronts are due by the index, which has the later
 /// fronts already. Returns how many queues these are.
 fn trim_due<A: Allocator>(map: &mut QueueMap<A>, fronts: &mut Fronts<A>, due: Due) -> usize
-    requires later { (t : ℕ) (p : PathValue) → is_due_at due t ≡ false → has fronts.old t p ≡ is_front (rests (is_due due) map.old.entries) t p }
-    requires now { (t : ℕ) (p : PathValue) → is_due_at due t ≡ true → has fronts.old t p ≡ is_front map.old.entries t p }
-    requires filled { AllByRecursion (λ e. IsNonempty e.1) map.old.entries }
+    requires later { HasLater due fronts.old map.old.entries }
+    requires now { HasDue due fronts.old map.old.entries }
+    requires filled { AreFilled map.old.entries }
     ensures rests { map.new.entries ≡ rests (is_due due) map.old.entries }
     ensures indexed { IsIndexed fronts.new map.new.entries }
     ensures count { result ≡ due_fronts (is_due due) map.old.entries }
@@ -73,7 +70,7 @@ fn add_later<A: Allocator + Copy>(
     path: &PathBuf<A>,
     due: Due,
 ) -> Result<(), AllocError>
-    ensures { OnOk result ((t : ℕ) (p : PathValue) → has_pair later.new.items t p ≡ (has_pair later.old.items t p || (is_at (path_cmp p) path.now && is_time (front_after due (queue_at map.now.entries path.now)) t))) }
+    ensures { OnOk result (AddsLater due map.now.entries path.now later.old.items later.new.items) }
 {
     let time = match time_after(map, path, due) {
         None => return Ok(()),
@@ -92,7 +89,7 @@ fn later_fronts<A: Allocator + Copy>(
     alloc: A,
     due: Due,
 ) -> Result<Vec<(Moment, PathBuf<A>), A>, AllocError>
-    ensures { IfOk result (λ later. (t : ℕ) (p : PathValue) → has_pair later.items t p ≡ list_any (is_later due map.now.entries t p) fronts.now.keys) }
+    ensures { IfOk result (λ later. AreLater due map.now.entries fronts.now later.items) }
 {
     // The proof reads here that the pairs ascend.
     let _len = fronts.len();
@@ -111,8 +108,8 @@ fn add_fronts<A: Allocator + Copy>(
     fronts: &mut Fronts<A>,
     later: Vec<(Moment, PathBuf<A>), A>,
 ) -> Result<(), AllocError>
-    ensures ok { OnOk result ((t : ℕ) (p : PathValue) → has fronts.new t p ≡ (has_pair later.items t p || has fronts.old t p)) }
-    ensures grown { (t : ℕ) (p : PathValue) → has fronts.old t p ≡ true → has fronts.new t p ≡ true }
+    ensures ok { OnOk result (IsWith later.items fronts.old fronts.new) }
+    ensures grown { IsKept fronts.old fronts.new }
 {
     for front in later {
         fronts.insert(front)?;

@@ -1,12 +1,12 @@
 //! A tick at which the front of every queue is due: it goes over the queues in the order of their paths,
 //! and needs no look-up.
-ghost use Rattle.std.specs.Prelude.{◌≡◌, ◌++◌, ◌||◌, ◌-◌, ◌^◌, ◌<◌, ℕ, OnOk, OnErr, IfOk, false};
+ghost use Rattle.std.specs.Prelude.{◌≡◌, ◌++◌, ◌-◌, ◌^◌, ◌<◌, ℕ, OnOk, OnErr, IfOk, false};
 ghost use Rattle.notify_paths.specs.Path.{PathValue};
 ghost use Rattle.debounce_model.specs.Due.{place_list, rests, rest_after, waits, due_fronts};
 ghost use Rattle.event_queue.specs.Due.{is_due};
 ghost use Rattle.debounce_model.proofs.DueCounts.{count_of};
-ghost use Rattle.front_index.specs.Fronts.{has, is_front, IsIndexed};
-ghost use Rattle.front_index.specs.Steps.{has_pair, pair_of};
+ghost use Rattle.front_index.specs.Fronts.{IsIndexed, has};
+ghost use Rattle.front_index.specs.Steps.{HasFronts, IsWith, pair_of};
 
 use crate::change::{Change, change_values};
 use crate::fronts::{Fronts, QueueMap};
@@ -48,7 +48,7 @@ fn insert_front<A: Allocator + Copy>(
     time: Option<Moment>,
     path: &PathBuf<A>,
 ) -> Result<(), AllocError>
-    ensures { OnOk result ((t : ℕ) (p : PathValue) → has fronts.new t p ≡ (has_pair (pair_of time path.now) t p || has fronts.old t p)) }
+    ensures { OnOk result (IsWith (pair_of time path.now) fronts.old fronts.new) }
 {
     if let Some(time) = time {
         fronts.insert((time, path.clone()?))?;
@@ -72,7 +72,7 @@ fn add_rests<A: Allocator + Copy>(
     due: Due,
 ) -> Result<usize, AllocError>
     requires { (t : ℕ) (p : PathValue) → has fronts.old t p ≡ false }
-    ensures fronts { OnOk result ((t : ℕ) (p : PathValue) → has fronts.new t p ≡ is_front (rests (is_due due) map.now.entries) t p) }
+    ensures fronts { OnOk result (HasFronts fronts.new (rests (is_due due) map.now.entries)) }
     ensures count { IfOk result (λ count. count ≡ due_fronts (is_due due) map.now.entries) }
 {
     // The proof reads here that the paths ascend, and that the queues can be counted.

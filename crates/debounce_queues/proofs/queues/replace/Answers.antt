@@ -1,4 +1,4 @@
-use Rattle.std.proofs.Common.{◌≡◌, ◌∙◌, ap, refl, ◌∷◌, []}
+use Rattle.std.proofs.Common.{◌∙◌, ap, refl, ◌∷◌, []}
 use Rattle.debounce_model.specs.Queues.{Queues, with_queue, without_below}
 use Rattle.debounce_queues.proofs.queues.replace.Goals as goal
 

@@ -2,10 +2,9 @@
 use Rattle.std.proofs.Common.{◌≡◌, ◌∙◌, ◌+◌, ◌||◌, ap, sym, arith, Bool, true, false, refl, List, ℕ}
 use Rattle.notify_types.specs.Event.{Timed}
 use Rattle.notify_paths.specs.Path.{PathValue}
-use Rattle.debounce_model.specs.Due.{rests, rest_after, is_front_due, due_fronts}
+use Rattle.debounce_model.specs.Due.{rests, is_front_due, due_fronts}
 use Rattle.debounce_model.proofs.DueCounts.{count_of, due_step, count_most}
 use Rattle.event_queue.specs.Due.{is_due}
-use Rattle.event_queue.specs.Front.{front_time}
 use Rattle.front_index.specs.Fronts.{has}
 use Rattle.front_index.specs.Steps.{has_pair, pair_of, pairs_of}
 use Rattle.front_index.proofs.FrontWhole.{rest_put, rests_put}

@@ -1,4 +1,4 @@
-use Rattle.std.proofs.Common.{◌≡◌, ◌∙◌, rules, sym, ap}
+use Rattle.std.proofs.Common.{rules}
 use Rattle.event_queue.specs.Due.{is_due}
 use Rattle.front_index.proofs.FrontWhole.{filled-rests}
 use Rattle.front_index.proofs.whole.trim_all.Goals as goal
