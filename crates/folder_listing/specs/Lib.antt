@@ -1,0 +1,4 @@
+pub mod Listing
+pub mod Changes
+pub mod Pairs
+pub mod Parents
