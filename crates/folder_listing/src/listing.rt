@@ -57,16 +57,24 @@ impl<A: Allocator + Copy> Listing<A> {
     }
 
     /// Puts what was found at the path into the listing, which has the folders above it.
-    pub fn insert(&mut self, path: &PathBuf<A>, found: Found) -> Result<(), AllocError>
+    pub fn insert(
+        &mut self,
+        alloc: A,
+        path: &PathBuf<A>,
+        found: Found,
+    ) -> Result<(), Error<A>>
         requires path { is_nonempty path.now ≡ true }
         requires folders { has_folders (keys_of self.old) path.now ≡ true }
         ensures ok { OnOk result (self.new ≡ insert_entry path_cmp self.old path.now found) }
-        ensures err { OnErr result (self.new ≡ self.old) }
+        ensures unchanged { OnErr result (self.new ≡ self.old) }
+        ensures err { IfErr result (λ e. e ≡ out_of_memory) }
         ensures here { OnOk result (has_entry self.new path.now ≡ true) }
         ensures grows { (q : PathValue) → has_entry self.old q ≡ true → has_entry self.new q ≡ true }
     {
-        let path = path.clone()?;
-        self.entries.insert(path, found)?;
+        let path = path.try_clone()?;
+        let Ok(_) = self.entries.insert(path, found) else {
+            return Err(Error::out_of_memory(alloc));
+        };
         Ok(())
     }
 }

@@ -1,6 +1,6 @@
 -- The steps of a listing of one root: down the folders above it, and at it.
 use Rattle.std.proofs.Common.{◌≡◌, ℕ, zero, suc, ◌+◌, ◌-◌, ◌<◌, ◌≤◌, arith, Bool, true, false, not, ◌&&◌, ◌||◌, List, [], ◌∷◌, ◌++◌, map, take, get_or, drop, length, refl, ap, sym, subst, ◌∙◌, Some, None, true≢false, take_all}
-use Rattle.std.specs.Prelude.{Option, Result, Ok, Err, OnOk, IfOk, IfSome, is_some, if◌then◌else◌}
+use Rattle.std.specs.Prelude.{◌==◌, Option, Result, Ok, Err, OnOk, IfOk, IfSome, is_some, if◌then◌else◌}
 use Rattle.std.specs.List.{list_any, list_all}
 use Rattle.std.specs.Map.{keys_of}
 use Rattle.std.specs.BTreeMap.{is_at, insert_entry}
@@ -61,10 +61,10 @@ folders-more n xs low high = let r = take-next n xs high in ap folders_of r.1 �
 has-push : (ks : Paths) (k q : PathValue) → has_path (ks ++ k ∷ []) q ≡ (has_path ks q || is_at (path_cmp q) k)
 has-push ks k q = list_any-append (is_at (path_cmp q)) ks (k ∷ []) ∙ ap (λ b. has_path ks q || b) (or_false (is_at (path_cmp q) k))
 
--- a path with a part isn't empty
-pub nonempty-long : (xs : PathValue) → 0 < length xs → is_nonempty xs ≡ true
-nonempty-long [] h = absurd (omega (arith, h))
-nonempty-long (x ∷ xs) h = refl
+-- a path that has not no part isn't empty
+pub nonempty-unless : (xs : PathValue) → (length xs == 0) ≡ false → is_nonempty xs ≡ true
+nonempty-unless [] h = absurd (true≢false h)
+nonempty-unless (x ∷ xs) h = refl
 
 -- an empty root adds nothing
 pub no_root : (o : Option ListingValue) (mode : RecursiveMode) (root : PathValue) (es : ListingValue) → root ≡ [] → IfSome o (λ tree. IsTree tree → Adds tree (shows tree (root, mode)) es es)

@@ -1,16 +1,17 @@
 //! The listing of some roots.
-ghost use Rattle.std.specs.Prelude.{◌≡◌, ◌≤◌, true, IfErr, IfOk, IfSome, OnOk};
+ghost use Rattle.std.specs.Prelude.{◌≡◌, ◌≤◌, true, length, take, IfErr, IfOk, IfSome, OnOk};
 ghost use Rattle.std.specs.Map.{keys_of};
+ghost use Rattle.notify_paths.specs.Errors.{out_of_memory};
 ghost use Rattle.notify_paths.specs.Path.{PathValue};
 ghost use Rattle.debounce_model.specs.Honest.{has_folders};
-ghost use Rattle.notify_poll.specs.Folders.{Adds, IsRefusal, IsTree, depth_of, reaches, shown, shows};
 ghost use Rattle.folder_listing.specs.Listing.{has_entry, is_nonempty};
+ghost use Rattle.notify_poll.specs.Folders.{Adds, IsRefusal, IsTree, depth_of, reaches, shown, shows};
 
 use crate::folders::Folders;
 use folder_listing::listing::Listing;
 use notify_paths::error::Error;
-use notify_types::event::RecursiveMode;
 use notify_paths::path::PathBuf;
+use notify_types::event::RecursiveMode;
 use std::alloc::Allocator;
 
 /// How many levels below a root are looked at.
@@ -23,8 +24,9 @@ fn depth_of(mode: RecursiveMode) -> u32
     }
 }
 
-/// Returns the listing of the roots: what stands at each, at the folders above it, and below it. It is
-/// read from above, and what is missing is left out.
+/// Returns the listing of the roots: what stands at each, at the folders above it, and below it, 64
+/// levels deep or, if the root isn't recursive, one level. It is read from above, and what is missing
+/// is left out.
 pub fn list<A: Allocator + Copy, D: Folders<A>>(
     alloc: A,
     folders: &mut D,
@@ -42,7 +44,7 @@ pub fn list<A: Allocator + Copy, D: Folders<A>>(
     Ok(listing)
 }
 
-/// Adds what the root shows. Where a path above it is missing or a file, that is all.
+/// Adds what the root shows. If a path above it is missing or a file, that is all.
 fn list_root<A: Allocator + Copy, D: Folders<A>>(
     alloc: A,
     folders: &mut D,
@@ -55,13 +57,11 @@ fn list_root<A: Allocator + Copy, D: Folders<A>>(
     ensures counted { D.failed folders.old ≤ D.failed folders.new }
     ensures err { IfErr result (λ e. IsRefusal e (D.failed folders.old) (D.failed folders.new)) }
 {
-    if root.parts().is_empty() {
+    if root.is_empty() {
         return Ok(());
     }
-    for count in 1..root.parts().len() {
-        let Ok(path) = root.first_parts(count) else {
-            return Err(Error::out_of_memory(alloc));
-        };
+    for count in 1..part_count(root) {
+        let path = first_parts(alloc, root, count)?;
         let Some(found) = folders.look(&path)? else {
             return Ok(());
         };
@@ -71,6 +71,29 @@ fn list_root<A: Allocator + Copy, D: Folders<A>>(
         }
     }
     list_at(alloc, folders, listing, root, depth_of(mode))
+}
+
+/// How many parts the path has.
+fn part_count<A: Allocator>(path: &PathBuf<A>) -> usize
+    ensures { result ≡ length path.now }
+{
+    path.parts().count()
+}
+
+/// The path of the first `count` parts.
+fn first_parts<A: Allocator + Copy>(
+    alloc: A,
+    path: &PathBuf<A>,
+    count: usize,
+) -> Result<PathBuf<A>, Error<A>>
+    ensures ok { IfOk result (λ first. first ≡ take count path.now) }
+    ensures err { IfErr result (λ e. e ≡ out_of_memory) }
+{
+    let mut components = path.components();
+    for _later in count..part_count(path) {
+        components.next_back();
+    }
+    PathBuf::parse(alloc, components.as_path().as_os_str())
 }
 
 /// Adds what stands at the path, and at most `depth` levels of what is below it. A folder that goes

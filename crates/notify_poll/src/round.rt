@@ -7,7 +7,7 @@ ghost use Rattle.notify_poll.specs.Rounds.{HandsEach};
 
 use folder_listing::compare::compare;
 use crate::folders::Folders;
-use crate::handler::EventHandler;
+use notify_watch::handler::EventHandler;
 use crate::list::list;
 use folder_listing::listing::Listing;
 use notify_paths::error::Error;

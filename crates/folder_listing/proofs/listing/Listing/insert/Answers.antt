@@ -10,14 +10,14 @@ pub invariant_of-self-2 : goal.invariant_of-self-2
 invariant_of-self-2 g c =
     let old = c.self.inside.entries.entries in
     let folders : has_folders (keys_of old) c.args.path.now ≡ true = rw c.self.view_is c.requires.folders in
-    rw (c.in_ok-insert.ensures.entries, c.in_ok-path.ensures.cases) (is_listing-insert old c.args.path.now c.args.found c.self.invariant c.requires.path folders)
+    rw (c.in-Ok.ensures.entries, c.in_ok-path.ensures.ok) (is_listing-insert old c.args.path.now c.args.found c.self.invariant c.requires.path folders)
 
 pub returns-clause-here : goal.returns-clause-here
 returns-clause-here g c =
-    rw (c.in_ok-insert.ensures.entries, c.in_ok-path.ensures.cases) (has_entry-inserted c.self.inside.entries.entries c.args.path.now c.args.found)
+    rw (c.in-Ok.ensures.entries, c.in_ok-path.ensures.ok) (has_entry-inserted c.self.inside.entries.entries c.args.path.now c.args.found)
 
 pub returns-clause-grows : goal.returns-clause-grows
 returns-clause-grows g c = λ q h.
     let old = c.self.inside.entries.entries in
     let there : has_entry old q ≡ true = rw c.self.view_is h in
-    rw c.in_ok-insert.ensures.entries (insert-grows old c.in_ok-path.path c.args.found q there)
+    rw c.in-Ok.ensures.entries (insert-grows old c.in_ok-path.path c.args.found q there)
