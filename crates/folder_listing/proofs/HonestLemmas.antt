@@ -1,29 +1,26 @@
 -- The changes between two listings are an honest stream of events, which leads from the old paths to the new ones.
-use Rattle.std.proofs.Common.{◌≡◌, ℕ, Bool, true, false, not, ◌&&◌, ◌||◌, cond, List, [], ◌∷◌, ◌++◌, map, refl, ap, sym, subst, ◌∙◌, Some, None, true≢false, append_assoc}
-use Rattle.std.specs.Prelude.{Option, filter, if◌then◌else◌, is_some}
+use Rattle.std.proofs.Common.{◌≡◌, Bool, true, false, not, ◌&&◌, ◌||◌, cond, List, [], ◌∷◌, ◌++◌, map, refl, ap, sym, subst, ◌∙◌, Some, None, true≢false, append_assoc}
+use Rattle.std.specs.Prelude.{Option, filter, is_some}
 use Rattle.std.specs.declared.cmp.Ordering.{Ordering}
 use Rattle.std.specs.declared.cmp.Ordering.TheVariants.{Less, Equal, Greater}
-use Rattle.std.specs.Ordering.{match_ordering, is_eq}
 use Rattle.std.specs.List.{AllByRecursion, list_any, list_all}
 use Rattle.std.specs.List.Sorted.{IsStrictlySortedBy}
-use Rattle.std.specs.Map.{keys_of, lookup}
+use Rattle.std.specs.Map.{keys_of}
 use Rattle.std.specs.BTreeMap.{is_at}
-use Rattle.std.specs.BTreeSet.{insert_key}
 use Rattle.std.proofs.lemmas.Cmp.{tied_itself}
 use Rattle.std.proofs.lemmas.List.Folds.{list_any-append}
 use Rattle.notify_types.specs.Event.{EventValue}
-use Rattle.notify_types.specs.Kinds.{is_creation, is_removal, is_rename}
-use Rattle.notify_paths.specs.Path.{PathValue, PartValue, part_cmp, path_cmp, path_eq, is_prefix, is_below}
+use Rattle.notify_paths.specs.Path.{PathValue, part_cmp, path_cmp, path_eq, is_prefix, is_below}
 use Rattle.notify_paths.specs.PathLaws.{part_cmp_total, path_cmp_total}
 use Rattle.notify_types.specs.declared.kind.EventKind.{EventKind}
 use Rattle.notify_paths.proofs.Prefixes.{same_path, prefix_itself}
 use Rattle.debounce_model.specs.Play.{Paths, has_path, with_path, without_at, play_one, play}
-use Rattle.debounce_model.specs.Honest.{folders_of, has_folders, is_closed, is_honest_at, is_honest_event, are_honest}
+use Rattle.debounce_model.specs.Honest.{folders_of, has_folders, is_honest_at, is_honest_event, are_honest}
 use Rattle.debounce_model.proofs.Entries.{sorted-filter}
 use Rattle.folder_listing.specs.declared.entry.EntryKind.{EntryKind}
 use Rattle.folder_listing.specs.declared.entry.EntryKind.TheVariants.{File, Folder, Other}
 use Rattle.folder_listing.specs.declared.entry.Found.{Found}
-use Rattle.folder_listing.specs.Listing.{ListingValue, entry_at, has_entry, is_nonempty, IsListing}
+use Rattle.folder_listing.specs.Listing.{ListingValue, entry_at, is_nonempty, IsListing}
 use Rattle.folder_listing.specs.Changes.{is_of_kind, has_other_length, is_kept, gone, lies_in, lies_below, staying, removed, created, resized, removal_of, creation_of, event_at, removal, creation, resize, changes, LeadsTo}
 use Rattle.folder_listing.proofs.PrefixLemmas.{prefix-trans, below_behind, not_below_itself, not_below_behind}
 use Rattle.folder_listing.proofs.PairLemmas.{AreAbove, above-trans, turned, turned_less, at_itself}
@@ -37,7 +34,7 @@ and_both true b h = (refl, h)
 and_both false b h = absurd (true≢false (sym h))
 
 -- a test that the first of two does not decide
-or_right : (a b : Bool) → b ≡ true → (a || b) ≡ true
+pub or_right : (a b : Bool) → b ≡ true → (a || b) ≡ true
 or_right true b h = refl
 or_right false b h = h
 

@@ -4,3 +4,6 @@ pub mod WalkLemmas
 pub mod HonestLemmas
 pub mod ListingLemmas
 pub mod ParentLemmas
+pub mod NearLemmas
+pub mod BehindLemmas
+pub mod MergeLemmas

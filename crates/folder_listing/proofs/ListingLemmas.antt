@@ -1,17 +1,16 @@
 -- Listings stay listings where an entry is put in whose folders are there.
-use Rattle.std.proofs.Common.{◌≡◌, ℕ, zero, suc, ◌+◌, ◌<◌, ◌≤◌, length, take, arith, Bool, true, false, not, ◌&&◌, List, [], ◌∷◌, ◌++◌, map, refl, ap, sym, subst, ◌∙◌, Some, None, true≢false}
-use Rattle.std.specs.Prelude.{Option, is_some, if◌then◌else◌}
+use Rattle.std.proofs.Common.{◌≡◌, ℕ, zero, suc, ◌+◌, ◌<◌, ◌≤◌, length, take, arith, Bool, true, false, List, [], ◌∷◌, ◌++◌, map, refl, ap, sym, subst, ◌∙◌, Some, None, true≢false}
+use Rattle.std.specs.Prelude.{is_some, if◌then◌else◌}
 use Rattle.std.specs.List.{AllByRecursion, list_all}
-use Rattle.std.specs.Ordering.{is_eq}
-use Rattle.std.specs.Map.{keys_of, lookup}
+use Rattle.std.specs.Map.{keys_of}
 use Rattle.std.specs.BTreeMap.{is_at, insert_entry}
 use Rattle.notify_paths.specs.Path.{PathValue, PartValue, NamePart, path_cmp}
 use Rattle.notify_paths.specs.PathText.{is_proper_name}
 use Rattle.notify_paths.specs.PathMoves.{child_of}
 use Rattle.notify_paths.specs.PathLaws.{path_cmp_total, path_eq_decides, path_matches_eq}
 use Rattle.notify_paths.proofs.Prefixes.{same_path}
-use Rattle.debounce_model.specs.Play.{Paths, has_path}
-use Rattle.debounce_model.specs.Honest.{has_folders, folders_of, is_closed}
+use Rattle.debounce_model.specs.Play.{has_path}
+use Rattle.debounce_model.specs.Honest.{has_folders, folders_of}
 use Rattle.debounce_model.proofs.Entries.{sorted-insert_entry, each-insert_entry, lookup-insert_same, lookup-insert_other}
 use Rattle.folder_listing.specs.declared.entry.Found.{Found}
 use Rattle.folder_listing.specs.Listing.{ListingValue, entry_at, has_entry, is_nonempty, IsListing}

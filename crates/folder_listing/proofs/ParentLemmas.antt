@@ -1,18 +1,19 @@
 -- Paths whose nearest folders are all there have all their folders. The calls that make listings cite these.
-use Rattle.std.proofs.Common.{◌≡◌, ℕ, zero, suc, ◌+◌, ◌-◌, ◌<◌, ◌≤◌, arith, Bool, true, false, ◌&&◌, ◌||◌, List, [], ◌∷◌, ◌++◌, take, length, length-append, refl, ap, sym, subst, ◌∙◌, Some, true≢false}
+use Rattle.std.proofs.Common.{◌≡◌, ℕ, zero, suc, ◌+◌, ◌-◌, ◌≤◌, arith, Bool, true, false, ◌&&◌, ◌||◌, List, [], ◌∷◌, ◌++◌, take, length, length-append, refl, ap, sym, ◌∙◌, Some, true≢false}
 use Rattle.std.specs.List.{list_all}
 use Rattle.std.specs.List.Sorted.{IsStrictlySortedBy}
 use Rattle.std.specs.Map.{keys_of}
-use Rattle.std.specs.BTreeMap.{is_at}
+use Rattle.std.specs.BTreeMap.{insert_entry, is_at}
 use Rattle.notify_paths.specs.Path.{PathValue, PartValue, path_cmp}
-use Rattle.notify_paths.specs.PathMoves.{first_parts, nearest, parent_of}
+use Rattle.notify_paths.specs.PathMoves.{parent_of}
 use Rattle.notify_paths.specs.PathLaws.{path_eq_decides, path_matches_eq}
 use Rattle.debounce_model.specs.Play.{Paths, has_path}
 use Rattle.debounce_model.specs.Honest.{has_folders, folders_of}
-use Rattle.folder_listing.specs.Listing.{ListingValue, is_nonempty, is_listing, IsListing}
+use Rattle.folder_listing.specs.declared.entry.EntryKind.{EntryKind}
+use Rattle.folder_listing.specs.Listing.{ListingValue, entry_at, is_nonempty, is_listing, last_or, put_all, IsListing}
 use Rattle.folder_listing.specs.Parents.{has_this, has_parent, have_parents}
 use Rattle.folder_listing.proofs.HonestLemmas.{and_both, each-there}
-use Rattle.folder_listing.proofs.ListingLemmas.{folders_of-push, all-push, all-passes}
+use Rattle.folder_listing.proofs.ListingLemmas.{entry_at-insert, folders_of-push, all-push, all-passes}
 
 -- a path with two parts or more is its folder with one part after it
 split_last : (x y : PartValue) (r : PathValue) → (z : PartValue) × ((f : PathValue) × (y ∷ r ≡ f ++ z ∷ []))
@@ -47,7 +48,7 @@ module _ (ks : Paths) (each : (q : PathValue) → has_path ks q ≡ true → has
       ∙ (ap (list_all (has_path ks)) (folders_of-push x s.1.0 s.0) ∙ all-push (has_path ks) (folders_of (x ∷ s.1.0)) (x ∷ s.1.0) above parent)
 
 -- a test of all paths that are there is one of each
-each_there : (t : PathValue → Bool) (ks : Paths) → list_all t ks ≡ true → (q : PathValue) → has_path ks q ≡ true → t q ≡ true
+pub each_there : (t : PathValue → Bool) (ks : Paths) → list_all t ks ≡ true → (q : PathValue) → has_path ks q ≡ true → t q ≡ true
 each_there t [] h q k = absurd (true≢false (sym k))
 each_there t (p ∷ ks) h q k = by (is_at (path_cmp q) p) refl k (each_there t ks (and_both (t p) (list_all t ks) h).1 q)
   where
@@ -73,7 +74,7 @@ folders_parent ks (x ∷ y ∷ r) h =
     last_passes t (p ∷ qs) q h = last_passes t qs q (and_both (t p) (list_all t (qs ++ q ∷ [])) h).1
 
 -- one test of all paths gives another
-all_from : (s t : PathValue → Bool) → ((q : PathValue) → s q ≡ true → t q ≡ true) → (ks : Paths) → list_all s ks ≡ true → list_all t ks ≡ true
+pub all_from : (s t : PathValue → Bool) → ((q : PathValue) → s q ≡ true → t q ≡ true) → (ks : Paths) → list_all s ks ≡ true → list_all t ks ≡ true
 all_from s t f [] h = refl
 all_from s t f (k ∷ ks) h = let two = and_both (s k) (list_all s ks) h in rw (f k two.0) (all_from s t f ks two.1)
 
@@ -123,3 +124,10 @@ parents_tell es = by (have_parents ks ks) (is_listing es) refl refl
 -- entries that ascend and pass the test are a listing
 pub made_of : (es : ListingValue) → IsStrictlySortedBy path_cmp (keys_of es) → is_listing es ≡ true → IsListing es
 made_of es s h = record { ordered = s; nonempty = all_first is_nonempty (has_folders (keys_of es)) (keys_of es) h; closed = all_second is_nonempty (has_folders (keys_of es)) (keys_of es) h }
+
+-- what is found in entries that are put in one after the other
+pub found_last : (es : ListingValue) (entries : List (PathValue × EntryKind × ℕ)) (path : PathValue) → entry_at (put_all es entries) path ≡ last_or (entry_at es path) entries path
+found_last es [] path = refl
+found_last es (x ∷ xs) path =
+    found_last (insert_entry path_cmp es x.0 (record { kind = x.1; length = x.2 })) xs path
+    ∙ ap (λ o. last_or o xs path) (entry_at-insert es x.0 path (record { kind = x.1; length = x.2 }) (is_at (path_cmp path) x.0) refl)

@@ -1,9 +1,9 @@
 -- Prefixes of paths. The first three stand, private, among the lemmas of the paths' own crate too.
-use Rattle.std.proofs.Common.{◌≡◌, Bool, true, false, not, ◌&&◌, ◌||◌, List, [], ◌∷◌, refl, ap, sym, ◌∙◌, true≢false}
+use Rattle.std.proofs.Common.{◌≡◌, Bool, true, false, [], ◌∷◌, refl, sym, ◌∙◌, true≢false}
 use Rattle.std.specs.declared.cmp.Ordering.{Ordering}
 use Rattle.std.specs.declared.cmp.Ordering.TheVariants.{Less, Equal, Greater}
 use Rattle.notify_paths.specs.Path.{PathValue, part_cmp, part_eq, path_cmp, is_prefix, is_below}
-use Rattle.notify_paths.specs.PathLaws.{part_cmp_total, part_eq_decides, path_cmp_total, path_eq_decides}
+use Rattle.notify_paths.specs.PathLaws.{part_cmp_total, part_eq_decides, path_eq_decides}
 use Rattle.notify_paths.proofs.Prefixes.{other_below, and_false}
 use Rattle.folder_listing.proofs.PairLemmas.{turned_less}
 

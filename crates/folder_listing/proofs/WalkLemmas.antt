@@ -1,28 +1,25 @@
 -- The walk over two listings side by side finds what changed.
-use Rattle.std.proofs.Common.{◌≡◌, ℕ, Bool, true, false, not, ◌&&◌, ◌||◌, cond, List, [], ◌∷◌, ◌++◌, map, refl, ap, sym, subst, ◌∙◌, Some, None, true≢false}
+use Rattle.std.proofs.Common.{◌≡◌, Bool, true, false, not, ◌&&◌, ◌||◌, cond, List, [], ◌∷◌, ◌++◌, map, refl, ap, sym, subst, ◌∙◌, Some, None}
 use Rattle.std.specs.Prelude.{Option, filter, if◌then◌else◌, is_some, IfSome, ◌==◌}
-use Rattle.std.specs.declared.cmp.Ordering.{Ordering}
-use Rattle.std.specs.declared.cmp.Ordering.TheVariants.{Less, Equal, Greater}
+use Rattle.std.specs.declared.cmp.Ordering.TheVariants.{Less}
 use Rattle.std.specs.List.{AllByRecursion, list_any}
 use Rattle.std.specs.List.Sorted.{IsStrictlySortedBy}
-use Rattle.std.specs.Map.{keys_of, lookup}
+use Rattle.std.specs.Map.{keys_of}
 use Rattle.std.specs.BTreeMap.{is_at}
 use mathlib.Core.List.{append-nil}
 use Rattle.std.proofs.lemmas.Map.Made.{is_some-lookup}
 use Rattle.std.proofs.lemmas.Map.Views.{any-filter_same}
-use Rattle.notify_paths.specs.Path.{PathValue, PartValue, part_cmp, part_eq, path_cmp, is_prefix, is_below}
-use Rattle.notify_paths.specs.PathLaws.{part_cmp_total, part_eq_decides, path_cmp_total, path_eq_decides, path_matches_eq}
+use Rattle.notify_paths.specs.Path.{PathValue, path_cmp, is_prefix, is_below}
+use Rattle.notify_paths.specs.PathLaws.{path_eq_decides, path_matches_eq}
 use Rattle.notify_paths.proofs.Prefixes.{prefix_itself, and_false, and_true}
 use Rattle.debounce_model.specs.Play.{has_path}
-use Rattle.folder_listing.specs.declared.entry.EntryKind.{EntryKind}
 use Rattle.folder_listing.specs.declared.entry.Found.{Found}
-use Rattle.folder_listing.specs.declared.pairs.Change.{Change}
 use Rattle.folder_listing.specs.declared.pairs.Change.TheVariants.{Removed, Created, Replaced, Resized, Same}
-use Rattle.folder_listing.specs.Listing.{ListingValue, entry_at, has_entry, is_same_kind, IsListing}
-use Rattle.folder_listing.specs.Changes.{is_of_kind, has_other_length, is_kept, gone, lies_in, lies_below, staying, removed, created, resized, removal, creation, resize, changes}
+use Rattle.folder_listing.specs.Listing.{ListingValue, entry_at, has_entry, is_same_kind}
+use Rattle.folder_listing.specs.Changes.{is_of_kind, has_other_length, is_kept, gone, lies_in, lies_below, staying, removed, created, resized, removal, creation, resize}
 use Rattle.folder_listing.specs.Pairs.{PairValue, PartsValue, paired, is_under, change_at, change_of, goes, top_after, no_parts, joined, parts_of, walk}
 use Rattle.folder_listing.proofs.PrefixLemmas.{prefix-trans, run_ends, no_prefix_behind, below_behind, not_below_itself, not_below_behind}
-use Rattle.folder_listing.proofs.PairLemmas.{AreAbove, IsAbove, Ascend, ascend-paired, entry_cons, side_of, olds_of, news_of, olds_of-paired, news_of-paired, above-side, entry_at-side, turned_less, at_itself}
+use Rattle.folder_listing.proofs.PairLemmas.{AreAbove, IsAbove, Ascend, ascend-paired, entry_cons, olds_of, news_of, olds_of-paired, news_of-paired, above-side, entry_at-side}
 
 -- a test or false
 pub or_false : (b : Bool) → (b || false) ≡ b

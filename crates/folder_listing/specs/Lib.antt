@@ -2,3 +2,5 @@ pub mod Listing
 pub mod Changes
 pub mod Pairs
 pub mod Parents
+pub mod Near
+pub mod Merged

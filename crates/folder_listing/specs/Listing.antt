@@ -1,5 +1,5 @@
 -- Listings: what stands at each path of some folders, at one moment.
-use Rattle.std.specs.Prelude.{◌≡◌, Bool, true, false, not, ◌&&◌, ℕ, List, [], ◌∷◌, Option}
+use Rattle.std.specs.Prelude.{◌≡◌, Bool, true, false, ◌&&◌, ℕ, List, [], ◌∷◌, Option, None, Some, if◌then◌else◌}
 use Rattle.std.specs.List.{list_all}
 use Rattle.std.specs.List.Sorted.{IsStrictlySortedBy}
 use Rattle.std.specs.Map.{keys_of, lookup}
@@ -43,6 +43,20 @@ put_all listing (entry ∷ entries) = put_all (insert_entry path_cmp listing ent
 -- no path is empty, and the folders of each are there
 abbrev pub is_listing : ListingValue → Bool
 is_listing listing = list_all (λ path. is_nonempty path && has_folders (keys_of listing) path) (keys_of listing)
+
+-- the listing that the entries make, if they make one
+abbrev pub listing_of : List (PathValue × EntryKind × ℕ) → Option ListingValue
+listing_of entries = if is_listing (put_all [] entries) then Some (put_all [] entries) else None
+
+-- what the last entry of the path says, or else what is known before
+abbrev pub last_or : Option Found → List (PathValue × EntryKind × ℕ) → PathValue → Option Found
+last_or known [] path = known
+last_or known (entry ∷ entries) path =
+    last_or (if is_at (path_cmp path) entry.0 then Some (record { kind = entry.1; length = entry.2 }) else known) entries path
+
+-- at each path there is what its last entry says, and nothing where it has none
+abbrev pub HasLast : List (PathValue × EntryKind × ℕ) → ListingValue → Type 0
+HasLast entries listing = (path : PathValue) → entry_at listing path ≡ last_or None entries path
 
 -- the paths ascend, none is empty, and each nonempty proper prefix of a path is a path of the listing too
 pub record IsListing (listing : ListingValue) : Type 0 where

@@ -3,7 +3,6 @@ use Rattle.std.specs.Prelude.{Bool, true, false, not, ◌==◌, List, [], ◌∷
 use Rattle.std.specs.Ordering.{match_ordering}
 use Rattle.notify_types.specs.Event.{EventValue}
 use Rattle.notify_paths.specs.Path.{PathValue, path_cmp, is_prefix}
-use Rattle.folder_listing.specs.declared.entry.EntryKind.{EntryKind}
 use Rattle.folder_listing.specs.declared.entry.Found.{Found}
 use Rattle.folder_listing.specs.declared.pairs.Change.{Change}
 use Rattle.folder_listing.specs.declared.pairs.Change.TheVariants.{Removed, Created, Replaced, Resized, Same}

@@ -1,11 +1,10 @@
 -- The nearest folder of each path, which a look-up asks for. The clauses of functions inside this crate cite this.
-use Rattle.std.specs.Prelude.{Bool, true, ◌&&◌, List, Option, None, Some}
+use Rattle.std.specs.Prelude.{Bool, true, ◌&&◌, Option, None, Some}
 use Rattle.std.specs.List.{list_all}
-use Rattle.std.specs.Map.{keys_of}
 use Rattle.notify_paths.specs.Path.{PathValue}
 use Rattle.notify_paths.specs.PathMoves.{parent_of}
 use Rattle.debounce_model.specs.Play.{Paths, has_path}
-use Rattle.folder_listing.specs.Listing.{ListingValue, is_nonempty}
+use Rattle.folder_listing.specs.Listing.{is_nonempty}
 
 -- the folder is among the paths, if there is one
 abbrev pub has_this : Paths → Option PathValue → Bool

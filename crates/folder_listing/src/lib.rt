@@ -13,4 +13,5 @@
 pub mod compare;
 pub mod entry;
 pub mod listing;
+pub mod near;
 mod pairs;

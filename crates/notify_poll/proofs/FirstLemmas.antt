@@ -1,5 +1,5 @@
 -- The first parts of a path, from which the last ones are taken one by one.
-use Rattle.std.proofs.Common.{◌≡◌, ℕ, suc, ◌+◌, ◌-◌, ◌<◌, ◌≤◌, arith, List, [], ◌∷◌, ◌++◌, length, map, take, take_all, refl, ap, sym, ◌∙◌, Some, None}
+use Rattle.std.proofs.Common.{◌≡◌, ℕ, ◌+◌, ◌-◌, ◌<◌, ◌≤◌, arith, List, [], ◌∷◌, length, map, take, take_all, ap, sym, ◌∙◌, Some, None}
 use Rattle.std.specs.Prelude.{Option}
 use Rattle.std.specs.Path.{IsLastComponent, component_bytes}
 use Rattle.std.specs.declared.path.components.Component.{Component}

@@ -1,23 +1,18 @@
 -- The steps of a listing, where the folders may tell their tree. Each lemma goes by whether they do.
-use Rattle.std.proofs.Common.{◌≡◌, ℕ, zero, suc, ◌+◌, ◌-◌, ◌<◌, ◌≤◌, arith, Bool, true, false, not, ◌&&◌, ◌||◌, List, [], ◌∷◌, ◌++◌, map, take, get_or, drop, length, refl, ap, sym, subst, ◌∙◌, Some, None, true≢false, take_all, drop-cons, add-one}
-use Rattle.std.specs.Prelude.{Option, Result, Ok, Err, OnOk, IfOk, IfSome, is_some, if◌then◌else◌}
+use Rattle.std.proofs.Common.{◌≡◌, ℕ, suc, ◌+◌, ◌<◌, ◌≤◌, Bool, true, false, ◌&&◌, ◌||◌, List, [], ◌∷◌, ◌++◌, map, take, get_or, length, refl, ap, sym, subst, ◌∙◌, Some, None, take_all}
+use Rattle.std.specs.Prelude.{Option, Result, Ok, Err, OnOk, IfSome, if◌then◌else◌}
 use Rattle.std.specs.Option.{option_map}
-use Rattle.std.specs.List.{list_any, list_all}
-use Rattle.std.specs.Map.{keys_of}
+use Rattle.std.specs.List.{list_any}
 use Rattle.std.specs.BTreeMap.{is_at, insert_entry}
-use Rattle.std.proofs.lemmas.List.Folds.{list_any_more, list_any-append}
+use Rattle.std.proofs.lemmas.List.Folds.{list_any_more}
 use Rattle.notify_paths.specs.Path.{PathValue, PartValue, NamePart, path_cmp}
 use Rattle.notify_paths.specs.PathText.{is_proper_name}
 use Rattle.notify_paths.specs.PathMoves.{child_of}
-use Rattle.notify_types.specs.declared.event.RecursiveMode.{RecursiveMode}
-use Rattle.notify_paths.proofs.Prefixes.{and_false, and_true}
-use Rattle.debounce_model.specs.Play.{has_path}
-use Rattle.debounce_model.specs.Honest.{folders_of}
-use Rattle.folder_listing.specs.declared.entry.EntryKind.TheVariants.{File, Folder, Other}
+use Rattle.folder_listing.specs.declared.entry.EntryKind.TheVariants.{Folder}
 use Rattle.folder_listing.specs.declared.entry.Found.{Found}
-use Rattle.folder_listing.specs.Listing.{ListingValue, entry_at, has_entry, is_nonempty, is_same_kind, IsListing}
+use Rattle.folder_listing.specs.Listing.{ListingValue, entry_at, is_same_kind}
 use Rattle.folder_listing.specs.Changes.{is_of_kind}
-use Rattle.notify_poll.specs.Folders.{IsTree, reach, reaches, Adds, AreNames, NamesOf, shows, shown, is_passable, depth_of}
+use Rattle.notify_poll.specs.Folders.{reach, reaches, Adds, AreNames, NamesOf}
 use Rattle.folder_listing.proofs.WalkLemmas.{or_false}
 use Rattle.notify_poll.proofs.ReachLemmas.{Adds-alike, Adds-then, Adds-none, Adds-one, reaches-none, reaches-alone, reach-no_folder, in_child, reaches-folder}
 
@@ -92,8 +87,8 @@ module _ {X : Type 0} (text : X → List ℕ) (o : Option ListingValue) (d : ℕ
           λ q. ap (λ z. reaches tree d z q) two.1 ∙ (ap (λ b. b && reaches tree d (p ++ NamePart name ∷ []) q) (sym two.0) ∙ ap (in_child tree d p q) (sym t ∙ ap text at)) in
           Adds-alike tree (λ q. (is_at (path_cmp q) p || list_any (λ name. in_child tree d p q (text name)) (take i xs)) || reaches tree d child q) (λ q. is_at (path_cmp q) p || list_any (λ name. in_child tree d p q (text name)) (take (i + 1) xs)) es gs
           (λ q.
-              or-assoc (is_at (path_cmp q) p) (list_any (λ name. in_child tree d p q (text name)) (take i xs)) (reaches tree d child q)
-              ∙ ap (λ b. is_at (path_cmp q) p || b) (ap (λ b. list_any (λ name. in_child tree d p q (text name)) (take i xs) || b) (same q) ∙ sym (list_any_more (λ name. in_child tree d p q (text name)) xs i x l)))
+          or-assoc (is_at (path_cmp q) p) (list_any (λ name. in_child tree d p q (text name)) (take i xs)) (reaches tree d child q)
+          ∙ ap (λ b. is_at (path_cmp q) p || b) (ap (λ b. list_any (λ name. in_child tree d p q (text name)) (take i xs) || b) (same q) ∙ sym (list_any_more (λ name. in_child tree d p q (text name)) xs i x l)))
           (Adds-then tree (λ q. is_at (path_cmp q) p || list_any (λ name. in_child tree d p q (text name)) (take i xs)) (reaches tree d child) es fs gs h k)
 
   -- what is no name is passed over
@@ -106,10 +101,10 @@ module _ {X : Type 0} (text : X → List ℕ) (o : Option ListingValue) (d : ℕ
           let no : is_proper_name (text (get_or xs i x)) ≡ false = ap is_proper_name (sym (ap text at) ∙ t) ∙ improper name c in
           Adds-alike tree (λ q. is_at (path_cmp q) p || list_any (λ name. in_child tree d p q (text name)) (take i xs)) (λ q. is_at (path_cmp q) p || list_any (λ name. in_child tree d p q (text name)) (take (i + 1) xs)) es fs
           (λ q.
-              ap (λ b. is_at (path_cmp q) p || b)
-              (sym (or_false (list_any (λ name. in_child tree d p q (text name)) (take i xs)))
-              ∙ (ap (λ b. list_any (λ name. in_child tree d p q (text name)) (take i xs) || (b && reaches tree d (p ++ NamePart (text (get_or xs i x)) ∷ []) q)) (sym no)
-              ∙ sym (list_any_more (λ name. in_child tree d p q (text name)) xs i x l))))
+          ap (λ b. is_at (path_cmp q) p || b)
+          (sym (or_false (list_any (λ name. in_child tree d p q (text name)) (take i xs)))
+          ∙ (ap (λ b. list_any (λ name. in_child tree d p q (text name)) (take i xs) || (b && reaches tree d (p ++ NamePart (text (get_or xs i x)) ∷ []) q)) (sym no)
+          ∙ sym (list_any_more (λ name. in_child tree d p q (text name)) xs i x l))))
           h
 
   -- all entries
@@ -123,6 +118,6 @@ module _ {X : Type 0} (text : X → List ℕ) (o : Option ListingValue) (d : ℕ
           let here : is_of_kind Folder (entry_at tree p) ≡ true = ap (is_of_kind Folder) (sym h ∙ s) ∙ folder in
           Adds-alike tree (λ q. is_at (path_cmp q) p || list_any (λ name. in_child tree d p q (text name)) (take i xs)) (reaches tree (suc d) p) es fs
           (λ q.
-              ap (λ ys. is_at (path_cmp q) p || list_any (λ name. in_child tree d p q (text name)) ys) (take_all i xs l)
-              ∙ (ap (λ b. is_at (path_cmp q) p || b) (sym (any-map (in_child tree d p q) text xs)) ∙ reaches-folder tree d p (map text xs) here are q))
+          ap (λ ys. is_at (path_cmp q) p || list_any (λ name. in_child tree d p q (text name)) ys) (take_all i xs l)
+          ∙ (ap (λ b. is_at (path_cmp q) p || b) (sym (any-map (in_child tree d p q) text xs)) ∙ reaches-folder tree d p (map text xs) here are q))
           a

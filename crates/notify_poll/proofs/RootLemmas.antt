@@ -1,6 +1,6 @@
 -- The steps of a listing of one root: down the folders above it, and at it.
-use Rattle.std.proofs.Common.{◌≡◌, ℕ, zero, suc, ◌+◌, ◌-◌, ◌<◌, ◌≤◌, arith, Bool, true, false, not, ◌&&◌, ◌||◌, List, [], ◌∷◌, ◌++◌, map, take, get_or, drop, length, refl, ap, sym, subst, ◌∙◌, Some, None, true≢false, take_all}
-use Rattle.std.specs.Prelude.{◌==◌, Option, Result, Ok, Err, OnOk, IfOk, IfSome, is_some, if◌then◌else◌}
+use Rattle.std.proofs.Common.{◌≡◌, ℕ, zero, suc, ◌+◌, ◌<◌, ◌≤◌, arith, true, false, not, ◌&&◌, ◌||◌, List, [], ◌∷◌, ◌++◌, take, get_or, length, refl, ap, sym, subst, ◌∙◌, Some, None, true≢false, take_all}
+use Rattle.std.specs.Prelude.{◌==◌, Option, Result, Ok, Err, OnOk, IfSome, is_some, if◌then◌else◌}
 use Rattle.std.specs.List.{list_any, list_all}
 use Rattle.std.specs.Map.{keys_of}
 use Rattle.std.specs.BTreeMap.{is_at, insert_entry}
@@ -10,16 +10,20 @@ use Rattle.notify_types.specs.declared.event.RecursiveMode.{RecursiveMode}
 use Rattle.notify_paths.proofs.Prefixes.{and_false, and_true}
 use Rattle.debounce_model.specs.Play.{Paths, has_path}
 use Rattle.debounce_model.specs.Honest.{folders_of}
-use Rattle.folder_listing.specs.declared.entry.EntryKind.TheVariants.{File, Folder, Other}
+use Rattle.folder_listing.specs.declared.entry.EntryKind.TheVariants.{File, Folder}
 use Rattle.folder_listing.specs.declared.entry.Found.{Found}
 use Rattle.folder_listing.specs.Listing.{ListingValue, entry_at, has_entry, is_nonempty, is_same_kind, IsListing}
 use Rattle.folder_listing.specs.Changes.{is_of_kind}
-use Rattle.notify_poll.specs.Folders.{IsTree, reach, reaches, Adds, shows, shown, is_passable, depth_of}
+use Rattle.folder_listing.specs.Near.{depth_of}
+use Rattle.notify_poll.specs.Folders.{IsTree, reaches, Adds, shows, shown, is_passable}
 use Rattle.folder_listing.proofs.WalkLemmas.{or_false, has_entry-some}
-use Rattle.folder_listing.proofs.HonestLemmas.{and_both}
 use Rattle.folder_listing.proofs.ListingLemmas.{folders_of-push}
-use Rattle.notify_poll.proofs.ReachLemmas.{Adds-alike, Adds-then, Adds-none, Adds-one, longer_no_prefix}
-use Rattle.notify_poll.proofs.ShownLemmas.{all-push, shows-stuck, shows-open, same_entries, entry_at-shown, sorted-shown}
+use Rattle.folder_listing.proofs.BehindLemmas.{longer_no_prefix}
+use Rattle.notify_poll.proofs.ReachLemmas.{Adds-alike, Adds-then, Adds-none, Adds-one}
+use Rattle.debounce_model.proofs.Entries.{same_entries}
+use Rattle.notify_paths.specs.PathLaws.{path_cmp_total}
+use Rattle.notify_paths.proofs.Prefixes.{same_path}
+use Rattle.notify_poll.proofs.ShownLemmas.{all-push, shows-stuck, shows-open, entry_at-shown, sorted-shown}
 
 -- nothing stands at the empty path
 pub bare : (tree : ListingValue) → IsTree tree → has_entry tree [] ≡ false
@@ -138,9 +142,9 @@ module _ (o : Option ListingValue) (mode : RecursiveMode) (root : PathValue) (es
           let stuck : is_passable tree root (take n root) ≡ false = passable-above tree n high ∙ ap (λ b. b && not (is_of_kind File (entry_at tree (take n root)))) none in
           Adds-alike tree (has_path (folders_of (take n root))) (shows tree (root, mode)) es fs
           (λ q.
-              sym (or_false (has_path (folders_of (take n root)) q))
-              ∙ (ap (λ b. has_path (folders_of (take n root)) q || b) (sym (and_false (is_at (path_cmp q) (take n root))) ∙ ap (λ b. is_at (path_cmp q) (take n root) && b) (sym none))
-              ∙ shows-stuck tree (bare tree t) mode root (take n root) s.0 s.1.0 s.1.1 (nonempty-first n root low high) a stuck q))
+          sym (or_false (has_path (folders_of (take n root)) q))
+          ∙ (ap (λ b. has_path (folders_of (take n root)) q || b) (sym (and_false (is_at (path_cmp q) (take n root))) ∙ ap (λ b. is_at (path_cmp q) (take n root) && b) (sym none))
+          ∙ shows-stuck tree (bare tree t) mode root (take n root) s.0 s.1.0 s.1.1 (nonempty-first n root low high) a stuck q))
           d
 
   -- .. or a file
@@ -157,10 +161,10 @@ module _ (o : Option ListingValue) (mode : RecursiveMode) (root : PathValue) (es
           passable-above tree n high ∙ (ap (λ x. has_entry tree (take n root) && not (is_of_kind File x)) here ∙ (ap (λ b. has_entry tree (take n root) && not b) k ∙ and_false (has_entry tree (take n root)))) in
           Adds-alike tree (has_path (folders_of (take (n + 1) root))) (shows tree (root, mode)) es fs
           (λ q.
-              ap (λ ks. has_path ks q) (folders-more n root low high)
-              ∙ (has-push (folders_of (take n root)) (take n root) q
-              ∙ (ap (λ b. has_path (folders_of (take n root)) q || b) (sym (and_true (is_at (path_cmp q) (take n root))) ∙ ap (λ b. is_at (path_cmp q) (take n root) && b) (sym there))
-              ∙ shows-stuck tree (bare tree t) mode root (take n root) s.0 s.1.0 s.1.1 (nonempty-first n root low high) a stuck q)))
+          ap (λ ks. has_path ks q) (folders-more n root low high)
+          ∙ (has-push (folders_of (take n root)) (take n root) q
+          ∙ (ap (λ b. has_path (folders_of (take n root)) q || b) (sym (and_true (is_at (path_cmp q) (take n root))) ∙ ap (λ b. is_at (path_cmp q) (take n root) && b) (sym there))
+          ∙ shows-stuck tree (bare tree t) mode root (take n root) s.0 s.1.0 s.1.1 (nonempty-first n root low high) a stuck q)))
           d
 
   -- the whole way was open
@@ -199,4 +203,4 @@ listed-next (Some tree) roots i root fs gs l is h k = λ t.
 pub listed-all : (o : Option ListingValue) (roots : List (PathValue × RecursiveMode)) (i : ℕ) (fs : ListingValue) → length roots ≤ i → IsListing fs → HasListed o (take i roots) fs → IfSome o (λ tree. IsTree tree → fs ≡ shown tree roots)
 listed-all None roots i fs l law h = tt
 listed-all (Some tree) roots i fs l law h = λ t.
-    same_entries fs (shown tree roots) law.ordered (sorted-shown tree roots t.ordered) (λ q. h t q ∙ (ap (λ rs. if list_any (λ root. shows tree root q) rs then entry_at tree q else None) (take_all i roots l) ∙ entry_at-shown tree roots q))
+    same_entries path_cmp_total same_path fs (shown tree roots) law.ordered (sorted-shown tree roots t.ordered) (λ q. h t q ∙ (ap (λ rs. if list_any (λ root. shows tree root q) rs then entry_at tree q else None) (take_all i roots l) ∙ entry_at-shown tree roots q))

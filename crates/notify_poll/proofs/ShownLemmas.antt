@@ -1,34 +1,34 @@
 -- What a walk over roots adds to a listing is what the tree shows at them.
-use Rattle.std.proofs.Common.{◌≡◌, ℕ, zero, suc, ◌+◌, Bool, true, false, not, ◌&&◌, ◌||◌, cond, List, [], ◌∷◌, ◌++◌, map, drop, length, refl, ap, sym, subst, ◌∙◌, Some, None, true≢false, append_assoc}
-use Rattle.std.specs.Prelude.{Option, is_some, if◌then◌else◌, filter}
+use Rattle.std.proofs.Common.{◌≡◌, ℕ, zero, suc, Bool, true, false, not, ◌&&◌, ◌||◌, cond, List, [], ◌∷◌, ◌++◌, map, drop, length, refl, ap, sym, subst, ◌∙◌, Some, None, true≢false, append_assoc}
+use Rattle.std.specs.Prelude.{Option, is_some, if◌then◌else◌}
 use Rattle.std.specs.declared.cmp.Ordering.{Ordering}
 use Rattle.std.specs.declared.cmp.Ordering.TheVariants.{Less, Equal, Greater}
 use Rattle.std.specs.List.{list_any, list_all}
 use Rattle.std.specs.List.Sorted.{IsStrictlySortedBy}
-use Rattle.std.specs.Map.{keys_of, lookup}
+use Rattle.std.specs.Map.{keys_of}
 use Rattle.std.specs.BTreeMap.{is_at}
-use Rattle.std.proofs.lemmas.Cmp.{tied_itself}
-use Rattle.std.proofs.lemmas.List.Folds.{list_any-append}
 use Rattle.std.proofs.lemmas.Map.Entries.{lookup-filter-keys}
 use mathlib.Core.List.{append-nil}
 use Rattle.notify_paths.specs.Path.{PathValue, PartValue, part_cmp, part_eq, path_cmp, is_prefix}
-use Rattle.notify_paths.specs.PathLaws.{part_cmp_total, part_eq_decides, path_cmp_total, path_eq_decides, path_matches_eq}
+use Rattle.notify_paths.specs.PathLaws.{part_cmp_total, path_cmp_total}
 use Rattle.notify_types.specs.declared.event.RecursiveMode.{RecursiveMode}
 use Rattle.notify_paths.proofs.Prefixes.{prefix_itself, and_false, and_true}
 use Rattle.debounce_model.specs.Play.{has_path}
 use Rattle.debounce_model.specs.Honest.{folders_of}
 use Rattle.debounce_model.proofs.Entries.{sorted-filter}
-use Rattle.folder_listing.specs.declared.entry.EntryKind.TheVariants.{File, Folder, Other}
+use Rattle.folder_listing.specs.declared.entry.EntryKind.TheVariants.{File, Folder}
 use Rattle.folder_listing.specs.declared.entry.Found.{Found}
 use Rattle.folder_listing.specs.Listing.{ListingValue, entry_at, has_entry, is_nonempty}
 use Rattle.folder_listing.specs.Changes.{is_of_kind}
-use Rattle.notify_poll.specs.Folders.{is_name_part, are_names, depth_of, is_near, is_passable, shows_at, shown, shows, reach, reaches, Adds, AreNames}
+use Rattle.folder_listing.specs.Near.{is_name_part, are_names, depth_of, is_near}
+use Rattle.notify_poll.specs.Folders.{is_passable, shows_at, shown, shows, reach, reaches}
 use Rattle.folder_listing.proofs.PrefixLemmas.{prefix-trans}
-use Rattle.folder_listing.proofs.PairLemmas.{at_itself, entry_at-above, turned, turned_less, AreAbove, above-trans}
+use Rattle.folder_listing.proofs.PairLemmas.{at_itself}
 use Rattle.folder_listing.proofs.WalkLemmas.{or_false, has_entry-some}
 use Rattle.folder_listing.proofs.HonestLemmas.{and_both}
 use Rattle.folder_listing.proofs.ListingLemmas.{folders_of-push}
-use Rattle.notify_poll.proofs.ReachLemmas.{prefix-append, prefix-rest, prefix-front, drop-append, longer_no_prefix, at-same, at-no_prefix, at-longer, reaches-append, reaches-outside}
+use Rattle.folder_listing.proofs.BehindLemmas.{prefix-append, prefix-rest, drop-append, longer_no_prefix, at-same, at-no_prefix, at-longer}
+use Rattle.notify_poll.proofs.ReachLemmas.{reaches-append, reaches-outside}
 
 -- ---- the folders of a path
 
@@ -276,47 +276,6 @@ module _ (tree : ListingValue) where
           ∙ sym (ap (λ b. has_entry tree q && (b && (is_near root mode q && list_all (is_passable tree root) (folders_of q)))) n
           ∙ (ap (λ b. has_entry tree q && ((is_prefix q root || (b && are_names (depth_of mode) (drop (length root) q))) && list_all (is_passable tree root) (folders_of q))) e
           ∙ ap (λ b. has_entry tree q && (b && list_all (is_passable tree root) (folders_of q))) (or_false (is_prefix q root))))))
-
--- ---- listings with equal look-ups
-
--- two ascending listings with equal look-ups are equal
-pub same_entries : (es fs : ListingValue) → IsStrictlySortedBy path_cmp (keys_of es) → IsStrictlySortedBy path_cmp (keys_of fs) → ((q : PathValue) → entry_at es q ≡ entry_at fs q) → es ≡ fs
-unfolding IsStrictlySortedBy
-same_entries [] [] s t h = refl
-same_entries [] (f ∷ fs) s t h = let here : entry_at (f ∷ fs) f.0 ≡ Some f.1 = rw (at_itself f.0) refl in let no = h f.0 ∙ here in cc
-same_entries (e ∷ es) [] s t h = let here : entry_at (e ∷ es) e.0 ≡ Some e.1 = rw (at_itself e.0) refl in let no = sym (h e.0) ∙ here in cc
-same_entries (e ∷ es) (f ∷ fs) s t h = by (path_cmp e.0 f.0) refl (same_entries es fs s.1 t.1)
-  where
-    first : entry_at (e ∷ es) e.0 ≡ Some e.1
-    first = rw (at_itself e.0) refl
-
-    second : entry_at (f ∷ fs) f.0 ≡ Some f.1
-    second = rw (at_itself f.0) refl
-
-    by : (o : Ordering) → path_cmp e.0 f.0 ≡ o → (((q : PathValue) → entry_at es q ≡ entry_at fs q) → es ≡ fs) → e ∷ es ≡ f ∷ fs
-    by Less l more = let none : entry_at (f ∷ fs) e.0 ≡ None = entry_at-above e.0 (f ∷ fs) (l, above-trans e.0 f.0 l (keys_of fs) t.0) in let no : Some e.1 ≡ None = sym first ∙ (h e.0 ∙ none) in cc
-    by Greater l more =
-        let less = turned e.0 f.0 l in
-        let none : entry_at (e ∷ es) f.0 ≡ None = entry_at-above f.0 (e ∷ es) (less, above-trans f.0 e.0 less (keys_of es) s.0) in let no : Some f.1 ≡ None = sym second ∙ (sym (h f.0) ∙ none) in cc
-    by Equal l more = ap (λ xs. e ∷ xs) (more rest) ∙ ap (λ z. z ∷ fs) heads
-      where
-        paths : e.0 ≡ f.0
-        paths = at-same e.0 f.0 (rw l refl)
-
-        found : e.1 ≡ f.1
-        found = let both_here : Some e.1 ≡ Some f.1 = sym first ∙ (ap (entry_at (e ∷ es)) paths ∙ (h f.0 ∙ second)) in cc
-
-        heads : e ≡ f
-        heads = λ i. (paths i, found i)
-
-        rest : (q : PathValue) → entry_at es q ≡ entry_at fs q
-        rest q = at (is_at (path_cmp q) e.0) refl
-          where
-            at : (b : Bool) → is_at (path_cmp q) e.0 ≡ b → entry_at es q ≡ entry_at fs q
-            at true k =
-                let here : q ≡ e.0 = at-same q e.0 k in
-                ap (entry_at es) here ∙ (entry_at-above e.0 es s.0 ∙ sym (ap (entry_at fs) (here ∙ paths) ∙ entry_at-above f.0 fs t.0))
-            at false k = let other : is_at (path_cmp q) f.0 ≡ false = ap (λ z. is_at (path_cmp q) z) (sym paths) ∙ k in rw (k, other) at (h q)
 
 -- what is looked up in what is shown
 pub entry_at-shown : (tree : ListingValue) (roots : List (PathValue × RecursiveMode)) (q : PathValue) → (if list_any (λ root. shows tree root q) roots then entry_at tree q else None) ≡ entry_at (shown tree roots) q

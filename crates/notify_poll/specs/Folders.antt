@@ -1,16 +1,14 @@
 -- Trees of folders, what of a tree is shown at watched roots, and what folders answer that tell their tree.
 
-use Rattle.std.specs.Prelude.{◌≡◌, ◌≢◌, ℕ, zero, suc, ◌-◌, ◌^◌, ◌≤◌, Bool, true, false, not, ◌&&◌, ◌||◌, ◌==◌, List, [], ◌∷◌, ◌++◌, length, drop, filter, Option, None, Some, if◌then◌else◌}
+use Rattle.std.specs.Prelude.{◌≡◌, ℕ, zero, suc, ◌-◌, ◌^◌, ◌≤◌, Bool, true, false, not, ◌&&◌, ◌||◌, ◌==◌, List, [], ◌∷◌, ◌++◌, length, drop, filter, Option, None, Some, if◌then◌else◌}
 use Rattle.std.specs.List.{list_any, list_all}
 use Rattle.std.specs.Str.{bytes_eq}
-use Rattle.notify_paths.specs.Path.{PathValue, PartValue, RootPart, CurPart, ParentPart, NamePart, is_prefix, path_eq}
-use Rattle.notify_paths.specs.PathText.{is_proper_name}
+use Rattle.notify_paths.specs.Path.{PathValue, PartValue, NamePart, is_prefix}
 use Rattle.notify_types.specs.declared.event.RecursiveMode.{RecursiveMode}
-use Rattle.notify_types.specs.declared.event.RecursiveMode.TheVariants.{Recursive, NonRecursive}
 use Rattle.debounce_model.specs.Honest.{folders_of}
-use Rattle.folder_listing.specs.declared.entry.EntryKind.TheVariants.{File, Folder, Other}
-use Rattle.folder_listing.specs.declared.entry.EntryKind.{EntryKind}
+use Rattle.folder_listing.specs.declared.entry.EntryKind.TheVariants.{File, Folder}
 use Rattle.folder_listing.specs.declared.entry.Found.{Found}
+use Rattle.folder_listing.specs.Near.{is_name_part, is_near}
 use Rattle.folder_listing.specs.Listing.{ListingValue, entry_at, has_entry, is_nonempty, is_same_kind}
 use Rattle.notify_paths.specs.Errors.{ErrorValue, ErrorKindValue, GenericKind, IoKind, PathNotFoundKind, WatchNotFoundKind, FullKind, MemoryKind}
 use Rattle.folder_listing.specs.Changes.{is_of_kind}
@@ -27,28 +25,6 @@ pub record IsTree (tree : ListingValue) : Type 0 where
   pub ordered : IsStrictlySortedBy path_cmp (keys_of tree)
   pub nonempty : list_all is_nonempty (keys_of tree) ≡ true
   pub lengths : list_all has_own_length tree ≡ true
-
--- the part is a name
-abbrev pub is_name_part : PartValue → Bool
-is_name_part RootPart = false
-is_name_part CurPart = false
-is_name_part ParentPart = false
-is_name_part (NamePart bytes) = is_proper_name bytes
-
--- how many parts below a root are looked at
-abbrev pub depth_of : RecursiveMode → ℕ
-depth_of Recursive = 64
-depth_of NonRecursive = 1
-
--- at most so many parts, each a name
-abbrev pub are_names : ℕ → List PartValue → Bool
-are_names depth [] = true
-are_names zero (part ∷ parts) = false
-are_names (suc depth) (part ∷ parts) = is_name_part part && are_names depth parts
-
--- the path is the root or lies above it, or lies below it as deep as the mode says, by names alone
-abbrev pub is_near : PathValue → RecursiveMode → PathValue → Bool
-is_near root mode path = is_prefix path root || (is_prefix root path && are_names (depth_of mode) (drop (length root) path))
 
 -- a folder on the way to a path: it is there and no file, and from the root on it is a folder
 abbrev pub is_passable : ListingValue → PathValue → PathValue → Bool

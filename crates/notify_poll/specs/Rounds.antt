@@ -1,7 +1,5 @@
 -- What a round of polling hands to its handler.
 use Rattle.std.specs.Prelude.{◌≡◌, List, [], ◌∷◌, Result, Ok}
-use Rattle.notify_types.specs.Event.{EventValue}
-use Rattle.notify_paths.specs.Errors.{ErrorValue}
 
 -- the events are handed on, each by one call, in order
 abbrev pub HandsEach : {H E X : Type 0} → (H → Result X E → H → Type 0) → List X → H → H → Type 0

@@ -1,7 +1,6 @@
 //! Polling: folders are listed again and again, and what changed since the last listing is reported.
 #![tactic(auto)]
 
-pub mod failing;
 pub mod folders;
 pub mod list;
 pub mod real;

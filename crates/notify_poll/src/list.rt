@@ -5,24 +5,15 @@ ghost use Rattle.notify_paths.specs.Errors.{out_of_memory};
 ghost use Rattle.notify_paths.specs.Path.{PathValue};
 ghost use Rattle.debounce_model.specs.Honest.{has_folders};
 ghost use Rattle.folder_listing.specs.Listing.{has_entry, is_nonempty};
-ghost use Rattle.notify_poll.specs.Folders.{Adds, IsRefusal, IsTree, depth_of, reaches, shown, shows};
+ghost use Rattle.notify_poll.specs.Folders.{Adds, IsRefusal, IsTree, reaches, shown, shows};
 
 use crate::folders::Folders;
 use folder_listing::listing::Listing;
+use folder_listing::near::depth_of;
 use notify_paths::error::Error;
 use notify_paths::path::PathBuf;
 use notify_types::event::RecursiveMode;
 use std::alloc::Allocator;
-
-/// How many levels below a root are looked at.
-fn depth_of(mode: RecursiveMode) -> u32
-    ensures { result ≡ depth_of mode }
-{
-    match mode {
-        RecursiveMode::Recursive => 64,
-        RecursiveMode::NonRecursive => 1,
-    }
-}
 
 /// Returns the listing of the roots: what stands at each, at the folders above it, and below it, 64
 /// levels deep or, if the root isn't recursive, one level. It is read from above, and what is missing

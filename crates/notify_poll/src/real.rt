@@ -2,8 +2,8 @@
 ghost use Rattle.std.specs.Prelude.{◌≡◌, ◌≤◌, None};
 ghost use Rattle.notify_poll.specs.Folders.{IsRefusal};
 
-use folder_listing::entry::{EntryKind, Found};
 use crate::folders::Folders;
+use folder_listing::entry::{EntryKind, Found};
 use notify_paths::error::{Error, ErrorKind};
 use notify_paths::path::PathBuf;
 use std::alloc::Allocator;

@@ -5,14 +5,14 @@ ghost use Rattle.notify_paths.specs.Errors.{ErrorValue};
 ghost use Rattle.folder_listing.specs.Changes.{changes};
 ghost use Rattle.notify_poll.specs.Rounds.{HandsEach};
 
-use folder_listing::compare::compare;
 use crate::folders::Folders;
-use notify_watch::handler::EventHandler;
 use crate::list::list;
+use folder_listing::compare::compare;
 use folder_listing::listing::Listing;
 use notify_paths::error::Error;
-use notify_types::event::{Event, RecursiveMode};
 use notify_paths::path::PathBuf;
+use notify_types::event::{Event, RecursiveMode};
+use notify_watch::handler::EventHandler;
 use std::alloc::Allocator;
 
 /// Hands the events on, in order.

@@ -1,4 +1,4 @@
-use Rattle.std.proofs.Common.{◌≡◌, ◌∙◌, sym, ap}
+use Rattle.std.proofs.Common.{◌∙◌, sym, ap}
 use Rattle.std.specs.Map.{keys_of}
 use Rattle.folder_listing.specs.Parents.{has_this}
 use Rattle.folder_listing.proofs.WalkLemmas.{has_entry-some}

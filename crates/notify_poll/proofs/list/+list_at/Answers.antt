@@ -1,10 +1,9 @@
-use Rattle.std.proofs.Common.{rules, ◌≡◌, ◌∙◌, sym, subst, ap, ◌≤◌, ◌<◌, ◌+◌, ◌-◌, ◌*◌, ◌++◌, ◌∷◌, [], true, false, arith, Some, None, map, not, suc, length, IfSome, OnOk, string_bytes, String, Vec, List}
+use Rattle.std.proofs.Common.{rules, ◌≡◌, ◌∙◌, sym, subst, ap, ◌<◌, ◌-◌, ◌++◌, ◌∷◌, [], true, false, arith, Some, map, suc, IfSome, string_bytes, String, Vec, List}
 use Rattle.std.specs.Option.{option_map}
 use Rattle.std.specs.Map.{keys_of}
-use Rattle.notify_paths.specs.Path.{PathValue, PartValue, NamePart}
-use Rattle.notify_paths.specs.PathMoves.{child_of}
+use Rattle.notify_paths.specs.Path.{PartValue, NamePart}
 use Rattle.debounce_model.specs.Honest.{has_folders}
-use Rattle.folder_listing.specs.Listing.{ListingValue, entry_at, has_entry, is_nonempty}
+use Rattle.folder_listing.specs.Listing.{ListingValue, entry_at, is_nonempty}
 use Rattle.notify_poll.specs.Folders.{Adds, reach, reaches, NamesOf}
 use Rattle.folder_listing.proofs.ListingLemmas.{folders-grow, folders-child, nonempty-child, child-is}
 use Rattle.notify_poll.proofs.ListLemmas.{missing, alone, no_level, no_folder, begun, goes_on, passes_over, ended}
@@ -68,10 +67,10 @@ returns-in_default-clause-added g t c = missing (g.D.Folders.told c.args.folders
 pub returns-then-depth-eq0-clause-added : goal.returns-then-depth-eq0-clause-added
 returns-then-depth-eq0-clause-added g t c =
     let last : (tree : ListingValue) → entry_at tree c.args.path.now ≡ Some c.in-Some.found → (x : PartValue) (s : List PartValue) → reach tree c.args.depth c.args.path.now (x ∷ s) ≡ false =
-        elim c.then-depth-eq0.branch [
-          then-depth-eq0-via-then-depth-eq0 w ↦ no_level c.args.depth c.args.path.now c.in-Some.found w.if-depth-eq0.true
-        | then-depth-eq0-via-else-depth-eq0+then-not-is_folder w ↦ no_folder c.args.depth c.args.path.now c.in-Some.found (sym w.is_folder.ensures ∙ w.if-not-is_folder.true)
-        ] in
+    elim c.then-depth-eq0.branch [
+      | then-depth-eq0-via-then-depth-eq0 w ↦ no_level c.args.depth c.args.path.now c.in-Some.found w.if-depth-eq0.true
+      | then-depth-eq0-via-else-depth-eq0+then-not-is_folder w ↦ no_folder c.args.depth c.args.path.now c.in-Some.found (sym w.is_folder.ensures ∙ w.if-not-is_folder.true)
+    ] in
     alone (g.D.Folders.told c.args.folders.now) c.insert.result c.in_ok-found.field-0 c.in-Some.found c.args.depth c.args.path.now c.args.listing.now c.insert.new.self c.in_ok-found.ensures.found c.in-Some.is last c.insert.ensures.ok
 
 pub returns-clause-added : goal.returns-clause-added

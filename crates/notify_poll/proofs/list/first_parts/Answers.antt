@@ -16,6 +16,6 @@ pub returns-clause-ok : goal.returns-clause-ok
 returns-clause-ok g c =
     let none : length c.args.path.now ≤ c.loop-later._later = omega (arith, c.loop-later-test.false, c.part_count-later-end.ensures) in
     let whole : parts_of c.as_os_str.result.now ≡ take c.args.count c.args.path.now =
-        ap (map part_of) (ap path_components c.as_os_str.ensures ∙ c.as_path.ensures)
-        ∙ first_ended c.args.path.now c.args.count c.loop-later._later (components_remaining c.loop-later.components) c.loop-later.auto._later none c.loop-later.invariant in
+    ap (map part_of) (ap path_components c.as_os_str.ensures ∙ c.as_path.ensures)
+    ∙ first_ended c.args.path.now c.args.count c.loop-later._later (components_remaining c.loop-later.components) c.loop-later.auto._later none c.loop-later.invariant in
     subst (λ p. IfOk c.parse.result (λ first. first ≡ p)) whole c.parse.ensures.ok

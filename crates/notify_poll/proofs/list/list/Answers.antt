@@ -1,4 +1,4 @@
-use Rattle.std.proofs.Common.{◌≡◌, ◌∙◌, ◌≤◌, subst, arith, sym, IfSome, OnOk}
+use Rattle.std.proofs.Common.{◌∙◌, subst, arith, IfSome}
 use Rattle.notify_poll.specs.Folders.{Adds, IsTree, shows}
 use Rattle.folder_listing.specs.Listing.{IsListing}
 use Rattle.notify_poll.proofs.RootLemmas.{listed-next, listed-all}

@@ -1,11 +1,9 @@
-use Rattle.std.proofs.Common.{◌≡◌, ◌∙◌, ◌≤◌, ◌<◌, ap, subst, arith, length, take, true, false, sym, IfSome, OnOk, Some, None, rules}
+use Rattle.std.proofs.Common.{◌≡◌, ◌∙◌, ◌≤◌, ◌<◌, subst, arith, length, take, true, false, sym, IfSome, OnOk}
 use Rattle.notify_poll.specs.Folders.{Adds, reaches}
 use Rattle.folder_listing.specs.declared.entry.EntryKind.TheVariants.{File}
-use Rattle.notify_poll.proofs.RootLemmas.{nonempty-first, nonempty-unless, no_root, open-first, added-first, open-next, added-next, stops-missing, stops-file, arrives}
+use Rattle.notify_poll.proofs.RootLemmas.{nonempty-first, nonempty-unless, open-next, added-next, stops-missing, stops-file, arrives}
 use Rattle.std.specs.Map.{keys_of}
 use Rattle.debounce_model.specs.Honest.{has_folders}
-use Rattle.notify_paths.specs.PathView.{part_value}
-use Rattle.std.proofs.lemmas.List.{length-map}
 use Rattle.folder_listing.specs.Listing.{is_nonempty, has_entry, entry_at, is_same_kind}
 use Rattle.folder_listing.proofs.ListingLemmas.{folders-grow, folders-next}
 use Rattle.notify_poll.proofs.list.list_root.Goals as goal

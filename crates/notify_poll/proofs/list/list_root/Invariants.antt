@@ -1,4 +1,4 @@
-use Rattle.std.proofs.Common.{◌≡◌, ◌≤◌, length, take, true}
+use Rattle.std.proofs.Common.{◌≡◌, ◌≤◌, take, true}
 use Rattle.std.specs.Map.{keys_of}
 use Rattle.debounce_model.specs.Honest.{has_folders}
 use Rattle.notify_poll.proofs.RootLemmas.{IsOpenTo, HasFolders}

@@ -1,6 +1,5 @@
-use Rattle.std.proofs.Common.{◌≡◌, ◌∙◌, true, sym, subst}
+use Rattle.std.proofs.Common.{◌≡◌, true}
 use Rattle.std.specs.Map.{keys_of}
-use Rattle.std.specs.BTreeMap.{insert_entry}
 use Rattle.debounce_model.specs.Honest.{has_folders}
 use Rattle.folder_listing.specs.Listing.{has_entry}
 use Rattle.folder_listing.proofs.ListingLemmas.{is_listing-insert, insert-grows, has_entry-inserted}

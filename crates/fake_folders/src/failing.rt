@@ -3,9 +3,9 @@ ghost use Rattle.std.specs.Prelude.{◌≡◌, ◌≤◌, ◌^◌, true, false};
 ghost use Rattle.notify_poll.specs.Folders.{CountsFailure};
 
 use folder_listing::entry::Found;
-use crate::folders::Folders;
 use notify_paths::error::{Error, ErrorKind};
 use notify_paths::path::PathBuf;
+use notify_poll::folders::Folders;
 use std::alloc::Allocator;
 use std::io;
 
