@@ -204,3 +204,7 @@ pub listed-all : (o : Option ListingValue) (roots : List (PathValue × Recursive
 listed-all None roots i fs l law h = tt
 listed-all (Some tree) roots i fs l law h = λ t.
     same_entries path_cmp_total same_path fs (shown tree roots) law.ordered (sorted-shown tree roots t.ordered) (λ q. h t q ∙ (ap (λ rs. if list_any (λ root. shows tree root q) rs then entry_at tree q else None) (take_all i roots l) ∙ entry_at-shown tree roots q))
+
+-- one root alone
+pub listed-one : (o : Option ListingValue) (root : PathValue × RecursiveMode) (fs : ListingValue) → IsListing fs → IfSome o (λ tree. IsTree tree → Adds tree (shows tree root) [] fs) → IfSome o (λ tree. IsTree tree → fs ≡ shown tree (root ∷ []))
+listed-one o root fs law h = listed-all o (root ∷ []) 1 fs (omega arith) law (listed-next o (root ∷ []) 0 root [] fs (omega arith) refl (listed-none o) h)

@@ -3,5 +3,6 @@
 
 pub mod folders;
 pub mod list;
+pub mod polled;
 pub mod real;
 pub mod round;

@@ -36,7 +36,7 @@ pub fn list<A: Allocator + Copy, D: Folders<A>>(
 }
 
 /// Adds what the root shows. If a path above it is missing or a file, that is all.
-fn list_root<A: Allocator + Copy, D: Folders<A>>(
+pub(crate) fn list_root<A: Allocator + Copy, D: Folders<A>>(
     alloc: A,
     folders: &mut D,
     listing: &mut Listing<A>,
