@@ -92,6 +92,12 @@ impl<A: Allocator + Copy> State<A> {
         self.alloc
     }
 
+    pub(crate) fn timeout(&self) -> Moment
+        ensures { result ≡ self.now.timeout }
+    {
+        self.timeout
+    }
+
     pub(crate) fn taken(&self) -> u64
         ensures { result ≡ self.now.taken }
     {
@@ -281,6 +287,20 @@ impl<A: Allocator + Copy> State<A> {
         self.latest = now;
         self.given += batch.len() as u64;
         Ok(batch)
+    }
+
+    /// The batch that a tick at the moment would hand out.
+    pub(crate) fn batch_at(&self, now: Moment) -> Result<Vec<DebouncedEvent<A>, A>, Error<A>>
+        ensures batch { IfOk result (λ batch. IsBatch self.now now batch.items) }
+        ensures only { IfOk result (λ batch. IsOnlyBatch self.now now batch.items) }
+        ensures err { IfErr result (λ e. e ≡ out_of_memory) }
+        ensures sure { is_tick_due self.now now ≡ false → IsOk result }
+    {
+        let due = Due::Expired(self.timeout, self.latest.max(now));
+        if self.is_due(due) {
+            return self.batch_of(due);
+        }
+        Ok(Vec::new(self.alloc))
     }
 
     /// The batch that would be handed out if every event that waits were expired.

@@ -1,0 +1,152 @@
+-- Steps of a book: its journal is one entry longer and stays legal, or nothing is written.
+use Rattle.std.proofs.Common.{◌≡◌, ◌∙◌, ℕ, List, [], ◌∷◌, ◌++◌, Bool, true, false, Option, Some, refl, sym, ap, subst, inl, inr}
+use Rattle.notify_paths.specs.Errors.{ErrorValue, ErrorKindValue, FullKind, MemoryKind}
+use Rattle.notify_types.specs.Event.{EventValue, Timed, first_of}
+use Rattle.notify_paths.specs.Path.{PathValue}
+use Rattle.debounce_model.specs.declared.case.Case.{Case}
+use Rattle.debounce_model.specs.declared.case.Case.TheVariants.{Rescan, Creation, Removal, RenameFrom, RenameTo, Plain, Ignored}
+use Rattle.debounce_model.specs.declared.file_id.FileId.{FileId}
+use Rattle.debounce_model.specs.Cache.{Rules}
+use Rattle.debounce_model.specs.Command.{CommandValue, EventCommand, ErrorCommand, RootCommand, UnrootCommand, ErrorsCommand, TickCommand, ReplyValue, TakenReply, NotedReply, RootedReply, UnrootedReply, ErrorsReply, BatchReply, RefusedReply}
+use Rattle.debounce_model.specs.Run.{Step}
+use Rattle.debounce_model.specs.State.{State, Core, empty_state}
+use Rattle.debounce_model.specs.Step.{IsRefusedFor}
+use Rattle.debounce_model.specs.Table.{case_of, taken_as, event_step, raised_event}
+use Rattle.debounce_book.specs.Book.{Kept, entry_of, full, IsFull, IsDone, IsNotDone, Steps}
+use Rattle.debounce_book.specs.Journal.{EntryValue, Accepts, Replays, IsLegal, IsJournal}
+use Rattle.debounce_book.specs.Written.{Foretells, IsDraft, IsNoDraft, is_refused, with_answer, entered}
+
+-- an event keeps the timeout
+timeout-event : (s : State) (event : EventValue) (now : ℕ) (exists : Bool) (answer : Option FileId) → (event_step s event now exists answer).timeout ≡ s.timeout
+timeout-event s event now exists answer = by (case_of event exists)
+  where
+    by : (case : Case) → (taken_as case s (raised_event s event now) answer).timeout ≡ s.timeout
+    by Rescan = refl
+    by Creation = refl
+    by Removal = refl
+    by RenameFrom = refl
+    by RenameTo = refl
+    by Plain = refl
+    by Ignored = refl
+
+-- an accepted command keeps the timeout
+timeout-accepts : (s t : State) (c : CommandValue) (y : ReplyValue) → Accepts s c y t → t.timeout ≡ s.timeout
+timeout-accepts s t (EventCommand event now exists) (TakenReply answer) h = ap (λ (k : State). k.timeout) h.1 ∙ timeout-event s event now exists answer
+timeout-accepts s t (ErrorCommand error) NotedReply h = ap (λ (k : State). k.timeout) h
+timeout-accepts s t (RootCommand path mode) RootedReply h = ap (λ (k : State). k.timeout) h
+timeout-accepts s t (UnrootCommand path) UnrootedReply h = ap (λ (k : State). k.timeout) h
+timeout-accepts s t ErrorsCommand (ErrorsReply errors) h = ap (λ (k : State). k.timeout) h.1
+timeout-accepts s t (TickCommand now) (BatchReply batch) h = ap (λ (k : State). k.timeout) h.1
+timeout-accepts s t c y h = absurd h
+
+-- a journal goes on by one accepted command
+Replays-append : (es : List EntryValue) (s m t : State) (e : EntryValue) → Replays s es m → Accepts m e.command e.reply t → Replays s (es ++ e ∷ []) t
+Replays-append [] s m t e h a = (t, rw h at a, refl)
+Replays-append (x ∷ es) s m t e (k, first, more) a = (k, first, Replays-append es k m t e more a)
+
+-- .. and stays legal
+pub IsLegal-append : (es : List EntryValue) (s t : State) (e : EntryValue) → IsLegal es s → Accepts s e.command e.reply t → IsLegal (es ++ e ∷ []) t
+IsLegal-append es s t e h a =
+    subst (λ (n : ℕ). Replays (empty_state n) (es ++ e ∷ []) t) (sym (timeout-accepts s t e.command e.reply a)) (Replays-append es _ s t e h a)
+
+-- the journal after an accepted command
+entered-accepted : (es : List EntryValue) (d : EntryValue) (y : ReplyValue) → is_refused y ≡ false → entered es d y ≡ es ++ record d { reply = with_answer d.reply y } ∷ []
+entered-accepted es d y n = rw n refl
+
+module _ {C : Type 0} where
+  -- a command that a core refuses leaves its state
+  pub state-refused : (r : Rules C) (s t : Core C) (c : CommandValue) (error : ErrorValue) → Step r s c (RefusedReply error) t → t.state ≡ s.state
+  state-refused r s t (EventCommand event now exists) error h = by error.kind h.1
+    where
+      by : (kind : ErrorKindValue) → IsRefusedFor r s event exists kind t → t.state ≡ s.state
+      by FullKind k = ap (λ (x : Core C). x.state) k.1
+      by MemoryKind k = ap (λ (x : Core C). x.state) k.2
+      by kind k = absurd k
+  state-refused r s t (ErrorCommand e) error h = ap (λ (x : Core C). x.state) h.1
+  state-refused r s t (RootCommand path mode) error h = ap (λ (x : Core C). x.state) h.2.0
+  state-refused r s t (UnrootCommand path) error h = ap (λ (x : Core C). x.state) h.2.0
+  state-refused r s t ErrorsCommand error h = absurd h
+  state-refused r s t (TickCommand now) error h = ap (λ (x : Core C). x.state) h.2
+
+  -- a command that a core accepts is accepted by its state
+  pub Accepts-step : (r : Rules C) (s t : Core C) (c : CommandValue) (y : ReplyValue) → is_refused y ≡ false → Step r s c y t → Accepts s.state c y t.state
+  Accepts-step r s t (EventCommand event now exists) (TakenReply answer) n (taken, is) = (taken.room, rw is taken.state)
+  Accepts-step r s t (ErrorCommand e) NotedReply n h = ap (λ (x : Core C). x.state) h
+  Accepts-step r s t (RootCommand path mode) RootedReply n h = ap (λ (x : Core C). x.state) h.0
+  Accepts-step r s t (UnrootCommand path) UnrootedReply n h = ap (λ (x : Core C). x.state) h.0
+  Accepts-step r s t ErrorsCommand (ErrorsReply errors) n h = (h.0, ap (λ (x : Core C). x.state) h.1)
+  Accepts-step r s t (TickCommand now) (BatchReply batch) n h = (h.0, ap (λ (x : Core C). x.state) h.1)
+  Accepts-step r s t c (RefusedReply error) n h = cc
+  Accepts-step r s t c y n h = absurd h
+
+  -- the reply that was foretold is the one that came, but for the cache's answer
+  reply_foretold : (r : Rules C) (s t : Core C) (c : CommandValue) (y told : ReplyValue) → is_refused y ≡ false → Step r s c y t → Foretells s.state c told → with_answer told y ≡ y
+  reply_foretold r s t (EventCommand event now exists) (TakenReply answer) told n h f = refl
+  reply_foretold r s t (ErrorCommand e) NotedReply NotedReply n h f = refl
+  reply_foretold r s t (ErrorCommand e) NotedReply told n h f = absurd f
+  reply_foretold r s t (RootCommand path mode) RootedReply RootedReply n h f = refl
+  reply_foretold r s t (RootCommand path mode) RootedReply told n h f = absurd f
+  reply_foretold r s t (UnrootCommand path) UnrootedReply UnrootedReply n h f = refl
+  reply_foretold r s t (UnrootCommand path) UnrootedReply told n h f = absurd f
+  reply_foretold r s t ErrorsCommand (ErrorsReply errors) (ErrorsReply told) n h f = ap ErrorsReply (f ∙ sym h.0)
+  reply_foretold r s t ErrorsCommand (ErrorsReply errors) told n h f = absurd f
+  reply_foretold r s t (TickCommand now) (BatchReply batch) (BatchReply told) n h f = ap BatchReply (sym (f batch h.0))
+  reply_foretold r s t (TickCommand now) (BatchReply batch) told n h f = absurd f
+  reply_foretold r s t c (RefusedReply error) told n h f = cc
+  reply_foretold r s t c y told n h f = absurd h
+
+  -- a draft with the cache's answer is the command's entry
+  entry_drafted : (r : Rules C) (s t : Core C) (from : ℕ) (c : CommandValue) (y : ReplyValue) (d : EntryValue) → is_refused y ≡ false → IsDraft s.state from c d → Step r s c y t → record d { reply = with_answer d.reply y } ≡ entry_of from c y
+  entry_drafted r s t from c y d n draft step =
+      let reply : with_answer d.reply y ≡ y = reply_foretold r s t c y d.reply n step draft.foretold in
+      λ i. record { from = draft.numbered i; command = draft.copied i; reply = reply i }
+
+  -- a command that is accepted is done
+  IsDone-entered : (r : Rules C) (s t : Core C) (es : List EntryValue) (from : ℕ) (c : CommandValue) (y : ReplyValue) (d : EntryValue) → is_refused y ≡ false → IsDraft s.state from c d → Step r s c y t → IsDone r (record { core = s; journal = Some es }) from c y (record { core = t; journal = Some (entered es d y) })
+  IsDone-entered r s t es from c y d n draft step =
+      (step, ap Some (entered-accepted es d y n ∙ ap (λ (e : EntryValue). es ++ e ∷ []) (entry_drafted r s t from c y d n draft step)))
+
+  -- a command of which there is a draft steps
+  pub Steps-entered : (r : Rules C) (s t : Core C) (es : List EntryValue) (from : ℕ) (c : CommandValue) (y : ReplyValue) (d : EntryValue) → IsDraft s.state from c d → Step r s c y t → Steps r (record { core = s; journal = Some es }) from c y (record { core = t; journal = Some (entered es d y) })
+  Steps-entered r s t es from c (RefusedReply error) d draft step = inl (step, refl)
+  Steps-entered r s t es from c (TakenReply answer) d draft step = IsDone-entered r s t es from c (TakenReply answer) d refl draft step
+  Steps-entered r s t es from c NotedReply d draft step = IsDone-entered r s t es from c NotedReply d refl draft step
+  Steps-entered r s t es from c RootedReply d draft step = IsDone-entered r s t es from c RootedReply d refl draft step
+  Steps-entered r s t es from c UnrootedReply d draft step = IsDone-entered r s t es from c UnrootedReply d refl draft step
+  Steps-entered r s t es from c (ErrorsReply errors) d draft step = IsDone-entered r s t es from c (ErrorsReply errors) d refl draft step
+  Steps-entered r s t es from c (BatchReply batch) d draft step = IsDone-entered r s t es from c (BatchReply batch) d refl draft step
+
+  -- .. and its journal stays legal
+  pub IsLegal-entered : (r : Rules C) (s t : Core C) (es : List EntryValue) (from : ℕ) (c : CommandValue) (y : ReplyValue) (d : EntryValue) → IsDraft s.state from c d → IsLegal es s.state → Step r s c y t → IsLegal (entered es d y) t.state
+  IsLegal-entered r s t es from c y d draft legal step = by (is_refused y) refl
+    where
+      accepted : is_refused y ≡ false → IsLegal (entered es d y) t.state
+      accepted n =
+          let entry = entry_drafted r s t from c y d n draft step in
+          let after : IsLegal (es ++ entry_of from c y ∷ []) t.state = IsLegal-append es s.state t.state (entry_of from c y) legal (Accepts-step r s t c y n step) in
+          subst (λ (k : List EntryValue). IsLegal k t.state) (sym (entered-accepted es d y n ∙ ap (λ (e : EntryValue). es ++ e ∷ []) entry)) after
+
+      refused : (z : ReplyValue) → is_refused z ≡ true → Step r s c z t → IsLegal (entered es d z) t.state
+      refused (RefusedReply error) n h = subst (λ (k : State). IsLegal es k) (sym (state-refused r s t c error h)) legal
+      refused z n h = cc
+
+      by : (b : Bool) → is_refused y ≡ b → IsLegal (entered es d y) t.state
+      by true n = refused y n step
+      by false n = accepted n
+
+  -- a command without a draft is not done
+  pub IsNotDone-draft : (r : Rules C) (s : Core C) (es : List EntryValue) (c : CommandValue) (error : ErrorValue) → IsNoDraft s.state c error → IsNotDone r (record { core = s; journal = Some es }) c error (record { core = s; journal = Some es })
+  IsNotDone-draft r s es c error (inl (is, at)) = inl (rw is (by c at), refl)
+    where
+      by : (k : CommandValue) → IsFull s.state k → Step r s k (RefusedReply full) s
+      by (EventCommand event now exists) at = (refl, (at, refl))
+      by k at = absurd at
+  IsNotDone-draft r s es c error (inr (is, below)) = inr (is, (λ none. cc), below, refl)
+
+-- the empty journal is legal
+pub IsJournal-empty : (timeout : ℕ) → IsJournal timeout []
+IsJournal-empty timeout = (empty_state timeout, refl, refl)
+
+-- the journal of a book is one
+pub IsJournal-kept : (timeout : ℕ) (es : List EntryValue) (s : State) → IsLegal es s → timeout ≡ s.timeout → IsJournal timeout es
+IsJournal-kept timeout es s legal is = (s, sym is, legal)

@@ -1,0 +1,5 @@
+pub mod Book
+pub mod Equality
+pub mod EqualityLaws
+pub mod Journal
+pub mod Written

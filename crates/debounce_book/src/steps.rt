@@ -1,0 +1,126 @@
+//! The steps of a running debouncer. Each is done while the book's lock is held.
+ghost use Rattle.std.specs.Prelude.{◌≡◌, false, IfErr, OnOk};
+ghost use Rattle.notify_paths.specs.Errors.{out_of_memory};
+ghost use Rattle.debounce_model.specs.Command.{RootCommand, UnrootCommand, RootedReply, UnrootedReply, RefusedReply};
+ghost use Rattle.debounce_model.specs.CommandView.{reply_value};
+ghost use Rattle.debounce_book.specs.Book.{GivesErrors, IsDone, IsNotDone, Ticks, TicksBoth, fed_command, fed_reply};
+ghost use Rattle.debounce_book.specs.Written.{is_refused};
+
+use crate::book::{Book, command_step};
+use debounce_model::command::{Command, Reply};
+use file_id_cache::cache::FileIdCache;
+use notify_paths::error::Error;
+use notify_paths::path::PathBuf;
+use notify_types::event::{DebouncedEvent, Event, RecursiveMode};
+use notify_types::time::Moment;
+use std::alloc::Allocator;
+
+/// What a tick hands out: the batch, or why there is none, and the errors.
+pub type Ticked<A> = (
+    Result<Vec<DebouncedEvent<A>, A>, Error<A>>,
+    Vec<Error<A>, A>,
+);
+
+/// Why the command with this reply was refused, if it was.
+fn refusal<A: Allocator>(reply: Reply<A>) -> Result<(), Error<A>>
+    ensures ok { OnOk result (is_refused (reply_value reply) ≡ false) }
+    ensures err { IfErr result (λ e. reply_value reply ≡ RefusedReply e) }
+{
+    match reply {
+        Reply::Refused(error) => Err(error),
+        _ => Ok(()),
+    }
+}
+
+/// Takes an event at a moment, or keeps an error of the watcher. `exists` says whether an event's
+/// first path exists then.
+///
+/// An event is refused as `Full` if 2^64 - 1 events were taken, and each as `Memory` if an allocation
+/// fails. Then the state and the journal are as they were, and the cache is as its own calls left it.
+pub fn feed_step<C: FileIdCache<A>, A: Allocator + Copy>(
+    book: &mut Book<C, A>,
+    item: Result<Event<A>, Error<A>>,
+    now: Moment,
+    exists: bool,
+) -> Result<(), Error<A>>
+    ensures ok { OnOk result (IsDone C.rules book.old 0 (fed_command item now exists) (fed_reply item book.new.core.answer) book.new) }
+    ensures err { IfErr result (λ e. IsNotDone C.rules book.old (fed_command item now exists) e book.new) }
+{
+    let command = match item {
+        Ok(event) => Command::Event(event, now, exists),
+        Err(error) => Command::Error(error),
+    };
+    refusal(command_step(book, 0, command))
+}
+
+/// Hands out what is expired at the moment, and then the errors. A tick that is refused doesn't keep
+/// the errors back. If there is no memory for the errors' entry in the journal, they are kept, and
+/// none is handed out; without a journal they always are.
+pub fn tick_step<C: FileIdCache<A>, A: Allocator + Copy>(
+    book: &mut Book<C, A>,
+    now: Moment,
+) -> Ticked<A>
+    ensures { TicksBoth C.rules book.old now result.0 result.1.items book.new }
+{
+    let batch = tick(book, now);
+    let errors = take_errors(book);
+    (batch, errors)
+}
+
+fn tick<C: FileIdCache<A>, A: Allocator + Copy>(
+    book: &mut Book<C, A>,
+    now: Moment,
+) -> Result<Vec<DebouncedEvent<A>, A>, Error<A>>
+    ensures { Ticks C.rules book.old now result book.new }
+{
+    match command_step(book, 0, Command::Tick(now)) {
+        Reply::Batch(batch) => Ok(batch),
+        Reply::Refused(error) => Err(error),
+        _ => unreachable!(),
+    }
+}
+
+fn take_errors<C: FileIdCache<A>, A: Allocator + Copy>(book: &mut Book<C, A>) -> Vec<Error<A>, A>
+    ensures { GivesErrors C.rules book.old result.items book.new }
+{
+    match command_step(book, 0, Command::Errors) {
+        Reply::Errors(errors) => errors,
+        _ => Vec::new(book.alloc()),
+    }
+}
+
+/// Watches a path from now on in this mode. If an equal path is a root, its mode stays. If an
+/// allocation fails, the roots and the journal are as they were, and the cache is as its own call left
+/// it.
+pub fn root_step<C: FileIdCache<A>, A: Allocator + Copy>(
+    book: &mut Book<C, A>,
+    path: &PathBuf<A>,
+    mode: RecursiveMode,
+) -> Result<(), Error<A>>
+    ensures ok { OnOk result (IsDone C.rules book.old 0 (RootCommand path.now mode) RootedReply book.new) }
+    ensures err { IfErr result (λ e. IsNotDone C.rules book.old (RootCommand path.now mode) e book.new) }
+    ensures memory { IfErr result (λ e. e ≡ out_of_memory) }
+{
+    if !book.is_journaled() {
+        return book.add_root(path, mode);
+    }
+    let copy = path.try_clone()?;
+    refusal(command_step(book, 0, Command::Root(copy, mode)))
+}
+
+/// Watches a path no longer, nor any root below it. If an allocation fails, the roots and the journal
+/// are as they were, and the cache is as its own call left it.
+pub fn unroot_step<C: FileIdCache<A>, A: Allocator + Copy>(
+    book: &mut Book<C, A>,
+    path: &PathBuf<A>,
+) -> Result<(), Error<A>>
+    ensures ok { OnOk result (IsDone C.rules book.old 0 (UnrootCommand path.now) UnrootedReply book.new) }
+    ensures err { IfErr result (λ e. IsNotDone C.rules book.old (UnrootCommand path.now) e book.new) }
+    ensures memory { IfErr result (λ e. e ≡ out_of_memory) }
+{
+    if !book.is_journaled() {
+        return book.remove_root(path);
+    }
+    let copy = path.try_clone()?;
+    refusal(command_step(book, 0, Command::Unroot(copy)))
+}

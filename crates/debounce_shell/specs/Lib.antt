@@ -1,0 +1,3 @@
+pub mod Start
+pub mod Turn
+pub mod Watched

@@ -1,0 +1,27 @@
+//! Handlers of what a debouncer hands out.
+use notify_paths::error::Error;
+use notify_types::event::DebouncedEvent;
+use std::alloc::Global;
+
+/// What a handler is called with: a batch, which isn't empty, or errors, of which there is one at
+/// least.
+pub type DebounceEventResult<A = Global> = Result<Vec<DebouncedEvent<A>, A>, Vec<Error<A>, A>>;
+
+/// Takes what a debouncer hands out: `T` is [`DebounceEventResult`]. Closures are handlers, and so is
+/// [`crate::send_to::SendTo`].
+///
+/// `T` has no bound, so that the trait can be implemented over any allocator.
+pub trait DebounceEventHandler<T>: Send + Drop + 'static {
+    /// Whether the handler may be called.
+    ghost ready: { Self → Type 0 };
+
+    /// What one call leaves of the handler.
+    ghost handles: { Self → T → Self → Type 0 };
+
+    /// Called by the debouncer's own thread with each batch and each list of errors, one after the
+    /// other, and never while the debouncer's lock is held.
+    fn handle_event(&mut self, event: T)
+        requires { ready self.old }
+        ensures again { ready self.new }
+        ensures handled { handles self.old event self.new };
+}

@@ -1,0 +1,27 @@
+//! The running debouncer: a thread that ticks, a watcher that feeds, and a handler that is called with
+//! batches and errors.
+//!
+//! [`debouncer::new_debouncer_opt`] starts it all and returns a [`debouncer::Debouncer`], by which
+//! paths are watched. What happens in a thread's turn is [`gate::turn`], whose contract says what the
+//! handler is called with; what happens under the lock is a step of `debounce_book`.
+//!
+//! ```text
+//! let handler = |outcome: DebounceEventResult| { .. };
+//! let mut debouncer: Debouncer<MyWatcher, NoCache, HostRuntime> =
+//!     new_debouncer_opt(rt, rt.alloc(), timeout, None, handler, NoCache::new(), Config::default())?;
+//! debouncer.watch(&path, RecursiveMode::Recursive)?;
+//! ```
+#![tactic(auto)]
+
+mod clock;
+mod closures;
+pub mod debouncer;
+mod feed;
+pub mod gate;
+pub mod handler;
+mod locked;
+pub mod send_to;
+mod worker;
+
+pub use clock::now;
+pub use feed::Feed;
