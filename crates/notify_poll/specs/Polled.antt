@@ -1,7 +1,7 @@
 -- What a polling watcher keeps, and what its steps leave of it.
 use Rattle.std.specs.Prelude.{◌≡◌, ℕ, Bool, true, false, not, List, [], ◌∷◌, ◌++◌, filter, Option, IfSome, ◌⊎◌}
 use Rattle.std.specs.List.{list_any}
-use Rattle.notify_paths.specs.Errors.{ErrorValue, PathNotFoundKind, WatchNotFoundKind}
+use Rattle.notify_paths.specs.Errors.{ErrorValue, ErrorKindValue, GenericKind, IoKind, PathNotFoundKind, WatchNotFoundKind, FullKind, MemoryKind}
 use Rattle.notify_paths.specs.Path.{PathValue, path_eq}
 use Rattle.notify_types.specs.declared.event.RecursiveMode.{RecursiveMode}
 use Rattle.folder_listing.specs.Listing.{ListingValue, has_entry}
@@ -56,3 +56,20 @@ watch_not_found = record { kind = WatchNotFoundKind; paths = [] }
 -- why a path can't be watched: nothing stands there, or the folders refused
 abbrev pub IsWatchRefusal : Option ListingValue → PathValue × RecursiveMode → ErrorValue → ℕ → ℕ → Type 0
 IsWatchRefusal told root e before after = ((e ≡ path_not_found) × LacksRoot told root) ⊎ IsRefusal e before after
+
+-- an allocation failed, or a device or system call
+abbrev pub IsFailure : ErrorKindValue → Type 0
+IsFailure (IoKind kind) = Unit {0}
+IsFailure MemoryKind = Unit {0}
+IsFailure (GenericKind text) = ⊥
+IsFailure PathNotFoundKind = ⊥
+IsFailure WatchNotFoundKind = ⊥
+IsFailure FullKind = ⊥
+
+-- why a watcher over real folders doesn't watch a path
+abbrev pub IsWatchError : ErrorValue → Type 0
+IsWatchError e = (e ≡ path_not_found) ⊎ (IsFailure e.kind × (e.paths ≡ []))
+
+-- .. and why it doesn't unwatch one
+abbrev pub IsUnwatchError : ErrorValue → Type 0
+IsUnwatchError e = e ≡ watch_not_found

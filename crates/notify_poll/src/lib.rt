@@ -6,3 +6,4 @@ pub mod list;
 pub mod polled;
 pub mod real;
 pub mod round;
+pub mod watcher;
