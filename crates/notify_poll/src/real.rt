@@ -1,33 +1,60 @@
 //! The real file system.
-ghost use Rattle.std.specs.Prelude.{◌≡◌, ◌≤◌, None};
+ghost use Rattle.std.specs.Prelude.{◌≡◌, ◌≤◌, None, IfErr};
+ghost use Rattle.notify_paths.specs.Errors.{out_of_memory};
 ghost use Rattle.notify_poll.specs.Folders.{IsRefusal};
 
 use crate::folders::Folders;
 use folder_listing::entry::{EntryKind, Found};
 use notify_paths::error::{Error, ErrorKind};
 use notify_paths::path::PathBuf;
-use std::alloc::Allocator;
-use std::fs::Files;
+use std::alloc::{AllocError, Allocator, Global};
+use std::fs::{DirEntry, Files, Metadata, ReadDir};
 use std::{fs, io};
 
 /// The real file system. It can't tell its tree, which others change.
 #[derive(Drop)]
-pub struct RealFolders<R: Drop, A: Allocator> {
+pub struct RealFolders<R: Drop, A: Allocator = Global> {
     rt: R,
     alloc: A,
     failures: u64,
 }
 
-/// Nothing is there, or permission closes it.
-fn is_missing(kind: io::ErrorKind) -> bool {
-    matches!(
-        kind,
-        io::ErrorKind::NotFound | io::ErrorKind::PermissionDenied | io::ErrorKind::NotADirectory
-    )
+impl<R: Drop, A: Allocator + Copy> RealFolders<R, A> {
+    /// Returns the real file system. Relative paths begin at the folder that the program runs in.
+    pub fn new(rt: R, alloc: A) -> RealFolders<R, A> {
+        RealFolders {
+            rt,
+            alloc,
+            failures: 0,
+        }
+    }
+
+    /// The error of a call that failed so, which is counted, unless it failed for want of memory.
+    fn refusal(&mut self, error: &io::Error) -> Error<A>
+        ensures counted { self.old.failures ≤ self.new.failures }
+        ensures err { IsRefusal result self.old.failures self.new.failures }
+    {
+        if error.kind() == io::ErrorKind::OutOfMemory && error.raw_os_error().is_none() {
+            return Error::out_of_memory(self.alloc);
+        }
+        self.failures = self.failures.saturating_add(1);
+        Error::new(self.alloc, ErrorKind::Io(error.kind()))
+    }
+}
+
+/// Whether nothing is there, or permission closes it. No file has a zero byte in its path.
+fn is_missing(path: &str, error: &io::Error) -> bool {
+    path.as_bytes().contains(&0)
+        || matches!(
+            error.kind(),
+            io::ErrorKind::NotFound
+                | io::ErrorKind::PermissionDenied
+                | io::ErrorKind::NotADirectory
+        )
 }
 
 /// What stands there. A link is an `Other`.
-fn found_of(metadata: &fs::Metadata) -> Found {
+fn found_of(metadata: &Metadata) -> Found {
     if metadata.is_file() {
         return Found {
             kind: EntryKind::File,
@@ -42,71 +69,81 @@ fn found_of(metadata: &fs::Metadata) -> Found {
     Found { kind, length: 0 }
 }
 
-impl<R: Drop, A: Allocator + Copy> RealFolders<R, A> {
-    pub fn new(rt: R, alloc: A) -> RealFolders<R, A> {
-        RealFolders {
-            rt,
-            alloc,
-            failures: 0,
-        }
-    }
-
-    /// The refusal of a call that failed so. Want of memory is no failure of the system.
-    fn refusal(&mut self, kind: io::ErrorKind) -> Error<A>
-        ensures counted { self.old.failures ≤ self.new.failures }
-        ensures err { IsRefusal result self.old.failures self.new.failures }
-    {
-        if kind == io::ErrorKind::OutOfMemory {
-            return Error::out_of_memory(self.alloc);
-        }
-        self.failures = self.failures.saturating_add(1);
-        Error::new(self.alloc, ErrorKind::Io(kind))
-    }
-}
-
-impl<A: Allocator + Copy, R: Files + Alloc + Clone + Drop> Folders<A> for RealFolders<R, A> {
+impl<R: Files + Alloc + Clone + Drop, A: Allocator + Copy> Folders<A> for RealFolders<R, A> {
     ghost told = { λ _. None };
 
     ghost failed = { λ s. s.failures };
 
     fn look(&mut self, path: &PathBuf<A>) -> Result<Option<Found>, Error<A>> {
-        let text = path.to_text()?;
-        match fs::symlink_metadata(&self.rt, text.as_str()) {
+        match fs::symlink_metadata(&self.rt, path.as_str()) {
             Ok(metadata) => Ok(Some(found_of(&metadata))),
-            Err(e) if is_missing(e.kind()) => Ok(None),
-            Err(e) => Err(self.refusal(e.kind())),
+            Err(error) if is_missing(path.as_str(), &error) => Ok(None),
+            Err(error) => Err(self.refusal(&error)),
         }
     }
 
     fn names(&mut self, path: &PathBuf<A>) -> Result<Option<Vec<String<A>, A>>, Error<A>> {
-        let text = path.to_text()?;
-        let mut names = Vec::new(self.alloc);
-        let entries = match fs::read_dir(&self.rt, text.as_str()) {
-            Ok(entries) => entries,
-            // A folder that permission closes is shown as empty.
-            Err(e) if e.kind() == io::ErrorKind::PermissionDenied => return Ok(Some(names)),
-            Err(e) if is_missing(e.kind()) => return Ok(None),
-            Err(e) => return Err(self.refusal(e.kind())),
-        };
-        for entry in entries {
-            match entry {
-                Ok(entry) => {
-                    let Ok(name) = String::from_str(self.alloc, entry.file_name()) else {
-                        return Err(Error::out_of_memory(self.alloc));
-                    };
-                    let Ok(()) = names.push(name) else {
-                        return Err(Error::out_of_memory(self.alloc));
-                    };
-                }
-                // A name that is no text is left out.
-                Err(e) if e.kind() == io::ErrorKind::InvalidFilename => {}
-                Err(e) => return Err(self.refusal(e.kind())),
+        match fs::read_dir(&self.rt, path.as_str()) {
+            Ok(entries) => Ok(Some(self.read_names(entries)?)),
+            // A folder whose names permission closes is shown as empty.
+            Err(error) if error.kind() == io::ErrorKind::PermissionDenied => {
+                Ok(Some(Vec::new(self.alloc)))
             }
+            Err(error) if is_missing(path.as_str(), &error) => Ok(None),
+            Err(error) => Err(self.refusal(&error)),
         }
-        Ok(Some(names))
     }
 
     fn failures(&self) -> u64 {
         self.failures
     }
+}
+
+impl<R: Files + Alloc + Clone + Drop, A: Allocator + Copy> RealFolders<R, A> {
+    /// The names of these entries. One that is no text is left out.
+    fn read_names(&mut self, entries: ReadDir<R, R::A>) -> Result<Vec<String<A>, A>, Error<A>>
+        ensures counted { self.old.failures ≤ self.new.failures }
+        ensures err { IfErr result (λ e. IsRefusal e self.old.failures self.new.failures) }
+    {
+        let mut names = Vec::new(self.alloc);
+        for entry in entries {
+            self.add_entry(&mut names, entry)?;
+        }
+        Ok(names)
+    }
+
+    /// Adds the name of the entry.
+    fn add_entry(
+        &mut self,
+        names: &mut Vec<String<A>, A>,
+        entry: io::Result<DirEntry<R, R::A>>,
+    ) -> Result<(), Error<A>>
+        ensures counted { self.old.failures ≤ self.new.failures }
+        ensures err { IfErr result (λ e. IsRefusal e self.old.failures self.new.failures) }
+    {
+        match entry {
+            Ok(entry) => add_name(names, entry.file_name()),
+            Err(error) if error.kind() == io::ErrorKind::InvalidFilename => Ok(()),
+            Err(error) => Err(self.refusal(&error)),
+        }
+    }
+}
+
+/// Adds a copy of the name.
+fn add_name<A: Allocator + Copy>(
+    names: &mut Vec<String<A>, A>,
+    name: &str,
+) -> Result<(), Error<A>>
+    ensures { IfErr result (λ e. e ≡ out_of_memory) }
+{
+    let alloc = *names.allocator();
+    push_copy(names, name).map_err(|_| Error::out_of_memory(alloc))
+}
+
+fn push_copy<A: Allocator + Copy>(
+    names: &mut Vec<String<A>, A>,
+    name: &str,
+) -> Result<(), AllocError> {
+    names.push(String::from_str(*names.allocator(), name)?)?;
+    Ok(())
 }

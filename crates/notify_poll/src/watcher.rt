@@ -4,6 +4,7 @@ ghost use Rattle.notify_paths.specs.Errors.{out_of_memory};
 ghost use Rattle.notify_watch.specs.declared.config.WatcherKind.TheVariants as watcher_kind;
 ghost use Rattle.notify_poll.specs.Polled.{IsUnwatchError, IsWatchError};
 
+use crate::folders::Folders;
 use crate::polled::Polled;
 use crate::real::RealFolders;
 use notify_paths::error::Error;
@@ -77,10 +78,23 @@ impl<
             if stop.load(Ordering::SeqCst) {
                 return;
             }
-            let mut polled = polled.lock(rt);
-            polled.round(folders, handler);
+            locked_round(rt, polled, folders, handler);
         }
     }
+}
+
+/// One round, while the lock is held.
+fn locked_round<
+    D: Folders<A>,
+    F: EventHandler<Result<Event<A>, Error<A>>>,
+    R: Wait,
+    A: Allocator + Copy,
+>(rt: &R, polled: &Mutex<Polled<A>>, folders: &mut D, handler: &mut F)
+    requires { F.ready handler.old }
+    ensures { F.ready handler.new }
+{
+    let mut polled = polled.lock(rt);
+    polled.round(folders, handler);
 }
 
 impl<
