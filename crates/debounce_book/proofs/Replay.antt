@@ -1,8 +1,7 @@
 -- Steps of a book: its journal is one entry longer and stays legal, or nothing is written.
 use Rattle.std.proofs.Common.{◌≡◌, ◌∙◌, ℕ, List, [], ◌∷◌, ◌++◌, Bool, true, false, Option, Some, refl, sym, ap, subst, inl, inr}
 use Rattle.notify_paths.specs.Errors.{ErrorValue, ErrorKindValue, FullKind, MemoryKind}
-use Rattle.notify_types.specs.Event.{EventValue, Timed, first_of}
-use Rattle.notify_paths.specs.Path.{PathValue}
+use Rattle.notify_types.specs.Event.{EventValue}
 use Rattle.debounce_model.specs.declared.case.Case.{Case}
 use Rattle.debounce_model.specs.declared.case.Case.TheVariants.{Rescan, Creation, Removal, RenameFrom, RenameTo, Plain, Ignored}
 use Rattle.debounce_model.specs.declared.file_id.FileId.{FileId}
@@ -12,7 +11,7 @@ use Rattle.debounce_model.specs.Run.{Step}
 use Rattle.debounce_model.specs.State.{State, Core, empty_state}
 use Rattle.debounce_model.specs.Step.{IsRefusedFor}
 use Rattle.debounce_model.specs.Table.{case_of, taken_as, event_step, raised_event}
-use Rattle.debounce_book.specs.Book.{Kept, entry_of, full, IsFull, IsDone, IsNotDone, Steps}
+use Rattle.debounce_book.specs.Book.{entry_of, full, IsFull, IsDone, IsNotDone, Steps}
 use Rattle.debounce_book.specs.Journal.{EntryValue, Accepts, Replays, IsLegal, IsJournal}
 use Rattle.debounce_book.specs.Written.{Foretells, IsDraft, IsNoDraft, is_refused, with_answer, entered}
 

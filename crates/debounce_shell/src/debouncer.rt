@@ -144,9 +144,7 @@ fn start<
     requires ready { F.ready handler }
     requires takes { (feed : _) → T.takes feed }
 {
-    let start = start_of(&shared.rt, shared.alloc)?;
-    let feed = Feed::new(&shared, start)?;
-    let worker = start_worker(&shared, handler, Pace { start, tick })?;
+    let (feed, worker) = start_fed(&shared, tick, handler)?;
     match start_watcher(shared.rt, shared.alloc, feed, config) {
         Ok(watcher) => Ok(Debouncer {
             watcher,
@@ -158,6 +156,25 @@ fn start<
             Err(error)
         }
     }
+}
+
+/// Starts the worker, and makes the feed, which counts from the same start.
+fn start_fed<
+    F: DebounceEventHandler<DebounceEventResult<A>>,
+    C: FileIdCache<A> + Drop + Send + 'static,
+    R: Threads + Wait + Clock + Copy + Send + Sync + 'static,
+    A: Allocator + Copy + Send + Sync + 'static,
+>(
+    shared: &Shared<C, R, A>,
+    tick: Duration,
+    handler: F,
+) -> Result<(Feed<C, R, A>, JoinHandle<()>), Error<A>>
+    requires { F.ready handler }
+{
+    let start = start_of(&shared.rt, shared.alloc)?;
+    let feed = Feed::new(shared, start)?;
+    let worker = start_worker(shared, handler, Pace { start, tick })?;
+    Ok((feed, worker))
 }
 
 /// Starts the debouncer's own thread.

@@ -1,5 +1,4 @@
 -- The journal is legal by the type of the book.
-use Rattle.std.proofs.Common.{refl}
 use Rattle.debounce_book.proofs.Replay.{IsJournal-empty, IsJournal-kept}
 use Rattle.debounce_book.proofs.book.Book.journal.Goals as goal
 
