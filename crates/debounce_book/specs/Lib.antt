@@ -1,5 +1,5 @@
 pub mod Book
-pub mod Equality
-pub mod EqualityLaws
+pub mod EntryEquality
+pub mod EntryEqualityLaws
 pub mod Journal
 pub mod Written

@@ -2,8 +2,8 @@
 ghost use Rattle.std.specs.Prelude.{◌≡◌, ◌↔◌, IfOk, IfErr, IsTrue};
 ghost use Rattle.std.specs.Cmp.{partial_equiv_from_equiv};
 ghost use Rattle.notify_paths.specs.Errors.{out_of_memory};
-ghost use Rattle.debounce_book.specs.Equality.{entry_eq};
-ghost use Rattle.debounce_book.specs.EqualityLaws.{entry_eq_equiv};
+ghost use Rattle.debounce_book.specs.EntryEquality.{entry_eq};
+ghost use Rattle.debounce_book.specs.EntryEqualityLaws.{entry_eq_equiv};
 
 use debounce_model::command::{Command, Reply};
 use notify_paths::error::Error;

@@ -36,3 +36,11 @@ pub use Rattle.debounce_model.specs.Founded
 pub use Rattle.debounce_model.specs.Honest
 pub use Rattle.debounce_model.specs.PathsLaw
 pub use Rattle.debounce_model.specs.Runs
+pub use Rattle.notify_watch.specs.Config
+pub use Rattle.debounce_book.specs.Journal
+pub use Rattle.debounce_book.specs.Book
+pub use Rattle.debounce_book.specs.EntryEquality
+pub use Rattle.debounce_shell.specs.Turn
+pub use Rattle.debounce_shell.specs.Start
+pub use Rattle.debounce_shell.specs.Watched
+pub use Rattle.debounce_threads.specs.Merged

@@ -17,10 +17,20 @@
 //! definitions that the contracts speak of are re-exported in `specs`.
 #![tactic(auto)]
 
+pub use debounce_book::book::{Book, command_step};
+pub use debounce_book::entry::Entry;
+pub use debounce_book::steps::{Ticked, feed_step, root_step, tick_step, unroot_step};
 pub use debounce_core::data::DebounceDataInner;
 pub use debounce_core::emit::sort_events;
 pub use debounce_model::command::{Command, Reply};
 pub use debounce_model::file_id::FileId;
+pub use debounce_shell::debouncer::{Debouncer, new_debouncer_opt, new_journaled_debouncer};
+pub use debounce_shell::gate::{Gate, feed_one, turn};
+pub use debounce_shell::handler::{DebounceEventHandler, DebounceEventResult};
+pub use debounce_shell::send_to::SendTo;
+pub use debounce_shell::{Feed, now};
+pub use debounce_threads::meet::{Meet, NoMeet};
+pub use debounce_threads::run::run_threads;
 pub use event_queue::queue::Queue;
 pub use file_id_cache::cache::{FileIdCache, NoCache};
 pub use notify_paths::error::{Error, ErrorKind};
@@ -32,6 +42,9 @@ pub use notify_types::kind::{
     RemoveKind, RenameMode,
 };
 pub use notify_types::time::{Moment, age};
+pub use notify_watch::config::{Config, WatcherKind};
+pub use notify_watch::handler::EventHandler;
+pub use notify_watch::watcher::{Task, Watcher, start_task};
 
 /// The cache that fits most programs: it holds nothing, so renames are joined by their trackers alone.
 pub type RecommendedCache = NoCache;

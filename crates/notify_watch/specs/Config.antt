@@ -6,8 +6,8 @@ use Rattle.notify_paths.specs.Errors.{ErrorValue, IoKind}
 use Rattle.notify_watch.specs.declared.config.Config.{Config}
 
 -- a poll each second
-abbrev pub is_default_config : Config → Type 0
-is_default_config config = as_nanos config.poll_interval ≡ 1000000000
+abbrev pub IsDefaultConfig : Config → Type 0
+IsDefaultConfig config = as_nanos config.poll_interval ≡ 1000000000
 
 -- a thread could not be started
 abbrev pub not_started : ErrorValue

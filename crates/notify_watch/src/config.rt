@@ -1,6 +1,6 @@
 //! What a watcher is told when it is made, and what kinds of watchers there are.
 ghost use Rattle.std.specs.Prelude.{◌≡◌};
-ghost use Rattle.notify_watch.specs.Config.{is_default_config};
+ghost use Rattle.notify_watch.specs.Config.{IsDefaultConfig};
 
 use std::time::Duration;
 
@@ -11,7 +11,7 @@ pub struct Config {
 }
 
 impl Default for Config {
-    ghost is_default = { is_default_config };
+    ghost is_default = { IsDefaultConfig };
 
     /// Returns the settings of most programs: a poll each second.
     fn default() -> Config {

@@ -1,4 +1,4 @@
--- Equality of entries of a journal. The test decides whether two entries are one (`EqualityLaws`).
+-- Equality of entries of a journal. The test decides whether two entries are one (`EntryEqualityLaws`).
 use Rattle.std.specs.Prelude.{Bool, ◌&&◌, ◌==◌}
 use Rattle.debounce_model.specs.Equality.{command_eq, reply_eq}
 use Rattle.debounce_book.specs.Journal.{EntryValue}

@@ -4,7 +4,7 @@ use Rattle.std.specs.Bool.{Decides}
 use Rattle.std.specs.Cmp.{IsEquivalence, decided, unsigned_Decides}
 use Rattle.std.proofs.lemmas.Bool.Decides.{Decides-and, Decides-like}
 use Rattle.debounce_model.specs.EqualityLaws.{command_eq_decides, reply_eq_decides}
-use Rattle.debounce_book.specs.Equality.{entry_eq}
+use Rattle.debounce_book.specs.EntryEquality.{entry_eq}
 use Rattle.debounce_book.specs.Journal.{EntryValue}
 
 -- the test of entries decides whether they are one
