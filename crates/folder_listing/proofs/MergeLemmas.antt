@@ -14,7 +14,7 @@ use Rattle.debounce_model.specs.Honest.{has_folders}
 use Rattle.debounce_model.proofs.Entries.{same_entries, sorted-insert_entry}
 use Rattle.folder_listing.specs.declared.entry.Found.{Found}
 use Rattle.folder_listing.specs.Listing.{ListingValue, entry_at, has_entry, is_nonempty, IsListing}
-use Rattle.folder_listing.specs.Merged.{IsMerged, put_over}
+use Rattle.folder_listing.specs.MergedListings.{IsMerged, put_over}
 use Rattle.folder_listing.proofs.PairLemmas.{entry_at-above}
 use Rattle.folder_listing.proofs.BehindLemmas.{at-same}
 use Rattle.folder_listing.proofs.WalkLemmas.{has_entry-some}

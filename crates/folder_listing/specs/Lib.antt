@@ -3,4 +3,4 @@ pub mod Changes
 pub mod Pairs
 pub mod Parents
 pub mod Near
-pub mod Merged
+pub mod MergedListings

@@ -7,7 +7,7 @@ ghost use Rattle.notify_paths.specs.Errors.{out_of_memory};
 ghost use Rattle.notify_paths.specs.Path.{PathValue, path_cmp};
 ghost use Rattle.debounce_model.specs.Honest.{has_folders};
 ghost use Rattle.folder_listing.specs.Listing.{IsListing, entry_at, has_entry, is_nonempty, listing_of, put_all, HasLast};
-ghost use Rattle.folder_listing.specs.Merged.{IsMerged, put_over};
+ghost use Rattle.folder_listing.specs.MergedListings.{IsMerged, put_over};
 ghost use Rattle.folder_listing.specs.Near.{seen};
 ghost use Rattle.folder_listing.specs.Parents.{has_parent, have_parents};
 

@@ -5,7 +5,7 @@ use Rattle.notify_paths.specs.Errors.{ErrorValue, ErrorKindValue, GenericKind, I
 use Rattle.notify_paths.specs.Path.{PathValue, path_eq}
 use Rattle.notify_types.specs.declared.event.RecursiveMode.{RecursiveMode}
 use Rattle.folder_listing.specs.Listing.{ListingValue, has_entry}
-use Rattle.folder_listing.specs.Merged.{IsMerged}
+use Rattle.folder_listing.specs.MergedListings.{IsMerged}
 use Rattle.folder_listing.specs.Near.{seen}
 use Rattle.notify_poll.specs.Folders.{IsTree, shown, IsRefusal}
 

@@ -1,5 +1,5 @@
 use Rattle.std.proofs.Common.{◌≡◌, length}
-use Rattle.folder_listing.specs.Merged.{put_over}
+use Rattle.folder_listing.specs.MergedListings.{put_over}
 use Rattle.folder_listing.proofs.listing.put_over.Given as goal
 
 abbrev pub decreases-loop-path : goal.decreases-loop-path

@@ -1,6 +1,6 @@
 use Rattle.std.proofs.Common.{sym, subst}
 use Rattle.folder_listing.specs.Listing.{IsListing}
-use Rattle.folder_listing.specs.Merged.{IsMerged}
+use Rattle.folder_listing.specs.MergedListings.{IsMerged}
 use Rattle.folder_listing.proofs.MergeLemmas.{merged, merged_listing}
 use Rattle.folder_listing.proofs.listing.Listing.merged.Goals as goal
 

@@ -1,6 +1,6 @@
 use Rattle.std.proofs.Common.{◌∙◌, ap, sym, subst}
 use Rattle.folder_listing.specs.Listing.{IsListing}
-use Rattle.folder_listing.specs.Merged.{put_over}
+use Rattle.folder_listing.specs.MergedListings.{put_over}
 use Rattle.folder_listing.proofs.MergeLemmas.{copied}
 use Rattle.folder_listing.proofs.listing.Listing.try_clone.Goals as goal
 
