@@ -3,13 +3,14 @@
 use fake_folders::tree::TreeFolders;
 use folder_listing::entry::EntryKind;
 use folder_listing::listing::Listing;
-use notify_paths::error::Error;
+use notify_paths::error::{Error, ErrorKind};
 use notify_paths::path::PathBuf;
 use notify_types::event::{Event, RecursiveMode};
 use notify_watch::handler::EventHandler;
 use refusing_allocator::Refusing;
-use std::alloc::{Allocator, Global};
+use std::alloc::{AllocError, Allocator, Global};
 use std::fmt::Debug;
+use std::mem::replace;
 use std::process::Abort;
 
 pub type Heap = &'static Refusing<Global>;
@@ -61,22 +62,14 @@ fn number(rt: &impl Abort, text: &str) -> u64 {
     }
 }
 
-pub fn listing<A: Allocator + Copy + Debug>(
-    rt: &impl Abort,
-    alloc: A,
-    text: &str,
-) -> Listing<A> {
+pub fn listing<A: Allocator + Copy + Debug>(rt: &impl Abort, alloc: A, text: &str) -> Listing<A> {
     Listing::from_entries(alloc, entries(rt, alloc, text))
         .expect(rt, "memory")
         .expect(rt, text)
 }
 
 /// Folders that hold the entries of a text.
-pub fn tree<A: Allocator + Copy + Debug>(
-    rt: &impl Abort,
-    alloc: A,
-    text: &str,
-) -> TreeFolders<A> {
+pub fn tree<A: Allocator + Copy + Debug>(rt: &impl Abort, alloc: A, text: &str) -> TreeFolders<A> {
     TreeFolders::new(alloc, listing(rt, alloc, text)).expect(rt, text)
 }
 
@@ -84,46 +77,47 @@ pub fn tree<A: Allocator + Copy + Debug>(
 pub fn text_of(rt: &(impl Abort + AllocGlobal), events: &[Event]) -> String {
     let mut text = String::new(rt.alloc());
     for event in events {
-        add_event(rt, &mut text, event);
+        add_event(&mut text, event).expect(rt, "memory");
     }
     text
 }
 
 /// Adds what the event says.
-pub fn add_event<A: Allocator>(rt: &impl Abort, text: &mut String, event: &Event<A>) {
-    add(rt, text, event.kind.word());
+fn add_event<A: Allocator>(text: &mut String, event: &Event<A>) -> Result<(), AllocError> {
+    add(text, event.kind.word())?;
     for place in &event.paths {
-        text.push(' ').expect(rt, "memory");
-        text.push_str(place.as_str()).expect(rt, "memory");
+        text.push(' ')?;
+        text.push_str(place.as_str())?;
     }
+    Ok(())
 }
 
 /// Adds the words, after a comma if there are others.
-fn add(rt: &impl Abort, text: &mut String, words: &str) {
+fn add(text: &mut String, words: &str) -> Result<(), AllocError> {
     if !text.is_empty() {
-        text.push_str(", ").expect(rt, "memory");
+        text.push_str(", ")?;
     }
-    text.push_str(words).expect(rt, "memory");
+    text.push_str(words)
 }
 
-/// A handler that notes what it is called with.
+/// A handler that notes what it is called with. A note that finds no memory is lost, and the test that
+/// reads the notes fails.
 #[derive(Drop)]
 pub struct Notes {
-    rt: HostRuntime,
-    pub text: String,
+    text: String,
 }
 
 impl Notes {
-    pub fn new(rt: HostRuntime) -> Notes {
+    pub fn new(rt: &impl AllocGlobal) -> Notes {
         Notes {
-            rt,
             text: String::new(rt.alloc()),
         }
     }
 
     /// Returns the notes since the last time.
     pub fn take(&mut self) -> String {
-        std::mem::replace(&mut self.text, String::new(self.rt.alloc()))
+        let alloc = *self.text.allocator();
+        replace(&mut self.text, String::new(alloc))
     }
 }
 
@@ -136,12 +130,13 @@ impl<A: Allocator + 'static> EventHandler<Result<Event<A>, Error<A>>> for Notes 
         ensures again { Unit {0} }
         ensures handled { Unit {0} }
     {
-        match event {
-            Ok(event) => add_event(&self.rt, &mut self.text, &event),
-            Err(error) => {
-                let word = format!(in self.rt.alloc(); "error {}", error.kind).expect(&self.rt, "memory");
-                add(&self.rt, &mut self.text, word.as_str());
-            }
-        }
+        let _ = match event {
+            Ok(event) => add_event(&mut self.text, &event),
+            Err(error) => match error.kind {
+                ErrorKind::Memory => add(&mut self.text, "error Memory"),
+                ErrorKind::Io(_) => add(&mut self.text, "error Io"),
+                _ => add(&mut self.text, "another error"),
+            },
+        };
     }
 }

@@ -60,7 +60,11 @@ fn the_last_entry_of_a_path_counts(rt: HostRuntime) {
 
 #[test]
 fn a_listing_keeps_what_a_root_shows(rt: HostRuntime) {
-    let mut made = listing(&rt, rt.alloc(), "/ folder, /d folder, /d/x folder, /d/x/y file 1, /e file 2");
+    let mut made = listing(
+        &rt,
+        rt.alloc(),
+        "/ folder, /d folder, /d/x folder, /d/x/y file 1, /e file 2",
+    );
     let place = path(&rt, rt.alloc(), "/d");
     let roots = vec![in rt.alloc(); (place, RecursiveMode::NonRecursive)].expect(&rt, "memory");
     made.keep_seen(roots.as_slice());

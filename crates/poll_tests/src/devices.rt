@@ -1,4 +1,6 @@
 //! Folders that fail, and folders that go missing.
+ghost use Rattle.std.specs.Prelude.{None};
+
 use crate::build::{Notes, root, text_of, tree};
 use fake_folders::failing::FailingFolders;
 use fake_folders::tree::TreeFolders;
@@ -22,7 +24,10 @@ const ALL_CREATED: &str =
 /// A look at each entry, and the names of each folder.
 const CALLS: u64 = 9;
 
-fn failing(rt: &(impl Abort + AllocGlobal), call: u64) -> FailingFolders<std::alloc::Global, TreeFolders<std::alloc::Global>> {
+fn failing(
+    rt: &(impl Abort + AllocGlobal),
+    call: u64,
+) -> FailingFolders<std::alloc::Global, TreeFolders<std::alloc::Global>> {
     FailingFolders::new(rt.alloc(), tree(rt, rt.alloc(), SIX), call)
 }
 
@@ -33,7 +38,10 @@ fn a_failed_call_fails_the_listing(rt: HostRuntime) {
         let mut folders = failing(&rt, call);
         let refused = list(rt.alloc(), &mut folders, roots.as_slice());
         let wanted = Err(Error::new(rt.alloc(), ErrorKind::Io(io::ErrorKind::Other)));
-        assert!(rt; refused.map(|_| ()) == wanted && folders.failures() == 1, "{call}");
+        assert!(rt;
+            refused.map(|_| ()) == wanted && folders.failures() == 1,
+            "{call}"
+        );
     }
     let mut folders = failing(&rt, CALLS);
     let listed = list(rt.alloc(), &mut folders, roots.as_slice()).expect(&rt, "no call fails");
@@ -43,21 +51,41 @@ fn a_failed_call_fails_the_listing(rt: HostRuntime) {
 #[test]
 fn a_failed_round_reports_its_error_and_nothing_else(rt: HostRuntime) {
     for call in 0..CALLS {
-        check_failed_round(rt, call);
+        check_failed_round(&rt, call);
     }
 }
 
 /// The first round fails at this call, and the second one reports everything.
-fn check_failed_round(rt: HostRuntime, call: u64) {
-    let roots = root(&rt, rt.alloc(), "/");
-    let mut folders = failing(&rt, call);
+fn check_failed_round(rt: &(impl Abort + AllocGlobal), call: u64) {
+    let roots = root(rt, rt.alloc(), "/");
+    let mut folders = failing(rt, call);
     let mut last = Listing::new(rt.alloc());
     let mut notes = Notes::new(rt);
-    let first = poll_round(rt.alloc(), &mut folders, roots.as_slice(), &mut last, &mut notes);
+    let first = poll_round(
+        rt.alloc(),
+        &mut folders,
+        roots.as_slice(),
+        &mut last,
+        &mut notes,
+    );
     let left = last.len();
-    assert_eq!(rt; (first, left, notes.take().as_str()), (false, 0, "error Io"), "{call}");
-    let second = poll_round(rt.alloc(), &mut folders, roots.as_slice(), &mut last, &mut notes);
-    assert_eq!(rt; (second, last.len(), notes.take().as_str()), (true, 6, ALL_CREATED), "{call}");
+    assert_eq!(rt;
+        (first, left, notes.take().as_str()),
+        (false, 0, "error Io"),
+        "{call}"
+    );
+    let second = poll_round(
+        rt.alloc(),
+        &mut folders,
+        roots.as_slice(),
+        &mut last,
+        &mut notes,
+    );
+    assert_eq!(rt;
+        (second, last.len(), notes.take().as_str()),
+        (true, 6, ALL_CREATED),
+        "{call}"
+    );
 }
 
 /// Folders of which one goes missing after it was looked at.
