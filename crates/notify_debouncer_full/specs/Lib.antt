@@ -46,3 +46,10 @@ pub use Rattle.debounce_gate.specs.Turn
 pub use Rattle.debounce_shell.specs.Start
 pub use Rattle.debounce_shell.specs.Watched
 pub use Rattle.debounce_threads.specs.Merged
+pub use Rattle.folder_listing.specs.Listing
+pub use Rattle.folder_listing.specs.Changes
+pub use Rattle.folder_listing.specs.Near
+pub use Rattle.folder_listing.specs.MergedListings
+pub use Rattle.notify_poll.specs.Folders
+pub use Rattle.notify_poll.specs.Rounds
+pub use Rattle.notify_poll.specs.Polled

@@ -20,6 +20,8 @@
 //! definitions that the contracts speak of are re-exported in `specs`.
 #![tactic(auto)]
 
+mod recommended;
+
 pub use debounce_book::book::{Book, command_step};
 pub use debounce_book::entry::Entry;
 pub use debounce_book::steps::{Ticked, feed_step, root_step, tick_step, unroot_step};
@@ -38,10 +40,19 @@ pub use event_queue::queue::Queue;
 pub use file_id_cache::cache::{FileIdCache, NoCache};
 pub use file_id_cache::file_id_map::FileIdMap;
 pub use file_id_cache::scan::Scan;
+pub use folder_listing::compare::compare;
+pub use folder_listing::entry::{EntryKind, Found};
+pub use folder_listing::listing::Listing;
 pub use folder_scan::folder_scan::FolderScan;
 pub use notify_paths::error::{Error, ErrorKind};
-pub use notify_paths::part::{Folders, Part, Parts};
+pub use notify_paths::part::{Folders as FoldersAbove, Part, Parts};
 pub use notify_paths::path::PathBuf;
+pub use notify_poll::folders::Folders;
+pub use notify_poll::list::list;
+pub use notify_poll::polled::Polled;
+pub use notify_poll::real::RealFolders;
+pub use notify_poll::round::poll_round;
+pub use notify_poll::watcher::{PollTask, PollWatcher};
 pub use notify_types::event::{DebouncedEvent, Event, EventAttributes, Flag, RecursiveMode};
 pub use notify_types::kind::{
     AccessKind, AccessMode, CreateKind, DataChange, EventKind, MetadataKind, ModifyKind,
@@ -51,6 +62,4 @@ pub use notify_types::time::{Moment, age};
 pub use notify_watch::config::{Config, WatcherKind};
 pub use notify_watch::handler::EventHandler;
 pub use notify_watch::watcher::{Task, Watcher, start_task};
-
-/// The cache that fits most programs: it holds nothing, so renames are joined by their trackers alone.
-pub type RecommendedCache = NoCache;
+pub use recommended::{RecommendedCache, RecommendedWatcher, new_debouncer};
