@@ -4,7 +4,7 @@ ghost use Rattle.debounce_shell.specs.Start.{IsTooSlow, too_slow};
 
 use debounce_shell::Feed;
 use debounce_shell::debouncer::{Debouncer, new_debouncer_opt};
-use debounce_shell::handler::{DebounceEventHandler, DebounceEventResult};
+use debounce_gate::handler::{DebounceEventHandler, DebounceEventResult};
 use file_id_cache::cache::NoCache;
 use notify_paths::error::Error;
 use notify_poll::watcher::PollWatcher;

@@ -11,6 +11,8 @@ mod devices;
 #[cfg(test)]
 mod memory;
 #[cfg(test)]
+mod readme;
+#[cfg(test)]
 mod real;
 #[cfg(test)]
 mod rounds;
