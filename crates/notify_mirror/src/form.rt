@@ -2,17 +2,20 @@
 ghost use Rattle.std.specs.Prelude.{◌≡◌, map, is_some};
 ghost use Rattle.std.specs.String.{string_bytes};
 ghost use Rattle.notify_mirror.specs.FormView.{form_values};
-ghost use Rattle.notify_mirror.specs.Usage.{form_of};
+ghost use Rattle.notify_mirror.specs.Usage.{form_of, ticks_of};
 
+use mirror_script::read_number;
 use std::alloc::Allocator;
 
-/// A form of the program `mirror`, with the name of a script's file.
+/// A form of the program `mirror`.
 #[derive(Clone, Copy, Debug, PartialEq, Eq)]
 pub enum Form<'a> {
     /// `mirror SCRIPT`: the script is run.
     Run(&'a str),
     /// `mirror --check SCRIPT`: it is run, and its stream is checked.
     Check(&'a str),
+    /// `mirror --watch DIR TICKS`: the folder is watched for so many ticks of a quarter of a second.
+    Watch(&'a str, u64),
 }
 
 impl<'a> Form<'a> {
@@ -24,12 +27,28 @@ impl<'a> Form<'a> {
         match words {
             [name] if !name.as_str().starts_with("--") => Some(Form::Run(name.as_str())),
             [form, name] if form.as_str() == "--check" => Some(Form::Check(name.as_str())),
+            [form, folder, ticks] if form.as_str() == "--watch" => {
+                let ticks = ticks_of(ticks.as_str())?;
+                Some(Form::Watch(folder.as_str(), ticks))
+            }
             _ => None,
         }
     }
 }
 
-/// Whether these words, which follow the program's name, ask for a run.
+/// The number of ticks that the word writes, if it is one from 1 to 100000.
+fn ticks_of(word: &str) -> Option<u64>
+    ensures { result ≡ ticks_of word.now }
+{
+    let ticks = read_number(word)?;
+    if 0 < ticks && ticks < 100_001 {
+        Some(ticks as u64)
+    } else {
+        None
+    }
+}
+
+/// Whether these words, which follow the program's name, ask for a form of the program.
 pub fn usage_ok<A: Allocator>(words: &[String<A>]) -> bool
     ensures { result ≡ is_some (form_of (map string_bytes words.now)) }
 {
