@@ -30,8 +30,11 @@ pub fn root<A: Allocator + Copy + Debug>(
     alloc: A,
     text: &str,
 ) -> Vec<(PathBuf<A>, RecursiveMode), A> {
-    let place = path(rt, alloc, text);
-    vec![in alloc; (place, RecursiveMode::Recursive)].expect(rt, "memory")
+    let mut roots = Vec::new(alloc);
+    roots
+        .push((path(rt, alloc, text), RecursiveMode::Recursive))
+        .expect(rt, "memory");
+    roots
 }
 
 /// The entries of a text, as `/ folder, /f file 3`.

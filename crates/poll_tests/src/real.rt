@@ -7,10 +7,10 @@ use std::fs::Permissions;
 use std::os::unix::fs::{PermissionsExt, symlink};
 use std::process::Abort;
 use std::test::Fail;
-use std::{env, fs, process};
+use std::{env, fs, io, process};
 
 /// A new folder of this test.
-fn new_folder(rt: HostRuntime, name: &str) -> Result<String, Fail> {
+pub fn new_folder(rt: HostRuntime, name: &str) -> io::Result<String> {
     let base = env::temp_dir(&rt)?;
     let number = process::id(rt.process());
     let top = format!(in rt.alloc(); "{}/poll_tests_{number}_{name}", base.as_str())?;
@@ -108,16 +108,27 @@ fn is_not_found(rt: HostRuntime, text: &str) -> Result<bool, Error> {
     Ok(answer == Err(not_found) && folders.failures() == 0 && polled.roots().is_empty())
 }
 
+/// Which of these paths below the folder are found, as far as a watch says.
+fn find(rt: HostRuntime, top: &str, names: &[&str]) -> Result<usize, Fail> {
+    let mut found = 0usize;
+    for name in names {
+        let text = format!(in rt.alloc(); "{top}{name}")?;
+        if !is_not_found(rt, text.as_str())? {
+            found = found.saturating_add(1);
+        }
+    }
+    Ok(found)
+}
+
 #[test]
 fn what_is_missing_is_not_watched(rt: HostRuntime) -> Result<(), Fail> {
     let top = new_folder(rt, "missing")?;
     change(rt, top.as_str(), "file f abc")?;
-    for name in ["/nothing", "/f/below_a_file", "/\u{0}"] {
-        let text = format!(in rt.alloc(); "{top}{name}")?;
-        assert!(rt; is_not_found(rt, text.as_str()) == Ok(true), "{name}");
-    }
-    assert!(rt; is_not_found(rt, "") == Ok(true) && is_not_found(rt, top.as_str()) == Ok(false));
+    let missing = find(rt, top.as_str(), &["/nothing", "/f/below_a_file", "/\u{0}"])?;
+    let there = find(rt, top.as_str(), &["", "/f"])?;
     fs::remove_dir_all(&rt, top.as_str())?;
+    assert_eq!(rt; (missing, there), (0, 2));
+    assert!(rt; is_not_found(rt, "") == Ok(true));
     Ok(())
 }
 
@@ -169,15 +180,20 @@ fn report(rt: HostRuntime, watched: &mut Watched, top: &str) -> Result<String, F
     }
 }
 
+/// Makes the changes of a step, and returns what the next round reports.
+fn step(rt: HostRuntime, watched: &mut Watched, top: &str, commands: &str) -> Result<String, Fail> {
+    change(rt, top, commands)?;
+    report(rt, watched, top)
+}
+
 #[test]
 fn a_round_sees_what_is_there_and_nothing_in_between(rt: HostRuntime) -> Result<(), Fail> {
     let top = new_folder(rt, "rounds")?;
     let mut watched = begin(rt, top.as_str())?;
-    for step in STORY {
-        let (commands, wanted) = step.split_once(" => ").ok_or("a step has two sides")?;
-        change(rt, top.as_str(), commands)?;
-        let got = report(rt, &mut watched, top.as_str())?;
-        assert_eq!(rt; got.as_str(), wanted, "{step}");
+    for case in STORY {
+        let (commands, wanted) = case.split_once(" => ").expect(&rt, case);
+        let got = step(rt, &mut watched, top.as_str(), commands)?;
+        assert_eq!(rt; got.as_str(), wanted, "{case}");
     }
     fs::remove_dir_all(&rt, top.as_str())?;
     Ok(())

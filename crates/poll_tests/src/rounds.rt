@@ -1,12 +1,11 @@
 //! Rounds over trees in memory: polls, debouncer and reader together.
-use crate::build::{path, root, tree};
+use crate::build::{listing, path, root, tree};
 use notify_debouncer_full::{
     Command, DebounceDataInner, DebouncedEvent, Error, Event, EventHandler, Listing, NoCache,
     PathBuf, Reply, poll_round,
 };
 use path_sets::PathSet;
 use std::alloc::Global;
-use std::mem::replace;
 use std::process::Abort;
 
 /// A handler that gives each event to a debouncer at a moment. One that it can't take is lost, and the
@@ -114,34 +113,19 @@ fn check_paths(rt: &(impl Abort + AllocGlobal), paths: Vec<PathBuf>, text: &str)
     assert_eq!(rt; paths.len(), text.split(", ").count(), "{text}");
 }
 
-#[test]
-fn a_folder_becomes_a_file(rt: HostRuntime) {
-    let mut last = Listing::new(rt.alloc());
-    let mut feeds = new_feeds(&rt);
-    poll(&rt, &mut last, &mut feeds, "/ folder, /d folder", 0);
-    let _before = replace(&mut feeds, new_feeds(&rt));
+/// A folder gets a file and then becomes one. Returns what a tick hands out of it.
+fn folder_becomes_a_file(rt: &(impl Abort + AllocGlobal)) -> Vec<DebouncedEvent> {
+    let mut last = listing(rt, rt.alloc(), "/ folder, /d folder");
+    let mut feeds = new_feeds(rt);
     poll(
-        &rt,
+        rt,
         &mut last,
         &mut feeds,
         "/ folder, /d folder, /d/f file 2",
         0,
     );
-    poll(&rt, &mut last, &mut feeds, "/ folder, /d file 5", 10);
-    let batch = tick(&rt, &mut feeds, 100);
-    check_batch(&rt, batch.as_slice());
-    let mut reader = PathSet::new(rt.alloc());
-    for place in ["/", "/d"] {
-        reader
-            .insert(path(&rt, rt.alloc(), place))
-            .expect(&rt, "memory");
-    }
-    reader.play(batch.as_slice()).expect(&rt, "memory");
-    check_paths(
-        &rt,
-        reader.to_list().expect(&rt, "memory"),
-        "/ folder, /d file 5",
-    );
+    poll(rt, &mut last, &mut feeds, "/ folder, /d file 5", 10);
+    tick(rt, &mut feeds, 100)
 }
 
 fn check_batch(rt: &impl Abort, batch: &[DebouncedEvent]) {
@@ -153,4 +137,19 @@ fn check_batch(rt: &impl Abort, batch: &[DebouncedEvent]) {
         (words, [first.time, second.time]),
         (["Remove(Folder)", "Create(File)"], [10, 10])
     );
+}
+
+#[test]
+fn a_folder_becomes_a_file(rt: HostRuntime) {
+    let batch = folder_becomes_a_file(&rt);
+    check_batch(&rt, batch.as_slice());
+    let mut reader = PathSet::new(rt.alloc());
+    for place in ["/", "/d"] {
+        reader
+            .insert(path(&rt, rt.alloc(), place))
+            .expect(&rt, "memory");
+    }
+    reader.play(batch.as_slice()).expect(&rt, "memory");
+    let paths = reader.to_list().expect(&rt, "memory");
+    check_paths(&rt, paths, "/ folder, /d file 5");
 }

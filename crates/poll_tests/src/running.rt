@@ -1,15 +1,15 @@
 //! A debouncer that polls, and its watcher.
 use crate::build::path;
+use crate::real::new_folder;
 use crossbeam_channel::{Receiver, unbounded};
 use notify_debouncer_full::{
-    Config, DebounceEventResult, Debouncer, PollWatcher, RecommendedCache, RecommendedWatcher,
-    RecursiveMode, SendTo, WatcherKind, new_debouncer,
+    Config, DebounceEventResult, Debouncer, RecommendedCache, RecommendedWatcher, RecursiveMode,
+    SendTo, WatcherKind, new_debouncer,
 };
+use std::fs;
 use std::process::Abort;
 use std::sync::Wait;
-use std::test::Fail;
 use std::time::{Clock, Duration};
-use std::{env, fs, process};
 
 type Polling = Debouncer<RecommendedWatcher<HostRuntime>, RecommendedCache, HostRuntime>;
 
@@ -38,12 +38,9 @@ fn is_received(
 }
 
 #[test]
-fn a_written_file_is_reported(rt: HostRuntime) -> Result<(), Fail> {
-    let base = env::temp_dir(&rt)?;
-    let number = process::id(rt.process());
-    let top = format!(in rt.alloc(); "{}/poll_tests_{number}_running", base.as_str())?;
-    fs::create_dir(&rt, top.as_str())?;
-    let (sender, receiver) = unbounded(rt.alloc())?;
+fn a_written_file_is_reported(rt: HostRuntime) {
+    let top = new_folder(rt, "running").expect(&rt, "a folder");
+    let (sender, receiver) = unbounded(rt.alloc()).expect(&rt, "memory");
     let handler = SendTo::new(rt, sender);
     let mut debouncer: Polling = new_debouncer(
         rt,
@@ -51,22 +48,27 @@ fn a_written_file_is_reported(rt: HostRuntime) -> Result<(), Fail> {
         Duration::from_millis(10),
         None,
         handler,
-    )?;
+    ).expect(&rt, "a debouncer");
     let place = path(&rt, rt.alloc(), top.as_str());
-    debouncer.watch(&place, RecursiveMode::Recursive)?;
-    let file = format!(in rt.alloc(); "{top}/file.txt")?;
-    fs::write(&rt, file.as_str(), "abc")?;
+    debouncer
+        .watch(&place, RecursiveMode::Recursive)
+        .expect(&rt, "the folder is there");
+    let file = format!(in rt.alloc(); "{top}/file.txt").expect(&rt, "memory");
+    fs::write(&rt, file.as_str(), "abc").expect(&rt, "a file is written");
     let received = is_received(&rt, &receiver, file.as_str());
-    let unwatched = debouncer.unwatch(&place).is_ok();
-    let again = debouncer.unwatch(&place).is_err();
-    let configured = debouncer.configure(Config::default())?;
+    let answers = [
+        debouncer.unwatch(&place).is_ok(),
+        debouncer.unwatch(&place).is_ok(),
+    ];
+    let configured = debouncer
+        .configure(Config::default())
+        .expect(&rt, "no refusal");
     let missed = debouncer.missed();
     debouncer.stop();
-    fs::remove_dir_all(&rt, top.as_str())?;
+    fs::remove_dir_all(&rt, top.as_str()).expect(&rt, "the folder is removed");
     assert_eq!(rt;
-        [received, unwatched, again, configured],
-        [true, true, true, false]
+        (received, answers, configured, missed),
+        (true, [true, false], false, 0)
     );
-    assert!(rt; missed == 0 && Polling::kind() == WatcherKind::PollWatcher);
-    Ok(())
+    assert!(rt; Polling::kind() == WatcherKind::PollWatcher);
 }
