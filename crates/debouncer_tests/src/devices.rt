@@ -25,6 +25,23 @@ impl Write for FailsAt {
     }
 }
 
+/// Takes every write, and fails when it is flushed.
+#[derive(Drop)]
+pub struct FailsAtFlush {
+    pub got: Vec<u8>,
+}
+
+impl Write for FailsAtFlush {
+    fn write(&mut self, buf: &[u8]) -> io::Result<usize> {
+        self.got.extend_from_slice(buf)?;
+        Ok(buf.len())
+    }
+
+    fn flush(&mut self) -> io::Result<()> {
+        Err(io::Error::from(ErrorKind::BrokenPipe))
+    }
+}
+
 /// Gives one byte a call, and fails in place of ending.
 #[derive(Drop)]
 pub struct Torn {

@@ -1,5 +1,5 @@
 //! Scripts over readers and writers in memory.
-use crate::devices::{FailsAt, Torn};
+use crate::devices::{FailsAt, FailsAtFlush, Torn};
 use linked_list_allocator::LocalHeap;
 use notify_mirror::{script_run, usage_ok};
 use std::alloc::Global;
@@ -126,6 +126,18 @@ fn stops_at_a_write_that_fails(rt: HostRuntime) {
     }
 }
 
+/// A device that takes every byte and then fails to keep them has failed.
+#[test]
+fn fails_with_its_last_flush(rt: HostRuntime) {
+    let mut reader = EXAMPLE.as_bytes();
+    let mut out = FailsAtFlush {
+        got: Vec::new(rt.alloc()),
+    };
+    let mut err = Vec::new(rt.alloc());
+    let status = script_run(rt.alloc(), "s", &mut reader, &mut out, &mut err);
+    assert_eq!(rt; (status, err.len(), out.got.as_slice()), (6, 0, PRINTED));
+}
+
 /// With too small a heap a run says so, and gives back what it took.
 #[test]
 fn says_that_memory_is_out(rt: HostRuntime) {
@@ -159,10 +171,16 @@ fn run_in(heap: &LocalHeap, alloc: Global) -> (u8, Vec<u8>, Vec<u8>) {
 
 #[test]
 fn knows_its_usage(rt: HostRuntime) {
-    for line in ["script", "-"] {
+    for line in ["script", "-", "--check script", "--check --script"] {
         assert!(rt; is_usage(&rt, line), "{line}");
     }
-    for line in ["", "script other", "--threads script", "--watch"] {
+    for line in [
+        "",
+        "script other",
+        "--check",
+        "--check script other",
+        "--watch",
+    ] {
         assert!(rt; !is_usage(&rt, line), "{line}");
     }
 }

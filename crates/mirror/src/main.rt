@@ -1,18 +1,27 @@
 //! The program `mirror`: it runs a script of file events on a debouncer, and prints what a reader of
-//! its batches sees. `mirror SCRIPT`.
+//! its batches sees. `mirror SCRIPT`, or `mirror --check SCRIPT`.
 #![tactic(auto)]
 
-use notify_mirror::{USAGE, script_run, usage_ok};
+use notify_mirror::{Fault, Form, check_run, script_run};
 use std::fs::File;
 use std::io::{ErrorKind, Read};
 use std::process::ExitCode;
 use std::{env, io};
 
-/// The script's file, or where it can't be opened a reader that fails.
+/// The script's file, or if it can't be opened a reader that fails.
 #[derive(Drop)]
 enum Source {
     Opened(File),
     Missing,
+}
+
+impl Source {
+    fn open(rt: &HostRuntime, name: &str) -> Source {
+        match File::open(rt, name) {
+            Ok(file) => Source::Opened(file),
+            Err(_) => Source::Missing,
+        }
+    }
 }
 
 impl Read for Source {
@@ -24,37 +33,44 @@ impl Read for Source {
     }
 }
 
-fn run_script(rt: &HostRuntime, name: &str) -> u8 {
-    let mut source = match File::open(rt, name) {
-        Ok(file) => Source::Opened(file),
-        Err(_) => Source::Missing,
-    };
-    script_run(
-        rt.alloc(),
-        name,
-        &mut source,
-        &mut rt.stdout(),
-        &mut rt.stderr(),
-    )
+/// Runs the form of the program that these words, which follow its name, ask for. Returns its status.
+fn run_form(rt: &HostRuntime, words: &[String]) -> u8 {
+    let alloc = rt.alloc();
+    let mut out = rt.stdout();
+    let mut err = rt.stderr();
+    match Form::of(words) {
+        Some(Form::Run(name)) => {
+            script_run(alloc, name, &mut Source::open(rt, name), &mut out, &mut err)
+        }
+        Some(Form::Check(name)) => {
+            check_run(alloc, name, &mut Source::open(rt, name), &mut out, &mut err)
+        }
+        None => refuse(rt, Fault::Usage),
+    }
 }
 
-fn words_of(rt: &HostRuntime) -> io::Result<Vec<String>> {
-    Ok(env::args(rt)?.collect(rt.alloc())?)
+/// Writes the fault's line, and returns its status.
+fn refuse(rt: &HostRuntime, fault: Fault) -> u8 {
+    let _ = fault.write("", &mut rt.stderr());
+    fault.status()
+}
+
+/// The program's words, its name first.
+fn words_of(rt: &HostRuntime) -> Result<Vec<String>, Fault> {
+    match env::args(rt) {
+        Ok(words) => Ok(words.collect(rt.alloc())?),
+        Err(error) if error.kind() == ErrorKind::InvalidData => Err(Fault::NotUtf8),
+        Err(_) => Err(Fault::Memory),
+    }
 }
 
 fn main(rt: HostRuntime) -> ExitCode {
-    let Ok(words) = words_of(&rt) else {
-        let _ = rt.eprintln("mirror: out of memory");
-        return ExitCode::from(4);
-    };
-    match words.as_slice() {
-        [_, words @ ..] if usage_ok(words) => match words {
-            [name, ..] => ExitCode::from(run_script(&rt, name.as_str())),
-            [] => ExitCode::from(2),
+    let status = match words_of(&rt) {
+        Ok(words) => match words.as_slice() {
+            [_, words @ ..] => run_form(&rt, words),
+            [] => refuse(&rt, Fault::Usage),
         },
-        _ => {
-            let _ = rt.eprintln(USAGE);
-            ExitCode::from(2)
-        }
-    }
+        Err(fault) => refuse(&rt, fault),
+    };
+    ExitCode::from(status)
 }

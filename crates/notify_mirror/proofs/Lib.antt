@@ -1,3 +1,3 @@
-pub mod Keys
-pub mod Numbers
-pub mod Lines
+pub mod Prints
+pub mod Endings
+pub mod Runs

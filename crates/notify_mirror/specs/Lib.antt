@@ -1,5 +1,7 @@
 pub mod Printed
-pub mod Script
-pub mod ScriptView
+pub mod Output
+pub mod Transcript
+pub mod PlayedView
+pub mod Ending
 pub mod Usage
-pub mod Faults
+pub mod FormView

@@ -1,13 +1,14 @@
 -- What a run prints: its lines, byte by byte.
-use Rattle.std.specs.Prelude.{ℕ, Option, Some, None, List, [], ◌∷◌, ◌++◌, codes}
+use Rattle.std.specs.Prelude.{ℕ, Bool, true, false, Option, Some, None, List, [], ◌∷◌, ◌++◌, length, codes}
 use Rattle.std.specs.Fmt.{decimal}
 use Rattle.std.specs.List.{join_with_byte}
-use Rattle.notify_paths.specs.Errors.{ErrorKindValue, GenericKind, IoKind, PathNotFoundKind, WatchNotFoundKind, FullKind, MemoryKind}
+use Rattle.notify_paths.specs.Errors.{ErrorValue, ErrorKindValue, GenericKind, IoKind, PathNotFoundKind, WatchNotFoundKind, FullKind, MemoryKind}
 use Rattle.notify_types.specs.Event.{AttributesValue, Timed}
 use Rattle.notify_types.specs.KindWords.{word_of}
 use Rattle.notify_paths.specs.Path.{PathValue}
 use Rattle.notify_paths.specs.PathText.{text_of}
 use Rattle.notify_types.specs.declared.event.Flag.{Flag}
+use Rattle.debounce_model.specs.Command.{CommandValue, TickCommand, ReplyValue, TakenReply, NotedReply, RootedReply, UnrootedReply, ErrorsReply, BatchReply, RefusedReply}
 
 -- ---- the fields of an event line
 
@@ -86,3 +87,48 @@ counts_line taken given waiting =
 -- a list of paths behind this word
 abbrev pub paths_line : List ℕ → List PathValue → List ℕ
 paths_line word paths = word ++ (path_fields paths ++ (10 ∷ []))
+
+-- ---- more than one line
+
+-- an event line for each event
+abbrev pub event_lines : List ℕ → List Timed → List ℕ
+event_lines word [] = []
+event_lines word (event ∷ events) = event_line word event ++ event_lines word events
+
+-- an error line for each error
+abbrev pub error_lines : List ErrorValue → List ℕ
+error_lines [] = []
+error_lines (error ∷ errors) = error_line error.kind ++ error_lines errors
+
+-- what a call for the errors prints
+abbrev pub errors_lines : List ErrorValue → List ℕ
+errors_lines errors = errors_line (length errors) ++ error_lines errors
+
+-- what the batch prints that a tick asked for
+abbrev pub batch_lines : CommandValue → List Timed → List ℕ
+batch_lines (TickCommand now) batch = batch_line now (length batch) ++ event_lines (codes "event") batch
+batch_lines command batch = []
+
+-- what a command prints by its reply
+abbrev pub reply_lines : CommandValue → ReplyValue → List ℕ
+reply_lines command (BatchReply batch) = batch_lines command batch
+reply_lines command (ErrorsReply errors) = errors_lines errors
+reply_lines command (RefusedReply error) = refused_line error.kind
+reply_lines command (TakenReply answer) = []
+reply_lines command NotedReply = []
+reply_lines command RootedReply = []
+reply_lines command UnrootedReply = []
+
+-- what the commands print by their replies, in order
+abbrev pub replies_lines : List CommandValue → List ReplyValue → List ℕ
+replies_lines (command ∷ commands) (reply ∷ replies) = reply_lines command reply ++ replies_lines commands replies
+replies_lines commands replies = []
+
+-- the answer to a question
+abbrev pub answer_word : Bool → List ℕ
+answer_word true = codes "yes"
+answer_word false = codes "no"
+
+-- the answer to the question that this word stands for
+abbrev pub answer_line : List ℕ → Bool → List ℕ
+answer_line word answer = word ++ (32 ∷ (answer_word answer ++ (10 ∷ [])))

@@ -1,21 +1,27 @@
--- A run that was played was read; and no status is two.
-use Rattle.std.proofs.Common.{◌≡◌, ℕ, List, Option, Some, None, IfSome, inl, inr, arith}
-use Rattle.notify_mirror.specs.Script.{ScriptValue, Reads, script_of}
-use Rattle.notify_mirror.specs.ScriptView.{script_value}
+use Rattle.std.proofs.Common.{◌∙◌, sym, inl, inr}
+use Rattle.notify_mirror.specs.declared.transcript.Report.TheVariants.{Plain}
+use Rattle.notify_mirror.proofs.Endings.{at_0, at_6, at_4, at_1_or_3, at_3, at_0_or_6, at_any}
 use Rattle.notify_mirror.proofs.run.script_run.Goals as goal
 
-read_some : (o : Option (List ℕ)) (script : ScriptValue) → IfSome o (λ given. script_of given ≡ Reads script) → IfSome o (λ given. (s : ScriptValue) × (script_of given ≡ Reads s))
-read_some None script h = h
-read_some (Some given) script h = (script, h)
+pub returns-clause-prints : goal.returns-clause-prints
+returns-clause-prints g c = λ s. at_0 Plain _ _ _ c.play-run.result (c.play-run.ensures.ok, c.play-run.ensures.err) (sym c.end.ensures.status ∙ s)
 
-pub returns-in-Ok-play_script-clause-reads : goal.returns-in-Ok-play_script-clause-reads
-returns-in-Ok-play_script-clause-reads g c = λ done. read_some _ (script_value c.in-Ok.script) c.in-Ok.ensures.ok
+pub returns-clause-begins : goal.returns-clause-begins
+returns-clause-begins g c = λ s. at_6 Plain _ _ _ c.play-run.result (c.play-run.ensures.ok, c.play-run.ensures.err) (sym c.end.ensures.status ∙ s)
 
-pub returns-in-Err-OutputFailed-clause-reads : goal.returns-in-Err-OutputFailed-clause-reads
-returns-in-Err-OutputFailed-clause-reads g c = λ failed. read_some _ (script_value c.in-Ok.script) c.in-Ok.ensures.ok
+pub returns-clause-stops : goal.returns-clause-stops
+returns-clause-stops g c = λ s. at_4 Plain _ _ _ c.play-run.result (c.play-run.ensures.ok, c.play-run.ensures.err) (sym c.end.ensures.status ∙ s)
 
-pub returns-in-Ok-play_script-clause-untouched : goal.returns-in-Ok-play_script-clause-untouched
-returns-in-Ok-play_script-clause-untouched g c = λ other. absurd (elim other [ inl e ↦ omega arith | inr e ↦ omega arith ])
+pub returns-clause-untouched : goal.returns-clause-untouched
+returns-clause-untouched g c =
+    λ s. at_1_or_3 Plain _ _ _ c.play-run.result (c.play-run.ensures.ok, c.play-run.ensures.err) (elim s [ inl e ↦ inl (sym c.end.ensures.status ∙ e) | inr e ↦ inr (sym c.end.ensures.status ∙ e) ])
 
-pub returns-in-Err-OutputFailed-clause-untouched : goal.returns-in-Err-OutputFailed-clause-untouched
-returns-in-Err-OutputFailed-clause-untouched g c = λ other. absurd (elim other [ inl e ↦ omega arith | inr e ↦ omega arith ])
+pub returns-clause-reads : goal.returns-clause-reads
+returns-clause-reads g c =
+    λ s. at_0_or_6 Plain _ _ _ c.play-run.result (c.play-run.ensures.ok, c.play-run.ensures.err) (elim s [ inl e ↦ inl (sym c.end.ensures.status ∙ e) | inr e ↦ inr (sym c.end.ensures.status ∙ e) ])
+
+pub returns-clause-fails : goal.returns-clause-fails
+returns-clause-fails g c = λ s. at_3 Plain _ _ _ c.play-run.result (c.play-run.ensures.ok, c.play-run.ensures.err) (sym c.end.ensures.status ∙ s)
+
+pub returns-clause-statuses : goal.returns-clause-statuses
+returns-clause-statuses g c = rw c.end.ensures.status (at_any Plain _ _ _ c.play-run.result (c.play-run.ensures.ok, c.play-run.ensures.err))

@@ -1,0 +1,4 @@
+pub mod Keys
+pub mod ReplyLemmas
+pub mod HonestLemmas
+pub mod ClockLemmas

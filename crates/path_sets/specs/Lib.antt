@@ -1,0 +1,3 @@
+pub mod Played
+pub mod Clock
+pub mod Stream
