@@ -1,7 +1,8 @@
 //! The program `mirror`: it runs a script of file events on a debouncer, and prints what a reader of
-//! its batches sees. `mirror SCRIPT`, or `mirror --check SCRIPT`.
+//! its batches sees. `mirror SCRIPT`, `mirror --check SCRIPT`, or `mirror --threads SCRIPT..`.
 #![tactic(auto)]
 
+use mirror_threads::threads_run;
 use notify_mirror::{Fault, Form, check_run, script_run};
 use std::fs::File;
 use std::io::{ErrorKind, Read};
@@ -45,8 +46,30 @@ fn run_form(rt: &HostRuntime, words: &[String]) -> u8 {
         Some(Form::Check(name)) => {
             check_run(alloc, name, &mut Source::open(rt, name), &mut out, &mut err)
         }
+        Some(Form::Threads) => run_in_threads(rt, words),
         None => refuse(rt, Fault::Usage),
     }
+}
+
+/// Runs the scripts that the words after the first name, each in a thread. Returns the status.
+fn run_in_threads(rt: &HostRuntime, words: &[String]) -> u8 {
+    let [_, names @ ..] = words else {
+        return refuse(rt, Fault::Usage);
+    };
+    let mut sources = Vec::new(rt.alloc());
+    for name in names {
+        let Ok(()) = sources.push(Source::open(rt, name.as_str())) else {
+            return refuse(rt, Fault::Memory);
+        };
+    }
+    threads_run(
+        rt,
+        rt.alloc(),
+        names,
+        sources.as_mut_slice(),
+        &mut rt.stdout(),
+        &mut rt.stderr(),
+    )
 }
 
 /// Writes the fault's line, and returns its status.

@@ -6,13 +6,16 @@ ghost use Rattle.notify_mirror.specs.Usage.{form_of};
 
 use std::alloc::Allocator;
 
-/// A form of the program `mirror`, with the name of a script's file.
+/// A form of the program `mirror`.
 #[derive(Clone, Copy, Debug, PartialEq, Eq)]
 pub enum Form<'a> {
     /// `mirror SCRIPT`: the script is run.
     Run(&'a str),
     /// `mirror --check SCRIPT`: it is run, and its stream is checked.
     Check(&'a str),
+    /// `mirror --threads SCRIPT..`: the scripts that the words after the first name are run, each in a
+    /// thread of its own.
+    Threads,
 }
 
 impl<'a> Form<'a> {
@@ -24,6 +27,7 @@ impl<'a> Form<'a> {
         match words {
             [name] if !name.as_str().starts_with("--") => Some(Form::Run(name.as_str())),
             [form, name] if form.as_str() == "--check" => Some(Form::Check(name.as_str())),
+            [form, _, ..] if form.as_str() == "--threads" => Some(Form::Threads),
             _ => None,
         }
     }
