@@ -7,6 +7,8 @@ use notify_mirror::{Fault, Form, check_run, script_run};
 use std::fs::File;
 use std::io::{ErrorKind, Read};
 use std::process::ExitCode;
+use std::sync::Wait;
+use std::thread::Threads;
 use std::{env, io};
 
 /// The script's file, or if it can't be opened a reader that fails.
@@ -35,7 +37,7 @@ impl Read for Source {
 }
 
 /// Runs the form of the program that these words, which follow its name, ask for. Returns its status.
-fn run_form(rt: &HostRuntime, words: &[String]) -> u8 {
+fn run_form<T: Threads + Wait + Sync>(rt: &HostRuntime, threads: &T, words: &[String]) -> u8 {
     let alloc = rt.alloc();
     let mut out = rt.stdout();
     let mut err = rt.stderr();
@@ -46,13 +48,13 @@ fn run_form(rt: &HostRuntime, words: &[String]) -> u8 {
         Some(Form::Check(name)) => {
             check_run(alloc, name, &mut Source::open(rt, name), &mut out, &mut err)
         }
-        Some(Form::Threads) => run_in_threads(rt, words),
+        Some(Form::Threads) => run_in_threads(rt, threads, words),
         None => refuse(rt, Fault::Usage),
     }
 }
 
 /// Runs the scripts that the words after the first name, each in a thread. Returns the status.
-fn run_in_threads(rt: &HostRuntime, words: &[String]) -> u8 {
+fn run_in_threads<T: Threads + Wait + Sync>(rt: &HostRuntime, threads: &T, words: &[String]) -> u8 {
     let [_, names @ ..] = words else {
         return refuse(rt, Fault::Usage);
     };
@@ -63,7 +65,7 @@ fn run_in_threads(rt: &HostRuntime, words: &[String]) -> u8 {
         };
     }
     threads_run(
-        rt,
+        threads,
         rt.alloc(),
         names,
         sources.as_mut_slice(),
@@ -90,7 +92,7 @@ fn words_of(rt: &HostRuntime) -> Result<Vec<String>, Fault> {
 fn main(rt: HostRuntime) -> ExitCode {
     let status = match words_of(&rt) {
         Ok(words) => match words.as_slice() {
-            [_, words @ ..] => run_form(&rt, words),
+            [_, words @ ..] => run_form(&rt, &rt, words),
             [] => refuse(&rt, Fault::Usage),
         },
         Err(fault) => refuse(&rt, fault),

@@ -2,7 +2,7 @@
 ghost use Rattle.std.specs.Prelude.{◌≡◌, map, is_some};
 ghost use Rattle.std.specs.String.{string_bytes};
 ghost use Rattle.notify_mirror.specs.FormView.{form_values};
-ghost use Rattle.notify_mirror.specs.Usage.{form_of};
+ghost use Rattle.notify_mirror.specs.Usage.{form_of, script_form, threads_form};
 
 use std::alloc::Allocator;
 
@@ -25,11 +25,33 @@ impl<'a> Form<'a> {
         ensures { form_values result ≡ form_of (map string_bytes words.now) }
     {
         match words {
-            [name] if !name.as_str().starts_with("--") => Some(Form::Run(name.as_str())),
+            [] => None,
+            [name] => script_form(name.as_str()),
             [form, name] if form.as_str() == "--check" => Some(Form::Check(name.as_str())),
-            [form, _, ..] if form.as_str() == "--threads" => Some(Form::Threads),
-            _ => None,
+            [form, ..] => threads_form(form.as_str()),
         }
+    }
+}
+
+/// The form of one word: a script, unless it begins with two dashes.
+fn script_form(name: &str) -> Option<Form<'_>>
+    ensures { form_values result ≡ script_form name.now }
+{
+    if name.starts_with("--") {
+        None
+    } else {
+        Some(Form::Run(name))
+    }
+}
+
+/// The form of two words or more of which this is the first, if it isn't `--check` with one script.
+fn threads_form(word: &str) -> Option<Form<'static>>
+    ensures { form_values result ≡ threads_form word.now }
+{
+    if word == "--threads" {
+        Some(Form::Threads)
+    } else {
+        None
     }
 }
 
