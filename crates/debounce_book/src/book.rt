@@ -45,7 +45,7 @@ impl<C, A: Allocator + Copy> Book<C, A> {
     /// Returns a debouncer that waits for nothing, and keeps no journal. An event is handed out once
     /// it is as old as the timeout, in nanoseconds.
     pub fn new(alloc: A, cache: C, timeout: Moment) -> Book<C, A>
-        ensures core { result.core ≡ record { state = empty_state timeout; cache = cache; answer = None } }
+        ensures core { result.core ≡ record { state = empty_state timeout; cache = cache; answer = None; visited = 0 } }
         ensures journal { result.journal ≡ None }
     {
         Book {
@@ -58,7 +58,7 @@ impl<C, A: Allocator + Copy> Book<C, A> {
     /// Returns a debouncer that waits for nothing, and keeps a journal, which is empty. An event is
     /// handed out once it is as old as the timeout, in nanoseconds.
     pub fn journaled(alloc: A, cache: C, timeout: Moment) -> Book<C, A>
-        ensures core { result.core ≡ record { state = empty_state timeout; cache = cache; answer = None } }
+        ensures core { result.core ≡ record { state = empty_state timeout; cache = cache; answer = None; visited = 0 } }
         ensures journal { result.journal ≡ Some [] }
     {
         Book {

@@ -10,19 +10,19 @@ ghost use Rattle.debounce_model.specs.RenameSlot.{first_half};
 ghost use Rattle.debounce_model.specs.Roots.{has_root, with_root, without_roots};
 ghost use Rattle.debounce_model.specs.State.{counted_state, raised, waiting, with_error, without_errors};
 ghost use Rattle.debounce_model.specs.Table.{FitsCase, taken_as};
-ghost use Rattle.debounce_model.specs.Tick.{is_slot_due, places, IsBatch, IsOnlyBatch, IsOutlook, IsOnlyOutlook, tick_step, is_due as is_tick_due};
+ghost use Rattle.debounce_model.specs.Tick.{expired_fronts, is_slot_due, places, IsBatch, IsOnlyBatch, IsOutlook, IsOnlyOutlook, tick_step, is_due as is_tick_due};
 ghost use Rattle.debounce_model.specs.WellFormed.{IsWellFormed};
 ghost use Rattle.debounce_model.specs.declared.case.Case.TheVariants.{Rescan, Creation, Removal, RenameFrom, RenameTo, Ignored};
 ghost use Rattle.event_queue.specs.Due.{is_due};
 ghost use Rattle.event_queue.specs.Renames.{half_value};
 
-use crate::emit::sort_events;
 use crate::rename_slot::{RenameSlot, first_half, set_slot};
 use crate::rescan_slot::{add_due, held, is_slot_due, trim_slot};
 use crate::roots::{add_root, mode_in, remove_root};
 use debounce_model::case::Case;
 use debounce_model::file_id::FileId;
 use debounce_queues::queues::Queues;
+use event_order::order::sort_events;
 use event_queue::due::Due;
 use event_queue::rename::FirstHalf;
 use file_id_cache::cache::FileIdCache;
@@ -267,25 +267,35 @@ impl<A: Allocator + Copy> State<A> {
         Ok(())
     }
 
-    /// Hands out what is expired at the moment, or at the latest one so far.
-    pub(crate) fn tick(&mut self, now: Moment) -> Result<Vec<DebouncedEvent<A>, A>, Error<A>>
+    /// Hands out what is expired at the moment, or at the latest one so far. `visited` gets the number
+    /// of the queues that it opens.
+    pub(crate) fn tick(
+        &mut self,
+        visited: &mut u64,
+        now: Moment,
+    ) -> Result<Vec<DebouncedEvent<A>, A>, Error<A>>
         ensures batch { IfOk result (λ batch. IsBatch self.old now batch.items) }
         ensures only { IfOk result (λ batch. IsOnlyBatch self.old now batch.items) }
         ensures ok { IfOk result (λ batch. self.new ≡ tick_step self.old now batch.items) }
-        ensures err { IfErr result (λ e. (e ≡ out_of_memory) × (self.new ≡ self.old)) }
+        ensures visited { OnOk result (visited.new ≡ expired_fronts self.old now) }
+        ensures err { IfErr result (λ e. (e ≡ out_of_memory) × (self.new ≡ self.old) × (visited.new ≡ visited.old)) }
         ensures sure { is_tick_due self.old now ≡ false → IsOk result }
     {
         let now = self.latest.max(now);
         let due = Due::Expired(self.timeout, now);
         if !self.is_due(due) {
             self.latest = now;
+            *visited = 0;
             return Ok(Vec::new(self.alloc));
         }
         let batch = self.batch_of(due)?;
-        self.queues.trim(due);
+        let Ok(opened) = self.queues.trim(due) else {
+            return Err(Error::out_of_memory(self.alloc));
+        };
         trim_slot(&mut self.rescan_slot, due);
         self.latest = now;
         self.given += batch.len() as u64;
+        *visited = opened as u64;
         Ok(batch)
     }
 

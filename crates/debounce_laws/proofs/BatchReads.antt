@@ -11,7 +11,7 @@ use Rattle.debounce_model.specs.Kept.{has_first}
 use Rattle.debounce_model.specs.Order.{Placed, InBatchOrder, placed, placed_cmp, last_path}
 use Rattle.debounce_model.specs.OrderLaws.{placed_cmp_total}
 use Rattle.debounce_laws.proofs.BatchOrder.{RemovalsFirst, removal_first}
-use Rattle.debounce_laws.proofs.KeptSteps.{any-batch}
+use Rattle.debounce_laws.proofs.BatchTests.{any-batch}
 use Rattle.debounce_model.proofs.OrderUnique.{Has, within_from_permutation, at_element, not_both_below, strictly_sorted}
 use Rattle.debounce_laws.proofs.PathSets.{below_prefix}
 use Rattle.debounce_laws.proofs.PathTests.{AtOrBelow}

@@ -12,7 +12,7 @@ use Rattle.debounce_model.specs.Kept.{tells_rename, has_rename, takes_away, is_a
 use Rattle.debounce_model.specs.Play.{accepted}
 use Rattle.debounce_model.specs.Run.{Step, Run}
 use Rattle.debounce_model.specs.State.{Core, waiting}
-use Rattle.debounce_laws.proofs.KeptQueues.{AreAllTold, told-none}
+use Rattle.debounce_laws.proofs.ToldQueues.{AreAllTold, told-none}
 use Rattle.debounce_laws.proofs.KeptSteps.{step_effect, told_after, found_after, change_found, neither}
 
 -- ---- a run by its first command

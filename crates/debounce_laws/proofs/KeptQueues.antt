@@ -1,92 +1,24 @@
--- Queues whose events each told something at the queue's path, and what is found in them.
-use Rattle.std.proofs.Common.{rules, ◌≡◌, Bool, true, false, cond, not, ◌&&◌, ◌||◌, List, [], ◌∷◌, ◌++◌, refl, ap, sym, ◌∙◌, subst, Option, Some, None, is_some, true≢false}
-use Rattle.std.specs.List.{list_any, AllByRecursion}
+-- What is found in queues after a push, a removal and a tick: what stands for a change stays, or is handed out.
+use Rattle.std.proofs.Common.{rules, ◌≡◌, Bool, true, false, cond, not, ◌&&◌, ◌||◌, List, [], ◌∷◌, ◌++◌, refl, ap, sym, ◌∙◌, subst, Option, Some, None, true≢false}
+use Rattle.std.specs.List.{list_any}
 use Rattle.std.specs.BTreeMap.{is_at}
 use Rattle.std.specs.Ordering.{is_eq}
 use Rattle.std.proofs.lemmas.List.Folds.{list_any-append}
 use Rattle.std.proofs.lemmas.Map.Entries.{lookup-filter-keys}
 use Rattle.notify_types.specs.Event.{Timed}
-use Rattle.notify_types.specs.KindNumbers.{kind_eq, kind_eq_decides}
-use Rattle.notify_types.specs.Kinds.{is_creation, is_removal, is_plain, is_skippable}
+use Rattle.notify_types.specs.KindNumbers.{kind_eq_decides}
+use Rattle.notify_types.specs.Kinds.{is_creation, is_skippable}
 use Rattle.notify_paths.specs.Path.{PathValue, path_eq, path_cmp, is_prefix, is_below}
 use Rattle.notify_paths.specs.PathLaws.{path_cmp_total, path_eq_decides, path_matches_eq}
 use Rattle.notify_types.specs.declared.kind.EventKind.{EventKind}
-use Rattle.notify_types.specs.declared.kind.EventKind.TheVariants as kinds
-use Rattle.notify_types.specs.declared.kind.ModifyKind.TheVariants as modify
-use Rattle.notify_types.specs.declared.kind.RenameMode.TheVariants as rename
 use Rattle.notify_paths.proofs.Prefixes.{prefix_itself}
 use Rattle.debounce_model.specs.Due.{expired_beginning, rest_after, last_of_kind, place_list, waits, rests}
 use Rattle.debounce_model.specs.Kept.{has_first, stands_for, is_among}
-use Rattle.debounce_model.specs.Queues.{Queues, queue_at, with_queue, without_queue, without_below, waiting_in, creates, was_created, was_created_at, skips, push, pushed_on, removal, events_at}
-use Rattle.debounce_laws.proofs.DueLists.{each_push, each_late, each_early}
-use Rattle.debounce_laws.proofs.EachQueue.{Each, each-found, each-push, each-removal, each-rests, each-none}
+use Rattle.debounce_model.specs.Queues.{Queues, queue_at, with_queue, without_queue, without_below, was_created, was_created_at, skips, push, pushed_on, removal, events_at}
+use Rattle.debounce_laws.proofs.DueLists.{each_early}
+use Rattle.debounce_laws.proofs.EachQueue.{each-found}
 use Rattle.debounce_model.proofs.Entries.{lookup-insert_same, lookup-insert_other, lookup-remove_other}
-
--- ---- events that told something
-
--- a kind of class creation, removal or plain
-abbrev pub tells : EventKind → Bool
-tells k = is_creation k || (is_removal k || is_plain k)
-
--- an event without a flag that told this path first, in one of these classes
-pub record IsTold (path : PathValue) (x : Timed) : Type 0 where
-  pub unflagged : is_some x.event.attrs.flag ≡ false
-  pub class : tells x.event.kind ≡ true
-  pub first : has_first (λ p. path_eq p path) x.event.paths ≡ true
-
--- each event of a queue told its path
-abbrev pub AreTold : PathValue → List Timed → Type 0
-AreTold path events = AllByRecursion (IsTold path) events
-
--- .. of each queue
-abbrev pub AreAllTold : Queues → Type 0
-AreAllTold queues = Each AreTold queues
-
--- a kind that stands for a change of another kind
-abbrev fits : EventKind → EventKind → Bool
-fits kind k = is_creation k || kind_eq kind k
-
--- whatever comes first, a test or true is true
-pub or_true : (a : Bool) → (a || true) ≡ true
-or_true true = refl
-or_true false = refl
-
--- a kind that told something, after which its path is there, is a creation
-pub creates_told : (k : EventKind) → tells k ≡ true → creates k ≡ true → is_creation k ≡ true
-creates_told (kinds.Modify (modify.Name rename.To)) t c = t
-creates_told k t c = c
-
--- ---- one queue
-
-module _ (path : PathValue) (kind : EventKind) where
-  -- an event that told something stands for a change by its kind
-  stands : (x : Timed) → IsTold path x → fits kind x.event.kind ≡ true → stands_for kind x ≡ true
-  stands x t h = rw t.unflagged h
-
-  -- what was created holds a creation
-  created_holds : (xs : List Timed) → AreTold path xs → was_created xs ≡ true → list_any (stands_for kind) xs ≡ true
-  created_holds [] t h = absurd (true≢false (sym h))
-  created_holds (x ∷ xs) t h = rw (stands x t.0 (rw (creates_told x.event.kind t.0.class h) refl)) refl
-
-  -- of a kind that stands for a change also each event of that kind does
-  same_kind : (k : EventKind) (xs : List Timed) → AreTold path xs → fits kind k ≡ true → list_any (λ y. kind_eq k y.event.kind) xs ≡ true → list_any (stands_for kind) xs ≡ true
-  same_kind k [] t f h = absurd (true≢false (sym h))
-  same_kind k (x ∷ xs) t f h = by (kind_eq k x.event.kind) refl (same_kind k xs t.1 f)
-    where
-      by : (b : Bool) → kind_eq k x.event.kind ≡ b → (list_any (λ y. kind_eq k y.event.kind) xs ≡ true → list_any (stands_for kind) xs ≡ true) → list_any (stands_for kind) (x ∷ xs) ≡ true
-      by true e more = rw (stands x t.0 (subst (λ j. fits kind j ≡ true) ((kind_eq_decides k x.event.kind).0 e) f)) refl
-      by false e more = rw (more (rw e at h)) (or_true (stands_for kind x))
-
-  -- what stands for a change is still among the last of each kind
-  last_among : (xs : List Timed) → AreTold path xs → list_any (stands_for kind) xs ≡ true → is_among path kind (last_of_kind xs) ≡ true
-  last_among [] t h = h
-  last_among (x ∷ xs) t h = by (list_any (λ y. kind_eq x.event.kind y.event.kind) xs) (stands_for kind x) refl refl (last_among xs t.1)
-    where
-      by : (b c : Bool) → list_any (λ y. kind_eq x.event.kind y.event.kind) xs ≡ b → stands_for kind x ≡ c → (list_any (stands_for kind) xs ≡ true → is_among path kind (last_of_kind xs) ≡ true) → is_among path kind (cond b (last_of_kind xs) (x ∷ last_of_kind xs)) ≡ true
-      by true true e s more = more (same_kind x.event.kind xs t.1 (rw t.0.unflagged at s) e)
-      by true false e s more = more (rw s at h)
-      by false true e s more = rw (t.0.first, s) refl
-      by false false e s more = rw (more (rw s at h)) (or_true _)
+use Rattle.debounce_laws.proofs.ToldQueues.{IsTold, AreTold, AreAllTold, or_true, stands, created_holds, last_among}
 
 -- three tests, in another order
 or_swapped : (a b c : Bool) → (a || (b || c)) ≡ (b || (a || c))
@@ -106,8 +38,6 @@ found-cut f due (x ∷ xs) = by (due x) (found-cut f due xs)
     by : (b : Bool) → list_any f xs ≡ (list_any f (rest_after due xs) || list_any f (expired_beginning due xs)) → list_any f (x ∷ xs) ≡ (list_any f (cond b (rest_after due xs) (x ∷ xs)) || list_any f (cond b (x ∷ expired_beginning due xs) []))
     by true h = ap (λ r. f x || r) h ∙ or_swapped (f x) _ _
     by false h = whole (list_any f (x ∷ xs))
-
--- ---- the queues
 
 -- paths that the order ties are one
 tied : (path p : PathValue) → is_eq (path_cmp path p) ≡ true → path ≡ p
@@ -205,24 +135,6 @@ found-rests due (e ∷ queues) path kind t h = rw (list_any-append (λ x. has_fi
     by false w true i more = rw (rw (nothing w _ refl) at (here i)) (or_true _)
     by true w false i more = rw i (or_between _ handed later (more (rw i at h)))
     by false w false i more = or_between _ handed later (more (rw i at h))
-
--- ---- all queues still told something
-
--- .. after a push
-pub told-push : (queues : Queues) (p : PathValue) (x : Timed) → AreAllTold queues → IsTold p x → AreAllTold (push queues p x)
-told-push queues p x t h = each-push AreTold queues p x t tt (λ q a. each_push (IsTold p) q x a h)
-
--- .. after a removal
-pub told-removal : (queues : Queues) (p : PathValue) (x : Timed) → AreAllTold queues → IsTold p x → AreAllTold (removal queues p x)
-told-removal queues p x t h = each-removal AreTold queues p x t (h, tt)
-
--- .. after a tick
-pub told-rests : (due : Timed → Bool) (queues : Queues) → AreAllTold queues → AreAllTold (rests due queues)
-told-rests due queues t = each-rests AreTold due queues (λ p q a. each_late due (IsTold p) q a) t
-
--- .. where nothing waits
-pub told-none : (queues : Queues) → waiting_in queues ≡ 0 → AreAllTold queues
-told-none queues h = each-none AreTold queues (λ p. tt) h
 
 -- ---- an event that was just pushed
 

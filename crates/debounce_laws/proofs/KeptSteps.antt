@@ -1,8 +1,7 @@
 -- What one command makes of the queues, and that it loses no change.
-use Rattle.std.proofs.Common.{◌≡◌, ℕ, Bool, true, false, cond, not, ◌&&◌, ◌||◌, List, [], ◌∷◌, map, refl, ap, sym, subst, ◌∙◌, Option, is_some, true≢false}
+use Rattle.std.proofs.Common.{◌≡◌, ℕ, Bool, true, false, cond, not, ◌&&◌, ◌||◌, List, [], ◌∷◌, refl, ap, sym, subst, ◌∙◌, Option, is_some, true≢false}
 use Rattle.std.specs.List.{list_any}
 use Rattle.std.proofs.lemmas.List.Folds.{list_any-append}
-use Rattle.std.proofs.lemmas.List.Sorted.{list_any-IsPermutation}
 use Rattle.notify_paths.specs.Errors.{ErrorKindValue, FullKind, MemoryKind}
 use Rattle.notify_types.specs.Event.{EventValue, Timed, first_of}
 use Rattle.notify_types.specs.Kinds.{is_creation, is_removal, is_rename, is_plain}
@@ -18,7 +17,6 @@ use Rattle.debounce_model.specs.Cache.{Rules}
 use Rattle.debounce_model.specs.Command.{CommandValue, EventCommand, ErrorCommand, RootCommand, UnrootCommand, ErrorsCommand, TickCommand, ReplyValue, TakenReply, NotedReply, RootedReply, UnrootedReply, ErrorsReply, BatchReply, RefusedReply}
 use Rattle.debounce_model.specs.Due.{place_list, rests}
 use Rattle.debounce_model.specs.Kept.{has_first, tells_rename, takes_away, stands_for, is_among, is_handed_out, tells_change}
-use Rattle.debounce_model.specs.Order.{InBatchOrder, placed}
 use Rattle.debounce_model.specs.Play.{accepted}
 use Rattle.debounce_model.specs.Queues.{Queues, push, removal, events_at}
 use Rattle.debounce_model.specs.Run.{Step}
@@ -26,25 +24,10 @@ use Rattle.debounce_model.specs.State.{Core, State}
 use Rattle.debounce_model.specs.Step.{IsRefusedFor}
 use Rattle.debounce_model.specs.Table.{kind_case, row, event_step, raised_event}
 use Rattle.debounce_model.specs.Tick.{is_expired_in, places, due_of, IsBatch}
-use Rattle.debounce_model.proofs.OrderLemmas.{events-placed}
-use Rattle.debounce_laws.proofs.KeptQueues.{IsTold, AreAllTold, tells, or_true, found-push, found-removal, found-rests, found-pushed, told-push, told-removal, told-rests}
+use Rattle.debounce_laws.proofs.BatchTests.{any-batch}
+use Rattle.debounce_laws.proofs.KeptQueues.{found-push, found-removal, found-rests, found-pushed}
+use Rattle.debounce_laws.proofs.ToldQueues.{IsTold, AreAllTold, tells, or_true, told-push, told-removal, told-rests}
 use Rattle.debounce_model.specs.Table.{unflagged_case}
-
--- ---- a batch
-
--- a test of images
-any-map : {X Y : Type 0} (f : Y → Bool) (g : X → Y) (xs : List X) → list_any f (map g xs) ≡ list_any (λ x. f (g x)) xs
-any-map f g [] = refl
-any-map f g (x ∷ xs) = ap (λ b. f (g x) || b) (any-map f g xs)
-
--- a batch passes a test where its place list does
-pub any-batch : (f : Timed → Bool) (xs batch : List Timed) → InBatchOrder xs batch → list_any f xs ≡ list_any f batch
-any-batch f xs batch o =
-    ap (list_any f) (sym (events-placed [] xs))
-    ∙ any-map f (λ k. k.event) (placed [] xs)
-    ∙ list_any-IsPermutation (λ k. f k.event) (placed [] xs) o.ranked o.are
-    ∙ sym (any-map f (λ k. k.event) o.ranked)
-    ∙ ap (list_any f) o.events
 
 -- ---- what a command makes of the queues
 

@@ -14,7 +14,7 @@ use Rattle.debounce_model.specs.Due.{expired_beginning, last_of_kind, place_list
 use Rattle.debounce_model.specs.Kept.{has_first}
 use Rattle.debounce_model.specs.Queues.{Queues, events_at}
 use Rattle.debounce_laws.proofs.DueLists.{FirstOnly, each_early, none_first_only}
-use Rattle.debounce_laws.proofs.KeptQueues.{tells}
+use Rattle.debounce_laws.proofs.ToldQueues.{tells}
 use Rattle.debounce_laws.proofs.PathSets.{prefix_of, below_prefix, tied}
 use Rattle.debounce_laws.proofs.PathTests.{AtOrBelow, covered, covered_from, covered_at, covered_same, covered_or}
 use Rattle.debounce_laws.proofs.PlayAt.{creates_at, clears_at}

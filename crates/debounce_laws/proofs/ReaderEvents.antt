@@ -14,7 +14,7 @@ use Rattle.debounce_model.specs.Queues.{Queues, push, removal, skips, was_create
 use Rattle.debounce_laws.proofs.BatchOrder.{not_removed}
 use Rattle.debounce_laws.proofs.DueLists.{FirstOnly}
 use Rattle.debounce_laws.proofs.Folders.{folder_found}
-use Rattle.debounce_laws.proofs.KeptQueues.{creates_told}
+use Rattle.debounce_laws.proofs.ToldQueues.{creates_told}
 use Rattle.debounce_laws.proofs.PathSets.{has_with, has_without, prefix_of, below_prefix, same_or_not, where_below}
 use Rattle.debounce_laws.proofs.PathTests.{AtOrBelow}
 use Rattle.debounce_laws.proofs.PlaceReads.{IsOwn, makes, clears}

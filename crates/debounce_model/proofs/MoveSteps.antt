@@ -239,7 +239,7 @@ sorted-left queues f None o = sorted-remove_entry path_cmp_total (is_at (path_cm
 sorted-left queues f (Some x) o = sorted-insert_entry path_cmp_total queues f (x ∷ []) o
 
 -- .. also after the join
-sorted-halves : (queues : Queues) (f t : PathValue) (time : ℕ) (attrs : AttributesValue) → IsStrictlySortedBy path_cmp (keys_of queues) → IsStrictlySortedBy path_cmp (keys_of (joined_halves queues f t time attrs))
+pub sorted-halves : (queues : Queues) (f t : PathValue) (time : ℕ) (attrs : AttributesValue) → IsStrictlySortedBy path_cmp (keys_of queues) → IsStrictlySortedBy path_cmp (keys_of (joined_halves queues f t time attrs))
 sorted-halves queues f t time attrs o = sorted-insert_entry path_cmp_total _ t _ (sorted-left queues f (staying (without_both (without_last (events_at queues f)))) o)
 
 -- where two have the same at a path, they still have after the same is left at f
@@ -273,7 +273,7 @@ halves-same queues other f t time attrs q o p hf ht hq = rw hf (by (is_at (path_
         ∙ sym (lookup-insert_other path_cmp_total (left_behind queues f s) t q _ i)
 
 -- at other paths a join leaves what was there
-halves-other : (queues : Queues) (f t : PathValue) (time : ℕ) (attrs : AttributesValue) (q : PathValue) → is_at (path_cmp q) f ≡ false → is_at (path_cmp q) t ≡ false → queue_at (joined_halves queues f t time attrs) q ≡ queue_at queues q
+pub halves-other : (queues : Queues) (f t : PathValue) (time : ℕ) (attrs : AttributesValue) (q : PathValue) → is_at (path_cmp q) f ≡ false → is_at (path_cmp q) t ≡ false → queue_at (joined_halves queues f t time attrs) q ≡ queue_at queues q
 halves-other queues f t time attrs q i j = lookup-insert_other path_cmp_total _ t q _ j ∙ by (staying (without_both (without_last (events_at queues f))))
   where
     by : (s : Option Timed) → queue_at (left_behind queues f s) q ≡ queue_at queues q
@@ -283,7 +283,7 @@ halves-other queues f t time attrs q i j = lookup-insert_other path_cmp_total _ 
 -- ---- all steps
 
 -- no path lies strictly below itself
-below_itself : (p : PathValue) → is_below p p ≡ false
+pub below_itself : (p : PathValue) → is_below p p ≡ false
 below_itself p = rw (path_eq_equiv.refl p) (by (is_prefix p p))
   where
     by : (b : Bool) → (b && false) ≡ false
@@ -291,15 +291,15 @@ below_itself p = rw (path_eq_equiv.refl p) (by (is_prefix p p))
     by false = refl
 
 -- what does not have the base as a prefix does not lie below it
-not_below : (p b : PathValue) → is_prefix b p ≡ false → is_below p b ≡ false
+pub not_below : (p b : PathValue) → is_prefix b p ≡ false → is_below p b ≡ false
 not_below p b h = rw h refl
 
 -- what lies strictly below a base is not what doesn't
-differs : (q p b : PathValue) → is_below q b ≡ true → is_below p b ≡ false → is_at (path_cmp q) p ≡ false
+pub differs : (q p b : PathValue) → is_below q b ≡ true → is_below p b ≡ false → is_at (path_cmp q) p ≡ false
 differs q p b h n = untrue (is_at (path_cmp q) p) (λ i. true≢false (sym h ∙ ap (λ r. is_below r b) (same_at q p i) ∙ n))
 
 -- neither of two paths that are apart is a prefix of the other
-apart_both : (f t : PathValue) → are_apart f t ≡ true → (is_prefix f t ≡ false) × (is_prefix t f ≡ false)
+pub apart_both : (f t : PathValue) → are_apart f t ≡ true → (is_prefix f t ≡ false) × (is_prefix t f ≡ false)
 apart_both f t h = by (is_prefix f t) (is_prefix t f) h
   where
     by : (a b : Bool) → (not a && not b) ≡ true → (a ≡ false) × (b ≡ false)

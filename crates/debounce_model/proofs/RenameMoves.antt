@@ -92,7 +92,7 @@ same_put queues p v None o = sym (insert_removed path_cmp_total same_path queues
 same_put queues p v (Some x) o = sym (insert_insert_same path_cmp_total queues p v (x ∷ []))
 
 -- at the source waits then what stays there
-at_source : (queues : Queues) (p : PathValue) (s : Option Timed) → IsStrictlySortedBy path_cmp (keys_of queues) → queue_at (left_behind queues p s) p ≡ queue_of s
+pub at_source : (queues : Queues) (p : PathValue) (s : Option Timed) → IsStrictlySortedBy path_cmp (keys_of queues) → queue_at (left_behind queues p s) p ≡ queue_of s
 at_source queues p None o = lookup-remove_same path_cmp_total queues p o
 at_source queues p (Some x) o = lookup-insert_same path_cmp_total queues p (x ∷ [])
 

@@ -5,7 +5,7 @@ use Rattle.debounce_model.specs.Cache.{Rules}
 use Rattle.debounce_model.specs.Command.{CommandValue, EventCommand, ErrorCommand, RootCommand, UnrootCommand, ErrorsCommand, TickCommand, ReplyValue, TakenReply, NotedReply, RootedReply, UnrootedReply, ErrorsReply, BatchReply, RefusedReply}
 use Rattle.debounce_model.specs.State.{Core, with_state, with_error, without_errors}
 use Rattle.debounce_model.specs.Step.{IsTaken, IsRefused, IsRooted, IsRootRefused, IsUnrooted, IsUnrootRefused}
-use Rattle.debounce_model.specs.Tick.{IsBatch, tick_step, is_due}
+use Rattle.debounce_model.specs.Tick.{IsBatch, after_tick, is_due}
 
 module _ {C : Type 0} where
   -- from s the command may have this reply and leave t
@@ -23,7 +23,7 @@ module _ {C : Type 0} where
   Step r s ErrorsCommand (ErrorsReply errors) t =
       (errors ≡ s.state.errors) × (t ≡ with_state s (without_errors s.state))
   Step r s (TickCommand now) (BatchReply batch) t =
-      IsBatch s.state now batch × (t ≡ with_state s (tick_step s.state now batch))
+      IsBatch s.state now batch × (t ≡ after_tick s now batch)
   Step r s (TickCommand now) (RefusedReply error) t = (error ≡ out_of_memory) × (is_due s.state now ≡ true) × (t ≡ s)
   Step r s command reply t = ⊥
 

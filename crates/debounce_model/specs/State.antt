@@ -60,11 +60,13 @@ with_error s error = record s { errors = s.errors ++ error ∷ [] }
 abbrev pub without_errors : State → State
 without_errors s = record s { errors = [] }
 
--- a debouncer: its state, its cache, and the cache's answer of the last event that was taken
+-- a debouncer: its state, its cache, the cache's answer of the last event that was taken, and how many queues the last
+-- tick that was accepted opened
 pub record Core (C : Type 0) : Type 0 where
   pub state : State
   pub cache : C
   pub answer : Option FileId
+  pub visited : ℕ
 
 -- a debouncer in this state
 abbrev pub with_state : {C : Type 0} → Core C → State → Core C

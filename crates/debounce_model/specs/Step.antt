@@ -16,6 +16,7 @@ pub record IsTaken {C : Type 0} (r : Rules C) (s : Core C) (event : EventValue) 
   pub room : s.state.taken ≢ 2 ^ 64 - 1
   pub state : t.state ≡ event_step s.state event now exists t.answer
   pub calls : CarriesOut r s.cache (calls_of s.state event exists) t.answer t.cache
+  pub visited : t.visited ≡ s.visited
 
 module _ {C : Type 0} where
   -- from s the event may be refused for this reason and leave t. Full: as many events were taken as can be

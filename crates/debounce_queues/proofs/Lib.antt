@@ -1,1 +1,3 @@
+mod Outcomes
 mod RunLists
+mod TouchedFronts

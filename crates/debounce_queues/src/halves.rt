@@ -10,9 +10,10 @@ ghost use Rattle.debounce_model.specs.WellFormed.{IsBothInFront};
 ghost use Rattle.event_queue.specs.Renames.{halves_by, source_path};
 ghost use Rattle.event_queue.specs.Target.{target_of, IsTarget};
 
-use crate::map::{QueueMap, new_key};
+use crate::map::new_key;
 use event_queue::queue::Queue;
 use event_queue::rename::{Rename, Source, Target, arrived, as_target, source_of, without_last};
+use front_index::fronts::QueueMap;
 use notify_paths::path::PathBuf;
 use notify_types::event::DebouncedEvent;
 use std::alloc::{AllocError, Allocator};

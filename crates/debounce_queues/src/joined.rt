@@ -5,15 +5,15 @@ ghost use Rattle.debounce_model.specs.WellFormed.{AreQueues};
 ghost use Rattle.event_queue.specs.Renames.{joined_by};
 
 use crate::halves::{join_halves, source_at};
-use crate::map::QueueMap;
 use crate::room::{drop_all, drop_empty, make_room, moved_below, set_all, stale_below};
 use event_queue::rename::Rename;
+use front_index::fronts::QueueMap;
 use notify_paths::below::drop_below;
 use notify_paths::path::PathBuf;
 use std::alloc::{AllocError, Allocator};
 
 /// Whether neither path lies at or below the other.
-fn are_apart<A: Allocator>(from: &PathBuf<A>, to: &PathBuf<A>) -> bool
+pub(crate) fn are_apart<A: Allocator>(from: &PathBuf<A>, to: &PathBuf<A>) -> bool
     ensures { result ≡ are_apart from.now to.now }
 {
     !to.starts_with(from) && !from.starts_with(to)

@@ -2,14 +2,14 @@
 //!
 //! [`queues::Queues`] is a map that nobody else changes. An event is pushed, or it removes what is at
 //! its path, or it is the second half of a rename, which takes along what waits at its old path and
-//! below; a tick looks at what is due, copies it and drops it.
+//! below; a tick opens the queues whose first event is due, copies what is due and drops it.
 //!
 //! ```text
 //! let mut queues = Queues::new(rt.alloc());
 //! queues.push(event)?;
 //! let mut places = Vec::new(rt.alloc());
 //! queues.add_places(&mut places, Due::Expired(50, 60))?;
-//! queues.trim(Due::Expired(50, 60));
+//! let opened = queues.trim(Due::Expired(50, 60))?;
 //! ```
 #![tactic(auto)]
 
@@ -18,3 +18,4 @@ mod joined;
 mod map;
 pub mod queues;
 mod room;
+mod touched;

@@ -1,31 +1,42 @@
 //! The queues of all paths.
 ghost use Rattle.std.specs.Prelude.{◌≡◌, ◌++◌, ◌∷◌, ◌<◌, ◌^◌, [], OnOk, OnErr, IfOk, false, length};
 ghost use Rattle.notify_types.specs.Event.{first_of};
-ghost use Rattle.debounce_model.specs.Due.{place_list, rests, is_any_due, rest_after, waits};
+ghost use Rattle.std.specs.List.Sorted.{IsStrictlySortedBy};
+ghost use Rattle.std.specs.Map.{keys_of};
+ghost use Rattle.notify_paths.specs.Path.{path_cmp};
+ghost use Rattle.front_index.specs.Fronts.{IsIndexed};
+ghost use Rattle.debounce_queues.specs.Replaced.{replaced};
+ghost use Rattle.debounce_model.specs.Due.{place_list, rests, is_any_due, due_fronts};
 ghost use Rattle.debounce_model.specs.Memory.{skips_it, cancels};
-ghost use Rattle.debounce_model.specs.Queues.{queue_at, was_created_at, push, removal, waiting_in};
+ghost use Rattle.debounce_model.specs.Queues.{queue_at, without_queue, without_below, was_created_at, push, removal, waiting_in};
 ghost use Rattle.debounce_model.specs.Rename.{is_both_kind};
 ghost use Rattle.event_queue.specs.Due.{is_due};
 ghost use Rattle.event_queue.specs.Renames.{joined_to, renamed_by};
 
-use crate::joined::join;
-use crate::map::{Change, QueueMap, change_values, new_key};
+use crate::map::new_key;
+use crate::touched::join_indexed;
 use debounce_model::case::first_path;
-use event_queue::due::{Due, add_last_of_kind, expired_count};
+use event_queue::due::Due;
 use event_queue::queue::Queue;
 use event_queue::rename::{FirstHalf, Rename};
-use notify_paths::below::drop_below;
+use front_index::below::{drop_below, remove as take_out};
+use front_index::fronts::{Fronts, QueueMap, is_any_due};
+use front_index::places::add_places;
+use front_index::put::{put, put_new};
+use front_index::tick::trim;
 use notify_paths::path::PathBuf;
 use notify_types::event::{DebouncedEvent, Event};
 use std::alloc::{AllocError, Allocator, Global};
-use std::collections::BTreeMap;
+use std::collections::{BTreeMap, BTreeSet};
 use std::marker::Model;
 
 /// What waits, by paths: a map in which each queue has an event, is kept by its path, and has at most
-/// one joined rename, in front.
+/// one joined rename, in front; and an index of the queues by the times of their first events, which a
+/// tick goes by.
 #[derive(Drop)]
 pub struct Queues<A: Allocator = Global> {
     map: QueueMap<A>,
+    fronts: Fronts<A>,
     /// Has room for a copy of each key, so that a removal needs no memory. What it holds says nothing.
     spare: PathBuf<A>,
     alloc: A,
@@ -40,7 +51,10 @@ impl<A: Allocator> Model for Queues<A> {
 
     ghost view = { λ a. a.map.entries };
 
-    ghost invariant = { λ a. IsQueueMap a.map.entries };
+    ghost use Rattle.front_index.specs.Fronts.{IsIndexed};
+    ghost use Rattle.debounce_queues.specs.Replaced.{replaced};
+
+    ghost invariant = { λ a. IsQueueMap a.map.entries × IsIndexed a.fronts a.map.entries };
 }
 
 impl<A: Allocator + Copy> Queues<A> {
@@ -50,6 +64,7 @@ impl<A: Allocator + Copy> Queues<A> {
     {
         Queues {
             map: BTreeMap::new(alloc),
+            fronts: BTreeSet::new(alloc),
             spare: PathBuf::empty(alloc),
             alloc,
         }
@@ -64,8 +79,13 @@ impl<A: Allocator + Copy> Queues<A> {
         ensures err { OnErr result (self.new ≡ self.old) }
         ensures grown { OnErr result (skips_it self.old event.event ≡ false) }
     {
-        push(&mut self.map, &mut self.spare, self.alloc, event)?;
-        Ok(())
+        push(
+            &mut self.map,
+            &mut self.fronts,
+            &mut self.spare,
+            self.alloc,
+            event,
+        )
     }
 
     /// The removal of the event's first path: what waits below it is dropped; its own queue goes away
@@ -78,8 +98,13 @@ impl<A: Allocator + Copy> Queues<A> {
         ensures err { OnErr result (self.new ≡ self.old) }
         ensures grown { OnErr result (cancels self.old event.event ≡ false) }
     {
-        remove(&mut self.map, &mut self.spare, self.alloc, event)?;
-        Ok(())
+        remove(
+            &mut self.map,
+            &mut self.fronts,
+            &mut self.spare,
+            self.alloc,
+            event,
+        )
     }
 
     /// The second half of a rename to the event's first path. If there is a first half, it is what
@@ -117,15 +142,20 @@ impl<A: Allocator + Copy> Queues<A> {
             time: half.time,
             attrs,
         };
-        join(&mut self.map, &mut self.spare, self.alloc, rename)?;
-        Ok(())
+        join_indexed(
+            &mut self.map,
+            &mut self.fronts,
+            &mut self.spare,
+            self.alloc,
+            rename,
+        )
     }
 
     /// Whether the front of some queue is due.
     pub fn is_any_due(&self, due: Due) -> bool
         ensures { result ≡ is_any_due (is_due due) self.now }
     {
-        is_any_due(&self.map, due)
+        is_any_due(&self.map, &self.fronts, due)
     }
 
     /// Adds copies of what is due, in the order of the paths: of each queue's due beginning the
@@ -137,14 +167,17 @@ impl<A: Allocator + Copy> Queues<A> {
     ) -> Result<(), AllocError>
         ensures { OnOk result (places.new.items ≡ places.old.items ++ place_list (is_due due) self.now) }
     {
-        add_places(places, &self.map, due)
+        add_places(places, &self.map, &self.fronts, due)
     }
 
-    /// Drops the due beginning of each queue.
-    pub fn trim(&mut self, due: Due)
-        ensures { self.new ≡ rests (is_due due) self.old }
+    /// Drops the due beginning of each queue, and returns how many queues had one. If an allocation
+    /// fails, nothing has changed.
+    pub fn trim(&mut self, due: Due) -> Result<usize, AllocError>
+        ensures count { IfOk result (λ count. count ≡ due_fronts (is_due due) self.old) }
+        ensures ok { OnOk result (self.new ≡ rests (is_due due) self.old) }
+        ensures err { OnErr result (self.new ≡ self.old) }
     {
-        change_values(&mut self.map, &Trim { due });
+        trim(&mut self.map, &mut self.fronts, self.alloc, due)
     }
 
     /// Returns how many events wait.
@@ -154,17 +187,6 @@ impl<A: Allocator + Copy> Queues<A> {
     {
         waiting(&self.map)
     }
-}
-
-fn is_any_due<A: Allocator>(queues: &QueueMap<A>, due: Due) -> bool
-    ensures { result ≡ is_any_due (is_due due) queues.now.entries }
-{
-    for (_path, queue) in queues {
-        if queue.is_front_due(due) {
-            return true;
-        }
-    }
-    false
 }
 
 fn waiting<A: Allocator>(queues: &QueueMap<A>) -> u64
@@ -178,37 +200,6 @@ fn waiting<A: Allocator>(queues: &QueueMap<A>) -> u64
     count
 }
 
-fn add_places<A: Allocator + Copy>(
-    places: &mut Vec<DebouncedEvent<A>, A>,
-    queues: &QueueMap<A>,
-    due: Due,
-) -> Result<(), AllocError>
-    ensures { OnOk result (places.new.items ≡ places.old.items ++ place_list (is_due due) queues.now.entries) }
-{
-    for (_path, queue) in queues {
-        let events = queue.events();
-        let count = expired_count(events, due);
-        add_last_of_kind(places, &events[..count])?;
-    }
-    Ok(())
-}
-
-/// Drops the due beginning of a queue.
-#[derive(Drop)]
-struct Trim {
-    due: Due,
-}
-
-impl<A: Allocator> Change<Queue<A>> for Trim {
-    ghost changed = { λ t events. rest_after (is_due t.due) events };
-
-    ghost stays = { λ t events. waits (rest_after (is_due t.due) events) };
-
-    fn change(&self, queue: &mut Queue<A>) -> bool {
-        queue.trim(self.due)
-    }
-}
-
 /// A queue of this event alone.
 fn single<A: Allocator>(alloc: A, event: DebouncedEvent<A>) -> Result<Queue<A>, AllocError>
     ensures { IfOk result (λ queue. queue ≡ event ∷ []) }
@@ -220,22 +211,25 @@ fn single<A: Allocator>(alloc: A, event: DebouncedEvent<A>) -> Result<Queue<A>, 
 
 fn push<A: Allocator + Copy>(
     queues: &mut QueueMap<A>,
+    fronts: &mut Fronts<A>,
     spare: &mut PathBuf<A>,
     alloc: A,
     event: DebouncedEvent<A>,
 ) -> Result<(), AllocError>
-    requires { 0 < length event.event.paths }
+    requires path { 0 < length event.event.paths }
+    requires indexed { IsIndexed fronts.old queues.old.entries }
     ensures ok { OnOk result (queues.new.entries ≡ push queues.old.entries (first_of event.event.paths) event) }
     ensures err { OnErr result (queues.new.entries ≡ queues.old.entries) }
     ensures grown { OnErr result (skips_it queues.old.entries event.event ≡ false) }
+    ensures indexed { IsIndexed fronts.new queues.new.entries }
 {
     let path = first_path(&event);
     if let Some(queue) = queues.get_mut(path) {
         return queue.append(event);
     }
+    let time = event.time();
     let key = new_key(spare, path)?;
-    queues.insert(key, single(alloc, event)?)?;
-    Ok(())
+    put_new(queues, fronts, key, time, single(alloc, event)?)
 }
 
 /// Whether a queue waits at the path that was created.
@@ -248,26 +242,65 @@ fn was_created_at<A: Allocator>(queues: &QueueMap<A>, path: &PathBuf<A>) -> bool
     }
 }
 
-fn remove<A: Allocator + Copy>(
+/// Drops what waits at the path and below it.
+fn drop_at<A: Allocator + Copy>(
     queues: &mut QueueMap<A>,
+    fronts: &mut Fronts<A>,
+    spare: &mut PathBuf<A>,
+    path: &PathBuf<A>,
+)
+    requires { IsIndexed fronts.old queues.old.entries }
+    ensures left { queues.new.entries ≡ without_queue (without_below queues.old.entries path.now) path.now }
+    ensures indexed { IsIndexed fronts.new queues.new.entries }
+{
+    drop_below(queues, fronts, path, spare);
+    take_out(queues, fronts, path);
+}
+
+/// Drops what waits below the event's first path, and puts the event in the place of what waits there.
+fn replace<A: Allocator + Copy>(
+    queues: &mut QueueMap<A>,
+    fronts: &mut Fronts<A>,
     spare: &mut PathBuf<A>,
     alloc: A,
     event: DebouncedEvent<A>,
 ) -> Result<(), AllocError>
-    requires { 0 < length event.event.paths }
+    requires path { 0 < length event.event.paths }
+    requires indexed { IsIndexed fronts.old queues.old.entries }
+    ensures ok { OnOk result (queues.new.entries ≡ replaced queues.old.entries (first_of event.event.paths) event) }
+    ensures err { OnErr result (queues.new.entries ≡ queues.old.entries) }
+    ensures indexed { IsIndexed fronts.new queues.new.entries }
+    ensures was_ordered { IsStrictlySortedBy path_cmp (keys_of queues.old.entries) }
+{
+    // The proof reads here that the paths ascend.
+    let _len = queues.len();
+    let path = first_path(&event);
+    let time = event.time();
+    let folder = path.clone()?;
+    let key = new_key(spare, path)?;
+    put(queues, fronts, key, time, single(alloc, event)?)?;
+    drop_below(queues, fronts, &folder, spare);
+    Ok(())
+}
+
+fn remove<A: Allocator + Copy>(
+    queues: &mut QueueMap<A>,
+    fronts: &mut Fronts<A>,
+    spare: &mut PathBuf<A>,
+    alloc: A,
+    event: DebouncedEvent<A>,
+) -> Result<(), AllocError>
+    requires path { 0 < length event.event.paths }
+    requires indexed { IsIndexed fronts.old queues.old.entries }
     ensures ok { OnOk result (queues.new.entries ≡ removal queues.old.entries (first_of event.event.paths) event) }
     ensures err { OnErr result (queues.new.entries ≡ queues.old.entries) }
     ensures grown { OnErr result (cancels queues.old.entries event.event ≡ false) }
+    ensures indexed { IsIndexed fronts.new queues.new.entries }
 {
     let path = first_path(&event);
     if was_created_at(queues, path) {
-        drop_below(queues, path, spare);
-        queues.remove(path);
+        drop_at(queues, fronts, spare, path);
         return Ok(());
     }
-    let key = new_key(spare, path)?;
-    let folder = path.clone()?;
-    queues.insert(key, single(alloc, event)?)?;
-    drop_below(queues, &folder, spare);
-    Ok(())
+    replace(queues, fronts, spare, alloc, event)
 }

@@ -10,9 +10,11 @@ ghost use Rattle.debounce_model.specs.Moved.{moved_below, with_queues};
 ghost use Rattle.debounce_model.specs.WellFormed.{AreQueues};
 ghost use Rattle.debounce_model.specs.MapSteps.{reserved, reserved_all, nonempty_of, HasRoom, stale, stale_one, without_queues};
 
-use crate::map::{Change, QueueMap, change_values, new_key};
+use crate::map::new_key;
 use event_queue::moved::moved_queue;
 use event_queue::queue::Queue;
+use front_index::change::{Change, change_values};
+use front_index::fronts::QueueMap;
 use notify_paths::path::PathBuf;
 use notify_types::time::Moment;
 use std::alloc::{AllocError, Allocator};

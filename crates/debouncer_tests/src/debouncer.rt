@@ -43,6 +43,25 @@ fn check_counts(rt: &impl Abort, core: &Core) {
     assert_eq!(rt; [core.taken(), core.given(), core.waiting()], [2, 1, 1]);
 }
 
+/// How many queues a tick at this moment opens.
+fn visited_at(rt: &(impl Abort + AllocGlobal), core: &mut Core, now: u128) -> u64 {
+    core.debounced_events(now).expect(rt, "memory");
+    core.visited()
+}
+
+#[test]
+fn a_tick_opens_the_queues_that_are_due(rt: HostRuntime) {
+    let mut core = new_core(&rt);
+    create(&rt, &mut core, "/a", 0);
+    create(&rt, &mut core, "/b", 40);
+    create(&rt, &mut core, "/c", 60);
+    let before = core.visited();
+    let first = visited_at(&rt, &mut core, 55);
+    let second = visited_at(&rt, &mut core, 120);
+    let third = visited_at(&rt, &mut core, 121);
+    assert_eq!(rt; [before, first, second, third], [0, 1, 2, 0]);
+}
+
 #[test]
 fn a_step_answers_its_command(rt: HostRuntime) {
     let mut core = new_core(&rt);

@@ -1,4 +1,6 @@
 //! Events, their kinds and errors: what they say, how they print, and their copies.
+ghost use Rattle.std.specs.Prelude.{◌≡◌, length};
+
 use crate::build::{CREATE, event, path, timed};
 use notify_debouncer_full::{
     DebouncedEvent, Error, ErrorKind, Event, EventAttributes, EventKind, Flag, ModifyKind,
@@ -64,22 +66,51 @@ fn group_keeps_its_order(rt: HostRuntime) {
 
 fn check_times(rt: &impl Abort, sorted: &[DebouncedEvent]) {
     assert_eq!(rt; sorted.len(), 4);
-    let times = [
-        sorted[0].time(),
-        sorted[1].time(),
-        sorted[2].time(),
-        sorted[3].time(),
-    ];
-    assert_eq!(rt; times, [4, 5, 3, 7]);
+    assert_eq!(rt; times_of_four(sorted), [4, 5, 3, 7]);
     check_first_path(rt, &sorted[0], "/b");
     for event in &sorted[1..] {
         check_first_path(rt, event, "/a");
     }
 }
 
+fn times_of_four(events: &[DebouncedEvent]) -> [u128; 4]
+    requires { length events.now ≡ 4 }
+{
+    [
+        events[0].time(),
+        events[1].time(),
+        events[2].time(),
+        events[3].time(),
+    ]
+}
+
 fn check_first_path(rt: &impl Abort, event: &DebouncedEvent, text: &str) {
     let first = event.first_path().expect(rt, text);
     assert_eq!(rt; first.as_str(), text);
+}
+
+#[test]
+fn groups_that_tie_stand_by_their_paths(rt: HostRuntime) {
+    let events = vec![in rt.alloc();
+        timed(&rt, EventKind::Any, "/b", 2),
+        timed(&rt, EventKind::Any, "/a", 2),
+        timed(&rt, EventKind::Any, "/a", 1),
+        DebouncedEvent::new(Event::new(rt.alloc(), EventKind::Any), 2),
+    ]
+    .expect(&rt, "memory");
+    let sorted = sort_events(rt.alloc(), events).expect(&rt, "memory");
+    check_ties(&rt, sorted.as_slice());
+}
+
+/// The event without paths comes first, and then each group by itself.
+fn check_ties(rt: &impl Abort, sorted: &[DebouncedEvent]) {
+    assert_eq!(rt; sorted.len(), 4);
+    assert_eq!(rt; times_of_four(sorted), [2, 2, 1, 2]);
+    assert!(rt; sorted[0].first_path().is_none());
+    for event in &sorted[1..3] {
+        check_first_path(rt, event, "/a");
+    }
+    check_first_path(rt, &sorted[3], "/b");
 }
 
 #[test]

@@ -5,16 +5,22 @@
 #[cfg(test)]
 mod build;
 #[cfg(test)]
+mod cache;
+#[cfg(test)]
 mod debouncer;
 #[cfg(test)]
 mod devices;
 #[cfg(test)]
 mod events;
 #[cfg(test)]
+mod folders;
+#[cfg(test)]
 mod memory;
 #[cfg(test)]
 mod paths;
 #[cfg(test)]
 mod readers;
+#[cfg(test)]
+mod readme;
 #[cfg(test)]
 mod scripts;

@@ -76,12 +76,14 @@ fn check_cancelled(rt: &impl Abort, core: &mut Core, heap: Heap, texts: &str) {
 }
 
 /// What comes first, and the step of which each request for memory is refused in turn.
-const STORIES: [&str; 5] = [
+const STORIES: [&str; 7] = [
     "create /b; create /a",
     "modify /a, modify /a/x; remove /a",
     "modify /a, modify /b, from /a; to /b",
     "create /d/x, modify /d/y/z, modify /e/y, from /d; to /e",
     "modify /a, create /b, create /a/x; tick",
+    "modify /a, create /b, later /a, later /c; tick",
+    "modify /a, modify /b, later /a, later /b; tick",
 ];
 
 #[test]
@@ -126,15 +128,18 @@ fn is_refused(rt: &impl Abort, core: &mut Core, heap: Heap, step: &str, n: u64) 
 /// Whether the step is taken if the nth request for memory is refused.
 fn take_step(rt: &impl Abort, core: &mut Core, heap: Heap, step: &str, n: u64) -> bool {
     match step.split_once(' ') {
-        Some((word, text)) => add_event(core, heap, event(rt, heap, kind_of(word), text), n),
+        Some((word, text)) => {
+            let event = event(rt, heap, kind_of(word), text);
+            add_event(core, heap, event, moment_of(word), n)
+        }
         None => emit(core, heap, n),
     }
 }
 
-fn add_event(core: &mut Core, heap: Heap, event: Event<Heap>, n: u64) -> bool {
+fn add_event(core: &mut Core, heap: Heap, event: Event<Heap>, now: u128, n: u64) -> bool {
     let event = event.set_tracker(1);
     heap.refuse(n);
-    let taken = core.add_event(event, 0, true).is_ok();
+    let taken = core.add_event(event, now, true).is_ok();
     heap.refuse(0);
     taken
 }
@@ -156,11 +161,16 @@ fn kind_of(word: &str) -> EventKind {
     }
 }
 
+/// When the event comes: one that comes later isn't expired at the tick.
+fn moment_of(word: &str) -> u128 {
+    if word == "later" { 80 } else { 0 }
+}
+
 /// What can be seen of a debouncer: its outlook, its counts and its latest moment.
-type Seen = (Vec<DebouncedEvent<Heap>, Heap>, [u64; 3], u128);
+type Seen = (Vec<DebouncedEvent<Heap>, Heap>, [u64; 4], u128);
 
 fn seen(rt: &impl Abort, core: &Core) -> Seen {
     let outlook = core.outlook().expect(rt, "memory");
-    let counts = [core.waiting(), core.taken(), core.given()];
+    let counts = [core.waiting(), core.taken(), core.given(), core.visited()];
     (outlook, counts, core.latest())
 }

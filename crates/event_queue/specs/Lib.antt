@@ -1,3 +1,4 @@
 pub mod Due
+pub mod Front
 pub mod Target
 pub mod Renames

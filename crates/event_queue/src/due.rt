@@ -3,7 +3,7 @@ ghost use Rattle.std.specs.Prelude.{◌≡◌, ◌++◌, ◌≤◌, OnOk, length
 ghost use Rattle.std.specs.List.{list_any};
 ghost use Rattle.notify_types.specs.KindNumbers.{kind_eq};
 ghost use Rattle.debounce_model.specs.Due.{expired_beginning, rest_after, last_of_kind};
-ghost use Rattle.event_queue.specs.Due.{is_due, unless_later};
+ghost use Rattle.event_queue.specs.Due.{is_due, is_due_at, unless_later};
 
 use notify_types::event::DebouncedEvent;
 use notify_types::kind::EventKind;
@@ -24,8 +24,15 @@ impl Due {
     pub fn is_due<A: Allocator>(self, event: &DebouncedEvent<A>) -> bool
         ensures { result ≡ is_due self event.now }
     {
+        self.is_due_at(event.time())
+    }
+
+    /// Whether an event of this time is due.
+    pub fn is_due_at(self, time: Moment) -> bool
+        ensures { result ≡ is_due_at self time }
+    {
         match self {
-            Due::Expired(timeout, now) => age(now, event.time()) >= timeout,
+            Due::Expired(timeout, now) => age(now, time) >= timeout,
             Due::Always => true,
         }
     }

@@ -9,11 +9,13 @@ ghost use Rattle.debounce_model.specs.Due.{is_front_due, rest_after, waits};
 ghost use Rattle.debounce_model.specs.Rename.{is_both_kind, without_last, without_both, staying};
 ghost use Rattle.debounce_model.specs.MapSteps.{one_or_none};
 ghost use Rattle.event_queue.specs.Due.{is_due};
+ghost use Rattle.event_queue.specs.Front.{front_time};
 
 use crate::due::{Due, expired_count};
 use notify_paths::error::Error;
 use notify_types::event::{DebouncedEvent, clone_events};
 use notify_types::kind::{EventKind, ModifyKind, RenameMode};
+use notify_types::time::Moment;
 use std::alloc::{AllocError, Allocator, Global};
 use std::marker::Model;
 
@@ -147,6 +149,28 @@ impl<A: Allocator> Queue<A> {
         ensures { result ≡ waits self.now }
     {
         !self.events.as_slice().is_empty()
+    }
+
+    /// Returns the time of the first event.
+    pub fn front_time(&self) -> Option<Moment>
+        ensures { result ≡ front_time self.now }
+    {
+        match self.events.first() {
+            None => None,
+            Some(first) => Some(first.time()),
+        }
+    }
+
+    /// Returns the time of the first event after the due beginning.
+    pub fn time_after(&self, due: Due) -> Option<Moment>
+        ensures { result ≡ front_time (rest_after (is_due due) self.now) }
+    {
+        let events = self.events.as_slice();
+        let count = expired_count(events, due);
+        match events[count..].first() {
+            None => None,
+            Some(first) => Some(first.time()),
+        }
     }
 
     /// Whether the first event is due.

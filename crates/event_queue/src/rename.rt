@@ -2,6 +2,8 @@
 ghost use Rattle.std.specs.Prelude.{◌≡◌, ◌++◌, ◌∷◌, [], IfOk, OnOk, map, option_copied, Some};
 ghost use Rattle.debounce_model.specs.Rename.{first_both, without_last, without_both, original_path, original_time, staying, moving, at_path, rename_event, override_event, override_attributes};
 ghost use Rattle.debounce_model.specs.WellFormed.{IsBothInFront};
+ghost use Rattle.std.specs.Option.{option_map};
+ghost use Rattle.event_queue.specs.Front.{front_time};
 ghost use Rattle.event_queue.specs.Target.{target_of, IsStayTarget, reported};
 ghost use Rattle.event_queue.specs.Renames.{HasArrived, renaming_by};
 
@@ -71,6 +73,26 @@ impl<'a, A: Allocator> Source<'a, A> {
         match self.stays {
             None => Target::Free,
             Some(_) => Target::Removed,
+        }
+    }
+
+    /// Returns the time of the event that stays.
+    pub fn staying_time(&self) -> Option<Moment>
+        ensures { result ≡ option_map (λ x. x.time) (option_copied self.now.stays) }
+    {
+        match self.stays {
+            None => None,
+            Some(event) => Some(event.time()),
+        }
+    }
+
+    /// Returns the time of the first event that goes along.
+    pub fn moving_time(&self) -> Option<Moment>
+        ensures { result ≡ front_time self.now.moving.now }
+    {
+        match self.moving.first() {
+            None => None,
+            Some(event) => Some(event.time()),
         }
     }
 

@@ -1,15 +1,21 @@
 //! The program `mirror`: it runs a script of file events on a debouncer, and prints what a reader of
-//! its batches sees. `mirror SCRIPT`, `mirror --check SCRIPT`, or `mirror --threads SCRIPT..`.
+//! its batches sees; or it runs scripts in threads and compares; or it watches a folder, and prints what
+//! the debouncer makes of its changes. `mirror SCRIPT`, `mirror --check SCRIPT`,
+//! `mirror --threads SCRIPT..`, or `mirror --watch DIR TICKS`.
 #![tactic(auto)]
 
 use mirror_threads::threads_run;
-use notify_mirror::{Fault, Form, check_run, script_run};
+use notify_debouncer_full::RecommendedWatcher;
+use notify_mirror::{Fault, Form, check_run, script_run, watch_run};
 use std::fs::File;
 use std::io::{ErrorKind, Read};
 use std::process::ExitCode;
 use std::sync::Wait;
 use std::thread::Threads;
 use std::{env, io};
+
+/// The watcher of `mirror --watch`.
+type Polling = RecommendedWatcher<HostRuntime>;
 
 /// The script's file, or if it can't be opened a reader that fails.
 #[derive(Drop)]
@@ -36,28 +42,33 @@ impl Read for Source {
     }
 }
 
-/// Runs the form of the program that these words, which follow its name, ask for. Returns its status.
-fn run_form<T: Threads + Wait + Sync>(rt: &HostRuntime, threads: &T, words: &[String]) -> u8 {
-    let alloc = rt.alloc();
-    let mut out = rt.stdout();
-    let mut err = rt.stderr();
-    match Form::of(words) {
-        Some(Form::Run(name)) => {
-            script_run(alloc, name, &mut Source::open(rt, name), &mut out, &mut err)
-        }
-        Some(Form::Check(name)) => {
-            check_run(alloc, name, &mut Source::open(rt, name), &mut out, &mut err)
-        }
-        Some(Form::Threads) => run_in_threads(rt, threads, words),
-        None => refuse(rt, Fault::Usage),
-    }
+/// Runs a script of this name. Returns the status.
+fn run(rt: &HostRuntime, name: &str) -> u8 {
+    let mut source = Source::open(rt, name);
+    script_run(
+        rt.alloc(),
+        name,
+        &mut source,
+        &mut rt.stdout(),
+        &mut rt.stderr(),
+    )
+}
+
+/// Runs a script of this name, and checks its stream. Returns the status.
+fn check(rt: &HostRuntime, name: &str) -> u8 {
+    let mut source = Source::open(rt, name);
+    check_run(
+        rt.alloc(),
+        name,
+        &mut source,
+        &mut rt.stdout(),
+        &mut rt.stderr(),
+    )
 }
 
 /// Runs the scripts that the words after the first name, each in a thread. Returns the status.
 fn run_in_threads<T: Threads + Wait + Sync>(rt: &HostRuntime, threads: &T, words: &[String]) -> u8 {
-    let [_, names @ ..] = words else {
-        return refuse(rt, Fault::Usage);
-    };
+    let names = after_first(words);
     let mut sources = Vec::new(rt.alloc());
     for name in names {
         let Ok(()) = sources.push(Source::open(rt, name.as_str())) else {
@@ -89,13 +100,29 @@ fn words_of(rt: &HostRuntime) -> Result<Vec<String>, Fault> {
     }
 }
 
+/// What follows the first word, if anything does.
+fn after_first(words: &[String]) -> &[String] {
+    match words {
+        [_, words @ ..] => words,
+        [] => words,
+    }
+}
+
 fn main(rt: HostRuntime) -> ExitCode {
-    let status = match words_of(&rt) {
-        Ok(words) => match words.as_slice() {
-            [_, words @ ..] => run_form(&rt, &rt, words),
-            [] => refuse(&rt, Fault::Usage),
-        },
-        Err(fault) => refuse(&rt, fault),
+    let words = match words_of(&rt) {
+        Ok(words) => words,
+        Err(fault) => return ExitCode::from(refuse(&rt, fault)),
+    };
+    let words = after_first(words.as_slice());
+    let status = match Form::of(words) {
+        Some(Form::Run(name)) => run(&rt, name),
+        Some(Form::Check(name)) => check(&rt, name),
+        Some(Form::Watch(folder, ticks)) => {
+            let (mut out, mut err) = (rt.stdout(), rt.stderr());
+            watch_run::<Polling, _, _, _, _>(rt, rt.alloc(), folder, ticks, &mut out, &mut err)
+        }
+        Some(Form::Threads) => run_in_threads(&rt, &rt, words),
+        None => refuse(&rt, Fault::Usage),
     };
     ExitCode::from(status)
 }

@@ -23,8 +23,12 @@ pub enum Fault {
     NotCommand(u64),
     /// An allocation failed.
     Memory,
+    /// The folder can't be watched.
+    CannotWatch,
     /// The output can't be written.
     OutputFailed,
+    /// A thread can't be started.
+    NoThread,
 }
 
 impl Fault {
@@ -37,11 +41,13 @@ impl Fault {
             Fault::Usage | Fault::NotUtf8 => 2,
             Fault::NotCommand(_) => 3,
             Fault::Memory => 4,
+            Fault::CannotWatch => 5,
             Fault::OutputFailed => 6,
+            Fault::NoThread => 8,
         }
     }
 
-    /// Writes the fault's line, for a script of this name. If the output failed, there is none.
+    /// Writes the fault's line, for a script or a folder of this name. If the output failed, there is none.
     pub fn write<E: Write>(self, name: &str, err: &mut E) -> io::Result<()>
         ensures silent { self ≡ Fault.OutputFailed → E.contents err.new ≡ E.contents err.old }
         ensures line { OnOk result (Appends (E.contents err.old) (E.contents err.new) (fault_line name.now self)) }
@@ -55,7 +61,9 @@ impl Fault {
             Fault::CannotRead => writeln!(err, "mirror: cannot read {name}"),
             Fault::NotCommand(line) => writeln!(err, "mirror: {name}: line {line}: not a command"),
             Fault::Memory => writeln!(err, "mirror: out of memory"),
+            Fault::CannotWatch => writeln!(err, "mirror: cannot watch {name}"),
             Fault::OutputFailed => Ok(()),
+            Fault::NoThread => writeln!(err, "mirror: cannot start a thread"),
         }
     }
 }

@@ -18,5 +18,6 @@ mod script;
 
 pub use counts::Counts;
 pub use fault::Fault;
+pub use line::read_number;
 pub use reading::read_script;
 pub use script::Script;

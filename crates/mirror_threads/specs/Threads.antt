@@ -4,13 +4,12 @@ use Rattle.std.specs.Fmt.{decimal}
 use Rattle.std.specs.Io.KnownBytes.{Appends}
 use Rattle.mirror_script.specs.Faults.{fault_status}
 use Rattle.mirror_threads.specs.declared.stop.Stop.{Stop}
-use Rattle.mirror_threads.specs.declared.stop.Stop.TheVariants.{Faulty, Timeouts, NotStarted}
+use Rattle.mirror_threads.specs.declared.stop.Stop.TheVariants.{Faulty, Timeouts}
 
 -- the exit status of a run that stops
 abbrev pub stop_status : Stop → ℕ
 stop_status (Faulty name fault) = fault_status fault
 stop_status Timeouts = 3
-stop_status NotStarted = 8
 
 -- the last word: the replies are the same, or they differ
 abbrev pub last_word : Bool → List ℕ

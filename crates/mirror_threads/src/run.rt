@@ -87,7 +87,7 @@ fn is_replayed<T: Threads + Wait + Sync, A: Allocator + Copy + Send + Sync + 'st
         Err(error) => {
             return match error.kind {
                 ErrorKind::Full | ErrorKind::Generic(_) => Ok(false),
-                ErrorKind::Io(_) => Err(Stop::NotStarted),
+                ErrorKind::Io(_) => Err(Stop::Faulty("", Fault::NoThread)),
                 _ => Err(Stop::Faulty("", Fault::Memory)),
             };
         }

@@ -12,8 +12,6 @@ pub enum Stop<'n> {
     Faulty(&'n str, Fault),
     /// The scripts have different timeouts.
     Timeouts,
-    /// A thread can't be started.
-    NotStarted,
 }
 
 impl Stop<'_> {
@@ -26,7 +24,6 @@ impl Stop<'_> {
         match self {
             Stop::Faulty(_, fault) => fault.status(),
             Stop::Timeouts => 3,
-            Stop::NotStarted => 8,
         }
     }
 
@@ -35,7 +32,6 @@ impl Stop<'_> {
         let _ = match self {
             Stop::Faulty(name, fault) => fault.write(name, err),
             Stop::Timeouts => writeln!(err, "mirror: the scripts differ in timeout"),
-            Stop::NotStarted => writeln!(err, "mirror: cannot start a thread"),
         };
     }
 }

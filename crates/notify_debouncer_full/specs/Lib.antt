@@ -12,6 +12,8 @@ pub use Rattle.notify_paths.specs.ErrorView
 pub use Rattle.notify_paths.specs.ErrorEquality
 pub use Rattle.notify_types.specs.Equality
 pub use Rattle.debounce_model.specs.Cache
+pub use Rattle.file_id_cache.specs.Scans
+pub use Rattle.file_id_cache.specs.FileIdMap
 pub use Rattle.debounce_model.specs.Queues
 pub use Rattle.debounce_model.specs.Order
 pub use Rattle.debounce_model.specs.Command
@@ -44,3 +46,10 @@ pub use Rattle.debounce_gate.specs.Turn
 pub use Rattle.debounce_shell.specs.Start
 pub use Rattle.debounce_shell.specs.Watched
 pub use Rattle.debounce_threads.specs.Merged
+pub use Rattle.folder_listing.specs.Listing
+pub use Rattle.folder_listing.specs.Changes
+pub use Rattle.folder_listing.specs.Near
+pub use Rattle.folder_listing.specs.MergedListings
+pub use Rattle.notify_poll.specs.Folders
+pub use Rattle.notify_poll.specs.Rounds
+pub use Rattle.notify_poll.specs.Polled

@@ -13,15 +13,19 @@
 //! let batch = core.debounced_events(now + 50_000_000)?;
 //! ```
 //!
+//! Renames whose halves have no trackers are joined by file numbers if the cache has some: `FileIdMap`
+//! over a `FolderScan` reads them from the file system, and `NoCache` has none.
+//!
 //! Moments are nanoseconds from a start that the caller chooses; the core reads no clock. The
 //! definitions that the contracts speak of are re-exported in `specs`.
 #![tactic(auto)]
+
+mod recommended;
 
 pub use debounce_book::book::{Book, command_step};
 pub use debounce_book::entry::Entry;
 pub use debounce_book::steps::{Ticked, feed_step, root_step, tick_step, unroot_step};
 pub use debounce_core::data::DebounceDataInner;
-pub use debounce_core::emit::sort_events;
 pub use debounce_gate::gate::{Gate, feed_one, turn};
 pub use debounce_gate::handler::{DebounceEventHandler, DebounceEventResult};
 pub use debounce_model::command::{Command, Reply};
@@ -31,11 +35,24 @@ pub use debounce_shell::send_to::SendTo;
 pub use debounce_shell::{Feed, now};
 pub use debounce_threads::meet::{Meet, NoMeet};
 pub use debounce_threads::run::run_threads;
+pub use event_order::order::sort_events;
 pub use event_queue::queue::Queue;
 pub use file_id_cache::cache::{FileIdCache, NoCache};
+pub use file_id_cache::file_id_map::FileIdMap;
+pub use file_id_cache::scan::Scan;
+pub use folder_listing::compare::compare;
+pub use folder_listing::entry::{EntryKind, Found};
+pub use folder_listing::listing::Listing;
+pub use folder_scan::folder_scan::FolderScan;
 pub use notify_paths::error::{Error, ErrorKind};
-pub use notify_paths::part::{Folders, Part, Parts};
+pub use notify_paths::part::{Folders as FoldersAbove, Part, Parts};
 pub use notify_paths::path::PathBuf;
+pub use notify_poll::folders::Folders;
+pub use notify_poll::list::list;
+pub use notify_poll::polled::Polled;
+pub use notify_poll::real::RealFolders;
+pub use notify_poll::round::poll_round;
+pub use notify_poll::watcher::{PollTask, PollWatcher};
 pub use notify_types::event::{DebouncedEvent, Event, EventAttributes, Flag, RecursiveMode};
 pub use notify_types::kind::{
     AccessKind, AccessMode, CreateKind, DataChange, EventKind, MetadataKind, ModifyKind,
@@ -45,6 +62,4 @@ pub use notify_types::time::{Moment, age};
 pub use notify_watch::config::{Config, WatcherKind};
 pub use notify_watch::handler::EventHandler;
 pub use notify_watch::watcher::{Task, Watcher, start_task};
-
-/// The cache that fits most programs: it holds nothing, so renames are joined by their trackers alone.
-pub type RecommendedCache = NoCache;
+pub use recommended::{RecommendedCache, RecommendedWatcher, new_debouncer};

@@ -75,7 +75,7 @@ fn play<A: Allocator + Copy, R: Read, O: Write>(
 }
 
 /// Ends a run: writes the line of a fault, and returns the exit status.
-fn end<E: Write>(run: Result<(), Fault>, name: &str, err: &mut E) -> u8
+pub(crate) fn end<E: Write>(run: Result<(), Fault>, name: &str, err: &mut E) -> u8
     ensures status { result ≡ status_of run }
     ensures silent { (result ≡ 0) ⊎ (result ≡ 6) → E.contents err.new ≡ E.contents err.old }
 {

@@ -14,8 +14,8 @@ fn is_below<A: Allocator>(path: &PathBuf<A>, base: &PathBuf<A>) -> bool
     path.starts_with(base) && *path != *base
 }
 
-/// How many keys lie below the path. It looks at these and at one more.
-fn count_below<V, A: Allocator>(map: &BTreeMap<PathBuf<A>, V, A>, path: &PathBuf<A>) -> usize
+/// Returns how many keys lie strictly below the path. It looks at these and at one more.
+pub fn count_below<V, A: Allocator>(map: &BTreeMap<PathBuf<A>, V, A>, path: &PathBuf<A>) -> usize
     ensures { result ≡ length (filter (λ e. is_below e.0 path.now) map.now.entries) }
 {
     let mut count = 0;
@@ -28,9 +28,9 @@ fn count_below<V, A: Allocator>(map: &BTreeMap<PathBuf<A>, V, A>, path: &PathBuf
     count
 }
 
-/// Copies the first key below the path to `spare`. False says that none lies below, or that there is
-/// no memory for the copy.
-fn copy_first_below<V, A: Allocator>(
+/// Copies the first key strictly below the path to `spare`. False says that none lies below, or that
+/// there is no memory for the copy.
+pub fn copy_first_below<V, A: Allocator>(
     map: &BTreeMap<PathBuf<A>, V, A>,
     path: &PathBuf<A>,
     spare: &mut PathBuf<A>,

@@ -2,8 +2,9 @@
 
 /// Takes what a watcher reports: `T` is a `Result` of an event or an error of the watcher.
 ///
-/// `T` has no bound, so that the trait can be implemented for closures and over any allocator.
-pub trait EventHandler<T>: Send + Drop + 'static {
+/// `T` has no bound, so that the trait can be implemented for closures and over any allocator. A watcher
+/// with a thread asks for a handler that is `Send` too.
+pub trait EventHandler<T>: Drop + 'static {
     /// Whether the handler may be called.
     ghost ready: { Self → Type 0 };
 

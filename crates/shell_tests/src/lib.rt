@@ -10,6 +10,8 @@ mod gates;
 #[cfg(test)]
 mod memory;
 #[cfg(test)]
+mod mirrors;
+#[cfg(test)]
 mod running;
 #[cfg(test)]
 mod starting;

@@ -210,7 +210,7 @@ fn item<A: Allocator + Copy>(alloc: A, kind: EventKind) -> Result<Event<A>, Erro
 }
 
 impl<
-    F: EventHandler<Result<Event<A>, Error<A>>>,
+    F: EventHandler<Result<Event<A>, Error<A>>> + Send,
     R: Clock + Drop + Send + 'static,
     A: Allocator + Copy + Send + Sync + 'static,
 > Task for ReplayTask<F, R, A> {
@@ -236,7 +236,7 @@ impl<
 }
 
 impl<
-    F: EventHandler<Result<Event<A>, Error<A>>>,
+    F: EventHandler<Result<Event<A>, Error<A>>> + Send,
     R: Clock + Copy + Drop + Send + 'static,
     A: Allocator + Copy + Send + Sync + 'static,
 > Watcher<F, R, A> for Replay<R, A> {

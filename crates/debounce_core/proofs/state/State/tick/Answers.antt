@@ -1,8 +1,9 @@
 -- A tick with nothing due changes nothing; else the batch is that of the tick, and the laws are kept.
-use Rattle.std.proofs.Common.{◌≡◌, ◌∙◌, add-zero, sym, arith, refl, false, List}
+use Rattle.std.proofs.Common.{◌≡◌, ◌∙◌, add-zero, sym, arith, refl, true, false, true≢false, List}
 use Rattle.notify_types.specs.Event.{Timed}
 use Rattle.debounce_core.specs.StateView.{state_of}
-use Rattle.debounce_model.specs.Tick.{IsBatch, is_expired_in, is_due}
+use Rattle.debounce_model.specs.Tick.{IsBatch, is_expired_in, is_slot_due, is_due}
+use Rattle.debounce_model.proofs.DueCounts.{quiet_count}
 use Rattle.debounce_model.proofs.OrderUnique.{batch_of_none, in_order_none}
 use Rattle.debounce_model.proofs.StateLemmas.{quiet_state, well_formed-tick}
 use Rattle.debounce_core.proofs.state.State.tick.Goals as goal
@@ -31,6 +32,13 @@ returns-then-not-is_due-clause-ok g c =
     let none = quiet_state (is_expired_in s c.args.now) s c.self.invariant.queues nothing in
     rw (← c.self.view_is, none.1, none.2, c.new.ensures.items, add-zero, c.max-now.ensures) refl
 
+pub returns-then-not-is_due-clause-visited : goal.returns-then-not-is_due-clause-visited
+returns-then-not-is_due-clause-visited g c =
+    let a = c.self.inside in
+    let s = state_of a.queues a.roots.items a.rename_slot a.rescan_slot a.errors.items a.timeout a.latest a.taken a.given in
+    let nothing : is_due s c.args.now ≡ false = rw (← c.self.view_is, c.max-now.ensures) at (sym c.is_due.ensures ∙ c.if-not-is_due.true) in
+    rw (← c.self.view_is) (sym (quiet_count (is_expired_in s c.args.now) (is_slot_due (is_expired_in s c.args.now) s.rescan_slot) s.queues nothing))
+
 pub overflow_add-self : goal.overflow_add-self
 overflow_add-self g c =
     let a = c.self.inside in
@@ -49,7 +57,7 @@ invariant_of-self-2 g c =
     let s = state_of a.queues a.roots.items a.rename_slot a.rescan_slot a.errors.items a.timeout a.latest a.taken a.given in
     let b = c.in_ok-batch.batch in
     let batch : IsBatch s c.args.now b.items = rw (← c.self.view_is, c.max-now.ensures) at c.in_ok-batch.ensures.order in
-    rw (c.trim.ensures, c.trim_slot.ensures, c.len.ensures, b.ok.0, c.max-now.ensures) (well_formed-tick s c.args.now b.items c.self.invariant batch)
+    rw (c.in-Ok.ensures.ok, c.trim_slot.ensures, c.len.ensures, b.ok.0, c.max-now.ensures) (well_formed-tick s c.args.now b.items c.self.invariant batch)
 
 pub returns-clause-batch : goal.returns-clause-batch
 returns-clause-batch g c =
@@ -68,4 +76,15 @@ returns-clause-only g c =
 pub returns-clause-ok : goal.returns-clause-ok
 returns-clause-ok g c =
     let b = c.in_ok-batch.batch in
-    rw (← c.self.view_is, c.trim.ensures, c.trim_slot.ensures, c.len.ensures, b.ok.0, c.max-now.ensures) refl
+    rw (← c.self.view_is, c.in-Ok.ensures.ok, c.trim_slot.ensures, c.len.ensures, b.ok.0, c.max-now.ensures) refl
+
+pub returns-clause-visited : goal.returns-clause-visited
+returns-clause-visited g c = rw (← c.self.view_is, c.in-Ok.ensures.count, c.max-now.ensures) refl
+
+pub returns-in_default-clause-sure : goal.returns-in_default-clause-sure
+returns-in_default-clause-sure g c = λ q.
+    let a = c.self.inside in
+    let s = state_of a.queues a.roots.items a.rename_slot a.rescan_slot a.errors.items a.timeout a.latest a.taken a.given in
+    let some : is_due s c.args.now ≡ true = rw (← c.self.view_is, c.max-now.ensures) at (sym c.is_due.ensures ∙ c.if-not-is_due.false) in
+    let none : is_due s c.args.now ≡ false = rw (← c.self.view_is) at q in
+    absurd (true≢false (sym some ∙ none))

@@ -1,0 +1,65 @@
+//! The program `bench`: it times the debouncer on workloads of many events. `bench [N KIND]`; without
+//! words it runs every kind of workload on a few events.
+//!
+//! For each workload it prints `KIND N total_ns per_op_ns` on standard error, and on standard output a
+//! line `KIND N CHECKSUM` with a sum over what was emitted, which is the same in each run.
+#![tactic(auto)]
+
+mod checksum;
+mod events;
+mod kind;
+mod workloads;
+
+use anyhow::{Result, bail};
+use kind::{KINDS, Kind};
+use std::env;
+use std::process::ExitCode;
+use workloads::run_workload;
+
+/// How many events a workload has if the command line doesn't say.
+const FEW: u64 = 10_000;
+
+/// The most events that are run.
+const MOST: u64 = 100_000_000;
+
+fn run_kind(rt: &HostRuntime, kind: Kind, n: u64) -> Result<()> {
+    let figures = run_workload(rt, kind, n)?;
+    let name = kind.name();
+    println!(rt; "{name} {n} {}", figures.checksum)?;
+    eprintln!(rt; "{name} {n} {} {}", figures.total, figures.per_operation())?;
+    Ok(())
+}
+
+fn run_asked(rt: &HostRuntime, words: &[String]) -> Result<()> {
+    match words {
+        [] => {
+            for kind in KINDS {
+                run_kind(rt, kind, FEW)?;
+            }
+            Ok(())
+        }
+        [n, kind] => match (n.parse::<u64>(), Kind::from_word(kind.as_str())) {
+            (Ok(n), Some(kind)) if 0 < n && n <= MOST => run_kind(rt, kind, n),
+            _ => bail!("usage: bench [N KIND], with N from 1 to {MOST}"),
+        },
+        _ => bail!("usage: bench [N KIND]"),
+    }
+}
+
+fn run(rt: &HostRuntime) -> Result<()> {
+    let words: Vec<String> = env::args(rt)?.collect(rt.alloc())?;
+    match words.as_slice() {
+        [_, words @ ..] => run_asked(rt, words),
+        [] => run_asked(rt, &[]),
+    }
+}
+
+fn main(rt: HostRuntime) -> ExitCode {
+    match run(&rt) {
+        Ok(()) => ExitCode::SUCCESS,
+        Err(error) => {
+            let _ = eprintln!(rt; "bench: {error}");
+            ExitCode::from(2)
+        }
+    }
+}

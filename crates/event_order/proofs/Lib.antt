@@ -1,0 +1,2 @@
+mod GreatestLemmas
+mod PlaceLemmas

@@ -1,0 +1,9 @@
+pub mod PairLemmas
+pub mod PrefixLemmas
+pub mod WalkLemmas
+pub mod HonestLemmas
+pub mod ListingLemmas
+pub mod ParentLemmas
+pub mod NearLemmas
+pub mod BehindLemmas
+pub mod MergeLemmas

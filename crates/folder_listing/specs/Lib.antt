@@ -1,0 +1,6 @@
+pub mod Listing
+pub mod Changes
+pub mod Pairs
+pub mod Parents
+pub mod Near
+pub mod MergedListings

@@ -1,0 +1,132 @@
+//! What changed between two listings.
+ghost use Rattle.std.specs.Prelude.{◌≡◌, ◌++◌, ◌∷◌, [], IfOk, IfErr, OnOk};
+ghost use Rattle.std.specs.Map.{keys_of};
+ghost use Rattle.notify_paths.specs.Errors.{out_of_memory};
+ghost use Rattle.folder_listing.specs.Changes.{changes, event_at, LeadsTo};
+ghost use Rattle.folder_listing.specs.Listing.{IsListing};
+ghost use Rattle.folder_listing.specs.Pairs.{no_parts, joined, parts_of};
+
+use crate::entry::Found;
+use crate::listing::Listing;
+use crate::pairs::{Change, Pairs};
+use notify_paths::error::Error;
+use notify_paths::path::PathBuf;
+use notify_types::event::Event;
+use notify_types::kind::{DataChange, EventKind, ModifyKind};
+use std::alloc::{AllocError, Allocator};
+use std::collections::BTreeMap;
+use std::marker::Model;
+
+/// The events of a comparison, in their three parts.
+#[derive(Drop)]
+struct Parts<A: Allocator> {
+    removed: Vec<Event<A>, A>,
+    created: Vec<Event<A>, A>,
+    resized: Vec<Event<A>, A>,
+}
+
+impl<A: Allocator> Model for Parts<A> {
+    ghost use Rattle.folder_listing.specs.Pairs.{PartsValue};
+
+    ghost Value = { PartsValue };
+
+    ghost view = { λ a. record { removed = a.removed.items; created = a.created.items; resized = a.resized.items } };
+}
+
+impl<A: Allocator + Copy> Parts<A> {
+    fn new(alloc: A) -> Parts<A>
+        ensures { result ≡ no_parts }
+    {
+        Parts {
+            removed: Vec::new(alloc),
+            created: Vec::new(alloc),
+            resized: Vec::new(alloc),
+        }
+    }
+
+    /// Adds the events of a change at the path.
+    fn add(&mut self, change: Change, path: &PathBuf<A>) -> Result<(), AllocError>
+        ensures { OnOk result (self.new ≡ joined self.old (parts_of change path.now)) }
+    {
+        match change {
+            Change::Removed(kind) => push_event(&mut self.removed, kind.removal(), path),
+            Change::Created(kind) => push_event(&mut self.created, kind.creation(), path),
+            Change::Replaced(old, new) => {
+                push_event(&mut self.removed, old.removal(), path)?;
+                push_event(&mut self.created, new.creation(), path)
+            }
+            Change::Resized => {
+                let kind = EventKind::Modify(ModifyKind::Data(DataChange::Any));
+                push_event(&mut self.resized, kind, path)
+            }
+            Change::Same => Ok(()),
+        }
+    }
+
+    /// Returns all events: removals, creations and other lengths.
+    fn into_events(self) -> Result<Vec<Event<A>, A>, AllocError>
+        ensures { IfOk result (λ events. events.items ≡ self.removed ++ (self.created ++ self.resized)) }
+    {
+        let Parts {
+            mut removed,
+            mut created,
+            mut resized,
+        } = self;
+        created.append(&mut resized)?;
+        removed.append(&mut created)?;
+        Ok(removed)
+    }
+}
+
+/// Adds an event of this kind at the path.
+fn push_event<A: Allocator + Copy>(
+    events: &mut Vec<Event<A>, A>,
+    kind: EventKind,
+    path: &PathBuf<A>,
+) -> Result<(), AllocError>
+    ensures { OnOk result (events.new.items ≡ events.old.items ++ event_at kind path.now ∷ []) }
+{
+    let alloc = *events.allocator();
+    let mut event = Event::new(alloc, kind);
+    event.paths.push(path.clone()?)?;
+    events.push(event)?;
+    Ok(())
+}
+
+/// Returns what changed from the old listing to the new one: the removals, then the creations, then
+/// the files with another length, each in the order of their paths. What lay below a removed path
+/// has no removal of its own. Each entry of both is looked at once.
+pub fn compare<A: Allocator + Copy>(
+    alloc: A,
+    old: &Listing<A>,
+    new: &Listing<A>,
+) -> Result<Vec<Event<A>, A>, Error<A>>
+    ensures ok { IfOk result (λ events. events.items ≡ changes old.now new.now) }
+    // Who plays the events on the old paths has the new ones.
+    ensures honest { IfOk result (λ events. LeadsTo (keys_of old.now) (keys_of new.now) events.items) }
+    ensures err { IfErr result (λ e. e ≡ out_of_memory) }
+{
+    compare_entries(alloc, &old.entries, &new.entries).map_err(|_| Error::out_of_memory(alloc))
+}
+
+fn compare_entries<A: Allocator + Copy>(
+    alloc: A,
+    old: &BTreeMap<PathBuf<A>, Found, A>,
+    new: &BTreeMap<PathBuf<A>, Found, A>,
+) -> Result<Vec<Event<A>, A>, AllocError>
+    requires { IsListing old.now.entries × IsListing new.now.entries }
+    ensures ok { IfOk result (λ events. events.items ≡ changes old.now.entries new.now.entries) }
+    ensures honest { IfOk result (λ events. LeadsTo (keys_of old.now.entries) (keys_of new.now.entries) events.items) }
+{
+    let mut parts = Parts::new(alloc);
+    let mut pairs = Pairs::new(old, new);
+    let mut top = None;
+    while let Some(pair) = pairs.next() {
+        let change = pair.change(top);
+        parts.add(change, pair.path())?;
+        if change.goes() {
+            top = Some(pair.path());
+        }
+    }
+    parts.into_events()
+}

@@ -1,0 +1,73 @@
+//! What stands at a path.
+ghost use Rattle.std.specs.Prelude.{◌≡◌};
+ghost use Rattle.folder_listing.specs.Changes.{removal_of, creation_of};
+ghost use Rattle.folder_listing.specs.Listing.{is_same_kind};
+ghost use Rattle.folder_listing.specs.declared.entry.EntryKind.TheVariants.{File, Folder};
+
+use notify_types::kind::{CreateKind, EventKind, RemoveKind};
+
+/// What kind of thing stands at a path. A link is an `Other`.
+#[derive(Clone, Copy, Debug, PartialEq, Eq)]
+pub enum EntryKind {
+    File,
+    Folder,
+    Other,
+}
+
+impl EntryKind {
+    /// Whether the two kinds are one: `==`, as the definitions test it.
+    pub fn is_same(self, other: EntryKind) -> bool
+        ensures { result ≡ is_same_kind self other }
+    {
+        match (self, other) {
+            (EntryKind::File, EntryKind::File)
+            | (EntryKind::Folder, EntryKind::Folder)
+            | (EntryKind::Other, EntryKind::Other) => true,
+            _ => false,
+        }
+    }
+
+    /// Whether it is a folder.
+    pub fn is_folder(self) -> bool
+        ensures { result ≡ is_same_kind Folder self }
+    {
+        self.is_same(EntryKind::Folder)
+    }
+
+    /// Whether it is a file.
+    pub fn is_file(self) -> bool
+        ensures { result ≡ is_same_kind File self }
+    {
+        self.is_same(EntryKind::File)
+    }
+
+    /// Returns the kind of event that tells of a removal.
+    pub fn removal(self) -> EventKind
+        ensures { result ≡ removal_of self }
+    {
+        match self {
+            EntryKind::File => EventKind::Remove(RemoveKind::File),
+            EntryKind::Folder => EventKind::Remove(RemoveKind::Folder),
+            EntryKind::Other => EventKind::Remove(RemoveKind::Other),
+        }
+    }
+
+    /// Returns the kind of event that tells of a creation.
+    pub fn creation(self) -> EventKind
+        ensures { result ≡ creation_of self }
+    {
+        match self {
+            EntryKind::File => EventKind::Create(CreateKind::File),
+            EntryKind::Folder => EventKind::Create(CreateKind::Folder),
+            EntryKind::Other => EventKind::Create(CreateKind::Other),
+        }
+    }
+}
+
+/// What stands at a path, and its length in bytes.
+#[derive(Clone, Copy, Debug, PartialEq, Eq)]
+pub struct Found {
+    pub kind: EntryKind,
+    /// 0 for all but a file, where a listing was read from folders.
+    pub length: u64,
+}

@@ -1,0 +1,185 @@
+//! Two listings side by side.
+ghost use Rattle.std.specs.Prelude.{◌≡◌, ◌∷◌, [], MatchOption};
+ghost use Rattle.std.specs.Option.{option_copied};
+ghost use Rattle.folder_listing.specs.Pairs.{paired, change_at, change_of, is_under, goes};
+
+use crate::entry::{EntryKind, Found};
+use notify_paths::path::PathBuf;
+use std::alloc::Allocator;
+use std::cmp::Ordering;
+use std::collections::BTreeMap;
+use std::collections::btree_map::Iter;
+use std::marker::Model;
+
+/// What happened at a path.
+#[derive(Clone, Copy)]
+pub(crate) enum Change {
+    Removed(EntryKind),
+    Created(EntryKind),
+    /// There is another kind of thing now.
+    Replaced(EntryKind, EntryKind),
+    Resized,
+    /// Nothing, or nothing that is told by itself.
+    Same,
+}
+
+impl Change {
+    /// Whether what stood at the path went.
+    pub(crate) fn goes(self) -> bool
+        ensures { result ≡ goes self }
+    {
+        matches!(self, Change::Removed(_) | Change::Replaced(_, _))
+    }
+}
+
+/// What happened to what stands before and after, below a path that went or not.
+pub(crate) fn change_at(under: bool, before: Option<Found>, after: Option<Found>) -> Change
+    ensures { result ≡ change_at under before after }
+{
+    match (before, after) {
+        (None, None) => Change::Same,
+        (None, Some(after)) => Change::Created(after.kind),
+        (Some(_), None) if under => Change::Same,
+        (Some(before), None) => Change::Removed(before.kind),
+        (Some(_), Some(after)) if under => Change::Created(after.kind),
+        (Some(before), Some(after)) if !before.kind.is_same(after.kind) => {
+            Change::Replaced(before.kind, after.kind)
+        }
+        (Some(before), Some(after)) if before.length != after.length => Change::Resized,
+        (Some(_), Some(_)) => Change::Same,
+    }
+}
+
+/// A path, and what stands there before and after.
+#[derive(Drop)]
+pub(crate) struct Pair<'a, A: Allocator> {
+    pub(crate) path: &'a PathBuf<A>,
+    pub(crate) before: Option<Found>,
+    pub(crate) after: Option<Found>,
+}
+
+impl<'a, A: Allocator> Model for Pair<'a, A> {
+    ghost use Rattle.folder_listing.specs.Pairs.{PairValue};
+
+    ghost Value = { PairValue };
+
+    ghost view = { λ a. record { path = a.path.now; before = a.before; after = a.after } };
+}
+
+impl<'a, A: Allocator> Pair<'a, A> {
+    pub(crate) fn path(&self) -> &'a PathBuf<A>
+        ensures { result.now ≡ self.now.path }
+    {
+        self.path
+    }
+
+    /// What happened there, where `top` is the path that went last.
+    pub(crate) fn change(&self, top: Option<&PathBuf<A>>) -> Change
+        ensures { result ≡ change_of (option_copied top.entry) self.now }
+    {
+        change_at(is_under(top, self.path), self.before, self.after)
+    }
+}
+
+/// Whether the path lies at or below the one that went last.
+fn is_under<A: Allocator>(top: Option<&PathBuf<A>>, path: &PathBuf<A>) -> bool
+    ensures { result ≡ is_under (option_copied top.entry) path.now }
+{
+    match top {
+        None => false,
+        Some(top) => path.starts_with(top),
+    }
+}
+
+/// Two listings side by side: a walk over the paths of both, in their order, which looks at each
+/// entry once.
+#[derive(Drop)]
+pub(crate) struct Pairs<'a, A: Allocator> {
+    olds: Iter<'a, PathBuf<A>, Found>,
+    news: Iter<'a, PathBuf<A>, Found>,
+    before: Option<(&'a PathBuf<A>, &'a Found)>,
+    after: Option<(&'a PathBuf<A>, &'a Found)>,
+}
+
+impl<'a, A: Allocator> Model for Pairs<'a, A> {
+    ghost use Rattle.std.specs.Prelude.{List};
+    ghost use Rattle.std.specs.Option.{option_map};
+    ghost use Rattle.std.specs.Map.Iter.{deref_pair};
+    ghost use Rattle.folder_listing.specs.Pairs.{PairValue, paired, with_head};
+
+    ghost Value = { List PairValue };
+
+    ghost view = { λ a. paired (with_head (option_map deref_pair a.before) a.olds) (with_head (option_map deref_pair a.after) a.news) };
+}
+
+impl<'a, A: Allocator> Pairs<'a, A> {
+    pub(crate) fn new(
+        old: &'a BTreeMap<PathBuf<A>, Found, A>,
+        new: &'a BTreeMap<PathBuf<A>, Found, A>,
+    ) -> Pairs<'a, A>
+        ensures { result ≡ paired old.now.entries new.now.entries }
+    {
+        let mut olds = old.iter();
+        let mut news = new.iter();
+        let before = olds.next();
+        let after = news.next();
+        Pairs {
+            olds,
+            news,
+            before,
+            after,
+        }
+    }
+
+    /// Returns the next pair.
+    pub(crate) fn next(&mut self) -> Option<Pair<'a, A>>
+        ensures { MatchOption result (self.old ≡ []) (λ pair. self.old ≡ pair ∷ self.new) }
+    {
+        match (self.before, self.after) {
+            (None, None) => None,
+            (Some(old), None) => {
+                self.before = self.olds.next();
+                Some(Pair {
+                    path: old.0,
+                    before: Some(*old.1),
+                    after: None,
+                })
+            },
+            (None, Some(new)) => {
+                self.after = self.news.next();
+                Some(Pair {
+                    path: new.0,
+                    before: None,
+                    after: Some(*new.1),
+                })
+            },
+            (Some(old), Some(new)) => match old.0.cmp(new.0) {
+                Ordering::Less => {
+                    self.before = self.olds.next();
+                    Some(Pair {
+                        path: old.0,
+                        before: Some(*old.1),
+                        after: None,
+                    })
+                },
+                Ordering::Greater => {
+                    self.after = self.news.next();
+                    Some(Pair {
+                        path: new.0,
+                        before: None,
+                        after: Some(*new.1),
+                    })
+                },
+                Ordering::Equal => {
+                    self.before = self.olds.next();
+                    self.after = self.news.next();
+                    Some(Pair {
+                        path: old.0,
+                        before: Some(*old.1),
+                        after: Some(*new.1),
+                    })
+                }
+            },
+        }
+    }
+}

@@ -1,0 +1,81 @@
+-- What is handed out by the paths that are due is what is handed out of all queues.
+use Rattle.std.proofs.Common.{◌≡◌, Bool, true, false, cond, ◌||◌, refl, ap, sym, ◌∙◌, Option, Some, None, List, [], ◌∷◌, ◌++◌, is_some}
+use Rattle.std.specs.Prelude.{filter}
+use Rattle.std.specs.Ordering.{is_eq, ordering_reverse}
+use Rattle.std.specs.Cmp.{eq_by_cmp_equiv}
+use Rattle.std.specs.declared.cmp.Ordering.{Ordering}
+use Rattle.std.specs.declared.cmp.Ordering.TheVariants.{Less, Equal, Greater}
+use Rattle.std.specs.BTreeMap.{is_at}
+use Rattle.std.specs.BTreeSet.{BTreeSet, contains}
+use Rattle.std.specs.List.{AllByRecursion, list_any}
+use Rattle.std.specs.List.Sorted.{IsStrictlySortedBy}
+use Rattle.std.specs.Map.{keys_of}
+use Rattle.std.proofs.lemmas.Map.Entries.{lookup-filter-values, option_filter}
+use Rattle.std.proofs.lemmas.Map.Keys.{IsDistinct-from_sorted}
+use Rattle.std.proofs.lemmas.Map.Lookups.{btree_set_from_contains}
+use Rattle.std.proofs.lemmas.Map.Made.{is_some-lookup}
+use Rattle.notify_paths.specs.Path.{PathValue, path_cmp}
+use Rattle.notify_paths.specs.PathLaws.{path_cmp_total}
+use Rattle.notify_types.specs.Event.{Timed}
+use Rattle.notify_paths.proofs.Prefixes.{same_path}
+use Rattle.debounce_model.specs.Queues.{Queues, queue_at}
+use Rattle.debounce_model.specs.Due.{is_front_due, expired_beginning, last_of_kind, place_list}
+use Rattle.debounce_model.proofs.Entries.{sorted-filter}
+use Rattle.event_queue.specs.declared.due.Due.{Due}
+use Rattle.event_queue.specs.Due.{is_due}
+use Rattle.front_index.specs.Steps.{is_due_front, handed_of, handed}
+use Rattle.front_index.proofs.FrontTicks.{all_found}
+
+-- the queues that are due
+abbrev due_of : Due → Queues → Queues
+due_of due es = filter (λ e. is_front_due (is_due due) e.1) es
+
+-- a path has one of them where its queue is due
+due_found : (due : Due) (es : Queues) → IsStrictlySortedBy path_cmp (keys_of es) → (p : PathValue) → list_any (is_at (path_cmp p)) (keys_of (due_of due es)) ≡ is_due_front due (queue_at es p)
+due_found due es s p =
+    sym (is_some-lookup (is_at (path_cmp p)) (due_of due es))
+    ∙ ap is_some (lookup-filter-values (eq_by_cmp_equiv path_cmp_total) (λ q. is_front_due (is_due due) q) p es (IsDistinct-from_sorted path_cmp (keys_of es) s))
+    ∙ by (queue_at es p)
+  where
+    by : (o : Option (List Timed)) → is_some (option_filter (λ q. is_front_due (is_due due) q) o) ≡ is_due_front due o
+    by None = refl
+    by (Some q) = at (is_front_due (is_due due) q) refl
+      where
+        at : (b : Bool) → is_front_due (is_due due) q ≡ b → is_some (option_filter (λ q. is_front_due (is_due due) q) (Some q)) ≡ b
+        at true e = rw e refl
+        at false e = rw e refl
+
+-- a queue that is not due hands out nothing
+none_handed : (due : Timed → Bool) (q : List Timed) → is_front_due due q ≡ false → last_of_kind (expired_beginning due q) ≡ []
+none_handed due [] h = refl
+none_handed due (x ∷ q) h = rw h refl
+
+-- those that are due hand out all
+due_hand : (due : Due) (queues es : Queues) → AllByRecursion (λ e. queue_at queues e.0 ≡ Some e.1) es → handed due queues (keys_of (due_of due es)) ≡ place_list (is_due due) es
+due_hand due queues [] f = refl
+due_hand due queues (e ∷ es) f = by (is_front_due (is_due due) e.1) refl (due_hand due queues es f.1)
+  where
+    by : (b : Bool) → is_front_due (is_due due) e.1 ≡ b → handed due queues (keys_of (due_of due es)) ≡ place_list (is_due due) es → handed due queues (keys_of (cond b (e ∷ due_of due es) (due_of due es))) ≡ last_of_kind (expired_beginning (is_due due) e.1) ++ place_list (is_due due) es
+    by true d more = ap (λ o. handed_of due o ++ handed due queues (keys_of (due_of due es))) f.0 ∙ ap (λ r. last_of_kind (expired_beginning (is_due due) e.1) ++ r) more
+    by false d more = more ∙ ap (λ r. r ++ place_list (is_due due) es) (sym (none_handed (is_due due) e.1 d))
+
+-- the paths that are due, in order, hand out what all queues do
+pub handed-all : (due : Due) (paths : BTreeSet PathValue) (queues : Queues) → IsStrictlySortedBy path_cmp paths.keys → IsStrictlySortedBy path_cmp (keys_of queues) → ((p : PathValue) → contains path_cmp paths p ≡ is_due_front due (queue_at queues p)) → handed due queues paths.keys ≡ place_list (is_due due) queues
+handed-all due paths queues s t h =
+    let same : paths.keys ≡ keys_of (due_of due queues) = btree_set_from_contains path_cmp_total paths (record { keys = keys_of (due_of due queues) }) s (sorted-filter path_cmp_total (λ e. is_front_due (is_due due) e.1) queues t) (λ p. h p ∙ sym (due_found due queues t p)) same_path in
+    ap (handed due queues) same ∙ due_hand due queues queues (all_found path_cmp_total queues t)
+
+-- one more path
+pub path_step : (paths next : BTreeSet PathValue) (key path p : PathValue) → key ≡ path → ((q : PathValue) → contains path_cmp next q ≡ cond (is_at (path_cmp key) q) true (contains path_cmp paths q)) → contains path_cmp next p ≡ (contains path_cmp paths p || is_at (path_cmp p) path)
+path_step paths next key path p e h = h p ∙ ap (λ b. cond b true (contains path_cmp paths p)) (ap (λ k. is_at (path_cmp k) p) e ∙ ap is_eq (path_cmp_total.antisymm path p) ∙ back (path_cmp p path)) ∙ swap (is_at (path_cmp p) path) (contains path_cmp paths p)
+  where
+    back : (o : Ordering) → is_eq (ordering_reverse o) ≡ is_eq o
+    back Less = refl
+    back Equal = refl
+    back Greater = refl
+
+    swap : (a b : Bool) → cond a true b ≡ (b || a)
+    swap true true = refl
+    swap true false = refl
+    swap false true = refl
+    swap false false = refl

@@ -1,0 +1,6 @@
+pub mod FrontLemmas
+pub mod FrontMoves
+pub mod FrontPlaces
+pub mod FrontSettle
+pub mod FrontTicks
+pub mod FrontWhole

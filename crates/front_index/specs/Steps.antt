@@ -1,0 +1,180 @@
+-- How the code keeps the index: words for the contracts of its functions. No definition of what a debouncer does cites
+-- them.
+use Rattle.std.specs.Prelude.{◌≡◌, ℕ, ◌+◌, Bool, true, false, not, ◌&&◌, ◌||◌, List, [], ◌∷◌, Option, Some, None, slice_get, if◌then◌else◌}
+use Rattle.std.specs.List.{AllByRecursion, flat_map, list_any}
+use Rattle.std.specs.BTreeMap.{is_at}
+use Rattle.std.specs.BTreeSet.{BTreeSet, contains}
+use Rattle.notify_types.specs.Event.{Timed}
+use Rattle.notify_paths.specs.Path.{PathValue, path_cmp}
+use Rattle.debounce_model.specs.Due.{is_front_due, rest_after, rests, due_fronts, last_of_kind, expired_beginning}
+use Rattle.debounce_model.specs.Queues.{Queues, queue_at}
+use Rattle.debounce_model.specs.WellFormed.{IsNonempty}
+use Rattle.event_queue.specs.declared.due.Due.{Due}
+use Rattle.event_queue.specs.Due.{is_due, is_due_at}
+use Rattle.event_queue.specs.Front.{front_time}
+use Rattle.front_index.specs.Fronts.{FrontSet, front_of, is_time, front_cmp, has, is_front}
+
+-- a queue, if there is one, has a front that is due
+abbrev pub is_due_front : Due → Option (List Timed) → Bool
+is_due_front due None = false
+is_due_front due (Some events) = is_front_due (is_due due) events
+
+-- the time of the front of what is not due of a queue
+abbrev pub front_after : Due → Option (List Timed) → Option ℕ
+front_after due None = None
+front_after due (Some events) = front_time (rest_after (is_due due) events)
+
+-- the pair is due, and of its queue the pair of t and p is left
+abbrev pub is_later : Due → Queues → ℕ → PathValue → ℕ × PathValue → Bool
+is_later due queues t p k =
+    is_due_at due k.0 && (is_at (path_cmp p) k.1 && is_time (front_after due (queue_at queues k.1)) t)
+
+-- the pair is due, and of this path
+abbrev pub is_due_pair : Due → PathValue → ℕ × PathValue → Bool
+is_due_pair due p k = is_due_at due k.0 && is_at (path_cmp p) k.1
+
+-- what is handed out of a queue, if there is one
+abbrev pub handed_of : Due → Option (List Timed) → List Timed
+handed_of due None = []
+handed_of due (Some events) = last_of_kind (expired_beginning (is_due due) events)
+
+-- .. of the queues of these paths
+abbrev pub handed : Due → Queues → List PathValue → List Timed
+handed due queues paths = flat_map (λ p. handed_of due (queue_at queues p)) paths
+
+-- the pair is that of t and p
+abbrev pub is_pair : ℕ × PathValue → ℕ → PathValue → Bool
+is_pair k t p = is_at (front_cmp (t, p)) k
+
+-- the pair of t and p is among these
+abbrev pub has_pair : List (ℕ × PathValue) → ℕ → PathValue → Bool
+has_pair pairs t p = list_any (λ k. is_pair k t p) pairs
+
+-- the pair of a time, if there is one, and this path
+abbrev pub pair_of : Option ℕ → PathValue → List (ℕ × PathValue)
+pair_of None p = []
+pair_of (Some t) p = (t, p) ∷ []
+
+-- the pair of the queue of this path, if it has one
+abbrev pub front_pair : Queues → PathValue → List (ℕ × PathValue)
+front_pair queues p = pair_of (front_of (queue_at queues p)) p
+
+-- the pairs of these queues
+abbrev pub pairs_of : Queues → List (ℕ × PathValue)
+pairs_of queues = flat_map (λ e. pair_of (front_time e.1) e.0) queues
+
+-- each front that only one of the two has is among these pairs
+abbrev pub TellApart : List (ℕ × PathValue) → Queues → Queues → Type 0
+TellApart pairs queues after =
+    (t : ℕ) (p : PathValue) → has_pair pairs t p ≡ false → is_front after t p ≡ is_front queues t p
+
+-- ---- two indexes
+
+-- the second has just the pairs of the first
+abbrev pub IsSame : FrontSet → FrontSet → Type 0
+IsSame old new = (t : ℕ) (p : PathValue) → has new t p ≡ has old t p
+
+-- the second has the pairs of the first, and maybe more
+abbrev pub IsKept : FrontSet → FrontSet → Type 0
+IsKept old new = (t : ℕ) (p : PathValue) → has old t p ≡ true → has new t p ≡ true
+
+-- this pair was put in
+abbrev pub IsWithPair : ℕ × PathValue → FrontSet → FrontSet → Type 0
+IsWithPair k old new = (t : ℕ) (p : PathValue) → has new t p ≡ (is_pair k t p || has old t p)
+
+-- these pairs were put in
+abbrev pub IsWith : List (ℕ × PathValue) → FrontSet → FrontSet → Type 0
+IsWith pairs old new = (t : ℕ) (p : PathValue) → has new t p ≡ (has_pair pairs t p || has old t p)
+
+-- the two differ by some of these pairs at most
+abbrev pub DifferAt : List (ℕ × PathValue) → FrontSet → FrontSet → Type 0
+DifferAt pairs old new = (t : ℕ) (p : PathValue) → has_pair pairs t p ≡ false → has new t p ≡ has old t p
+
+-- the index has just the fronts of these queues
+abbrev pub HasFronts : FrontSet → Queues → Type 0
+HasFronts fronts queues = (t : ℕ) (p : PathValue) → has fronts t p ≡ is_front queues t p
+
+-- the pair was taken out, unless it is a front
+abbrev pub IsSettledPair : Queues → ℕ × PathValue → FrontSet → FrontSet → Type 0
+IsSettledPair queues k old new =
+    (t : ℕ) (p : PathValue) → has new t p ≡ ((is_front queues t p || not (is_pair k t p)) && has old t p)
+
+-- of these pairs those that are no fronts were taken out
+abbrev pub IsSettled : Queues → List (ℕ × PathValue) → FrontSet → FrontSet → Type 0
+IsSettled queues pairs old new =
+    (t : ℕ) (p : PathValue) → has new t p ≡ ((is_front queues t p || not (has_pair pairs t p)) && has old t p)
+
+-- the pairs of the path were taken out
+abbrev pub IsWithout : PathValue → FrontSet → FrontSet → Type 0
+IsWithout path old new =
+    (t : ℕ) (p : PathValue) → has new t p ≡ (if is_at (path_cmp path) p then false else has old t p)
+
+-- this pair was taken out
+abbrev pub IsPopped : ℕ × PathValue → FrontSet → FrontSet → Type 0
+IsPopped k old new =
+    (t : ℕ) (p : PathValue) → has new t p ≡ (if is_at (front_cmp k) (t, p) then false else has old t p)
+
+-- ---- an index, and what is due
+
+-- it has no pair that is due
+abbrev pub HasNoneDue : Due → FrontSet → Type 0
+HasNoneDue due fronts = (t : ℕ) (p : PathValue) → is_due_at due t ≡ true → has fronts t p ≡ false
+
+-- its first pair is due
+abbrev pub HasFirstDue : Due → FrontSet → Type 0
+HasFirstDue due fronts =
+    (k : ℕ × PathValue)
+    × (is_due_at due k.0 ≡ true) × (has fronts k.0 k.1 ≡ true) × (slice_get fronts.keys 0 ≡ Some k)
+
+-- its pairs that are not due are the fronts of what will be left
+abbrev pub HasLater : Due → FrontSet → Queues → Type 0
+HasLater due fronts queues =
+    (t : ℕ) (p : PathValue) → is_due_at due t ≡ false → has fronts t p ≡ is_front (rests (is_due due) queues) t p
+
+-- its pairs that are due are fronts
+abbrev pub HasDue : Due → FrontSet → Queues → Type 0
+HasDue due fronts queues = (t : ℕ) (p : PathValue) → is_due_at due t ≡ true → has fronts t p ≡ is_front queues t p
+
+-- the pairs are the fronts that come once what is due is gone
+abbrev pub AreLater : Due → Queues → FrontSet → List (ℕ × PathValue) → Type 0
+AreLater due queues fronts pairs =
+    (t : ℕ) (p : PathValue) → has_pair pairs t p ≡ list_any (is_later due queues t p) fronts.keys
+
+-- .. with that of the path
+abbrev pub AddsLater : Due → Queues → PathValue → List (ℕ × PathValue) → List (ℕ × PathValue) → Type 0
+AddsLater due queues path old new =
+    (t : ℕ) (p : PathValue)
+    → has_pair new t p
+    ≡ (has_pair old t p || (is_at (path_cmp p) path && is_time (front_after due (queue_at queues path)) t))
+
+-- the paths are those of the pairs that are due
+abbrev pub AreDuePaths : Due → FrontSet → BTreeSet PathValue → Type 0
+AreDuePaths due fronts paths = (p : PathValue) → contains path_cmp paths p ≡ list_any (is_due_pair due p) fronts.keys
+
+-- ---- the queues, after one of them is trimmed or taken out
+
+-- no queue is empty
+abbrev pub AreFilled : Queues → Type 0
+AreFilled queues = AllByRecursion (λ e. IsNonempty e.1) queues
+
+-- that of the path is gone
+abbrev pub IsGone : PathValue → Queues → Queues → Type 0
+IsGone path queues after =
+    (p : PathValue) → queue_at after p ≡ (if is_at (path_cmp path) p then None else queue_at queues p)
+
+-- that of the path is not due any more
+abbrev pub IsTrimmed : Due → PathValue → Queues → Queues → Type 0
+IsTrimmed due path queues after =
+    (p : PathValue)
+    → is_due_front due (queue_at after p)
+    ≡ (if is_at (path_cmp path) p then false else is_due_front due (queue_at queues p))
+
+-- the others are as they were
+abbrev pub OthersStay : PathValue → Queues → Queues → Type 0
+OthersStay path queues after = (p : PathValue) → is_at (path_cmp path) p ≡ false → queue_at after p ≡ queue_at queues p
+
+-- one fewer is due, if that of the path was
+abbrev pub IsOneFewer : Due → PathValue → Queues → Queues → Type 0
+IsOneFewer due path queues after =
+    is_due_front due (queue_at queues path) ≡ true
+    → due_fronts (is_due due) queues ≡ due_fronts (is_due due) after + 1

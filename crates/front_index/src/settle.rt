@@ -1,0 +1,89 @@
+//! A change of several queues at once: first the index gets each front that may come, then the queues
+//! are changed, and then the index loses what is no front.
+ghost use Rattle.std.specs.Prelude.{◌≡◌, ◌++◌, OnOk, OnErr};
+ghost use Rattle.front_index.specs.Steps.{DifferAt, IsKept, IsSame, IsSettled, IsSettledPair, IsWith, IsWithPair, front_pair, pair_of};
+
+use crate::fronts::{Fronts, QueueMap, front_at, is_front};
+use notify_paths::path::PathBuf;
+use notify_types::time::Moment;
+use std::alloc::{AllocError, Allocator};
+
+/// Pairs of a time and a path.
+pub type Pairs<A> = Vec<(Moment, PathBuf<A>), A>;
+
+/// Adds the pair of this time, if there is one, and a copy of the path.
+pub fn add_pair<A: Allocator + Copy>(
+    pairs: &mut Pairs<A>,
+    time: Option<Moment>,
+    path: &PathBuf<A>,
+) -> Result<(), AllocError>
+    ensures { OnOk result (pairs.new.items ≡ pairs.old.items ++ pair_of time path.now) }
+{
+    if let Some(time) = time {
+        pairs.push((time, path.clone()?))?;
+    }
+    Ok(())
+}
+
+/// Adds the front of what waits at the path.
+pub fn add_front_at<A: Allocator + Copy>(
+    pairs: &mut Pairs<A>,
+    map: &QueueMap<A>,
+    path: &PathBuf<A>,
+) -> Result<(), AllocError>
+    ensures { OnOk result (pairs.new.items ≡ pairs.old.items ++ front_pair map.now.entries path.now) }
+{
+    add_pair(pairs, front_at(map, path), path)
+}
+
+/// Puts a copy of the pair into the index, unless it is there.
+fn insert_copy<A: Allocator + Copy>(
+    fronts: &mut Fronts<A>,
+    pair: &(Moment, PathBuf<A>),
+) -> Result<(), AllocError>
+    ensures ok { OnOk result (IsWithPair pair.now fronts.old fronts.new) }
+    ensures err { OnErr result (IsSame fronts.old fronts.new) }
+{
+    if fronts.contains(pair) {
+        return Ok(());
+    }
+    fronts.insert((pair.0, pair.1.clone()?))?;
+    Ok(())
+}
+
+/// Puts copies of these pairs into the index. If an allocation fails, it may have some of them.
+pub fn insert_copies<A: Allocator + Copy>(
+    fronts: &mut Fronts<A>,
+    pairs: &[(Moment, PathBuf<A>)],
+) -> Result<(), AllocError>
+    ensures ok { OnOk result (IsWith pairs.now fronts.old fronts.new) }
+    ensures grown { IsKept fronts.old fronts.new }
+    ensures others { DifferAt pairs.now fronts.old fronts.new }
+{
+    for pair in pairs {
+        insert_copy(fronts, pair)?;
+    }
+    Ok(())
+}
+
+/// Takes the pair out of the index, unless it is a front.
+fn settle_one<A: Allocator>(map: &QueueMap<A>, fronts: &mut Fronts<A>, pair: &(Moment, PathBuf<A>))
+    ensures { IsSettledPair map.now.entries pair.now fronts.old fronts.new }
+{
+    if !is_front(map, &pair.1, pair.0) {
+        fronts.remove(pair);
+    }
+}
+
+/// Takes these pairs out of the index, but for those that are fronts.
+pub fn settle<A: Allocator>(
+    map: &QueueMap<A>,
+    fronts: &mut Fronts<A>,
+    pairs: &[(Moment, PathBuf<A>)],
+)
+    ensures { IsSettled map.now.entries pairs.now fronts.old fronts.new }
+{
+    for pair in pairs {
+        settle_one(map, fronts, pair);
+    }
+}

@@ -1,0 +1,155 @@
+//! A tick by the index: it opens only the queues whose fronts are due.
+ghost use Rattle.std.specs.Prelude.{◌≡◌, ℕ, OnOk, OnErr, IfOk, true};
+ghost use Rattle.notify_paths.specs.Path.{PathValue};
+ghost use Rattle.debounce_model.specs.Due.{rests, due_fronts};
+ghost use Rattle.debounce_model.specs.Queues.{queue_at};
+ghost use Rattle.event_queue.specs.Due.{is_due};
+ghost use Rattle.front_index.specs.Fronts.{IsIndexed, has, is_front};
+ghost use Rattle.front_index.specs.Steps.{AddsLater, AreFilled, AreLater, HasDue, HasLater, IsKept, IsOneFewer, IsTrimmed, IsWith, OthersStay, front_after};
+
+use crate::fronts::{Fronts, QueueMap, is_front, pop_due};
+use crate::whole::{is_last_due, trim_all};
+use event_queue::due::Due;
+use notify_paths::path::PathBuf;
+use notify_types::time::Moment;
+use std::alloc::{AllocError, Allocator};
+
+/// Drops the due beginning of what waits at the path.
+fn trim_at<A: Allocator>(map: &mut QueueMap<A>, path: &PathBuf<A>, due: Due)
+    ensures rests { rests (is_due due) map.new.entries ≡ rests (is_due due) map.old.entries }
+    ensures trimmed { IsTrimmed due path.now map.old.entries map.new.entries }
+    ensures others { OthersStay path.now map.old.entries map.new.entries }
+    ensures filled { AreFilled map.old.entries → AreFilled map.new.entries }
+    ensures counted { IsOneFewer due path.now map.old.entries map.new.entries }
+{
+    let stays = match map.get_mut(path) {
+        None => return,
+        Some(queue) => queue.trim(due),
+    };
+    if !stays {
+        map.remove(path);
+    }
+}
+
+/// Drops the due beginnings of all queues whose fronts are due by the index, which has the later
+/// fronts already. Returns how many queues these are.
+fn trim_due<A: Allocator>(map: &mut QueueMap<A>, fronts: &mut Fronts<A>, due: Due) -> usize
+    requires later { HasLater due fronts.old map.old.entries }
+    requires now { HasDue due fronts.old map.old.entries }
+    requires filled { AreFilled map.old.entries }
+    ensures rests { map.new.entries ≡ rests (is_due due) map.old.entries }
+    ensures indexed { IsIndexed fronts.new map.new.entries }
+    ensures count { result ≡ due_fronts (is_due due) map.old.entries }
+{
+    // The proof reads here that the queues can be counted.
+    let _most = map.len();
+    let mut count = 0;
+    while let Some(front) = pop_due(fronts, due) {
+        trim_at(map, &front.1, due);
+        count += 1;
+    }
+    // The proof reads here that the paths ascend.
+    let _len = map.len();
+    count
+}
+
+/// When what is not due of what waits at the path has its front.
+fn time_after<A: Allocator>(map: &QueueMap<A>, path: &PathBuf<A>, due: Due) -> Option<Moment>
+    ensures { result ≡ front_after due (queue_at map.now.entries path.now) }
+{
+    match map.get(path) {
+        None => None,
+        Some(queue) => queue.time_after(due),
+    }
+}
+
+/// Adds the pair of what is not due of what waits at the path.
+fn add_later<A: Allocator + Copy>(
+    later: &mut Vec<(Moment, PathBuf<A>), A>,
+    map: &QueueMap<A>,
+    path: &PathBuf<A>,
+    due: Due,
+) -> Result<(), AllocError>
+    ensures { OnOk result (AddsLater due map.now.entries path.now later.old.items later.new.items) }
+{
+    let time = match time_after(map, path, due) {
+        None => return Ok(()),
+        Some(time) => time,
+    };
+    let key = path.clone()?;
+    later.push((time, key))?;
+    Ok(())
+}
+
+/// The pairs that the index gets once what is due is gone: the rest of each queue that is due in part
+/// has another front.
+fn later_fronts<A: Allocator + Copy>(
+    map: &QueueMap<A>,
+    fronts: &Fronts<A>,
+    alloc: A,
+    due: Due,
+) -> Result<Vec<(Moment, PathBuf<A>), A>, AllocError>
+    ensures { IfOk result (λ later. AreLater due map.now.entries fronts.now later.items) }
+{
+    // The proof reads here that the pairs ascend.
+    let _len = fronts.len();
+    let mut later = Vec::new(alloc);
+    for front in fronts {
+        if !due.is_due_at(front.0) {
+            return Ok(later);
+        }
+        add_later(&mut later, map, &front.1, due)?;
+    }
+    Ok(later)
+}
+
+/// Puts these pairs into the index.
+fn add_fronts<A: Allocator + Copy>(
+    fronts: &mut Fronts<A>,
+    later: Vec<(Moment, PathBuf<A>), A>,
+) -> Result<(), AllocError>
+    ensures ok { OnOk result (IsWith later.items fronts.old fronts.new) }
+    ensures grown { IsKept fronts.old fronts.new }
+{
+    for front in later {
+        fronts.insert(front)?;
+    }
+    Ok(())
+}
+
+/// Takes out of the index what is no front.
+fn tidy<A: Allocator>(map: &QueueMap<A>, fronts: &mut Fronts<A>)
+    requires covered { (t : ℕ) (p : PathValue) → is_front map.now.entries t p ≡ true → has fronts.old t p ≡ true }
+    ensures { (t : ℕ) (p : PathValue) → has fronts.new t p ≡ is_front map.now.entries t p }
+{
+    fronts.retain(|front| is_front(map, &front.1, front.0));
+}
+
+/// Drops the due beginning of each queue, and returns how many queues had one. The later fronts go
+/// into the index first, by what alone can fail; if that is refused, nothing has changed.
+pub fn trim<A: Allocator + Copy>(
+    map: &mut QueueMap<A>,
+    fronts: &mut Fronts<A>,
+    alloc: A,
+    due: Due,
+) -> Result<usize, AllocError>
+    requires { IsIndexed fronts.old map.old.entries }
+    ensures count { IfOk result (λ count. count ≡ due_fronts (is_due due) map.old.entries) }
+    ensures ok { OnOk result (map.new.entries ≡ rests (is_due due) map.old.entries) }
+    ensures err { OnErr result (map.new.entries ≡ map.old.entries) }
+    ensures indexed { IsIndexed fronts.new map.new.entries }
+{
+    if is_last_due(fronts, due) {
+        return trim_all(map, fronts, alloc, due);
+    }
+    let later = later_fronts(map, fronts, alloc, due)?;
+    // The proof reads here that the paths ascend.
+    let _len = map.len();
+    match add_fronts(fronts, later) {
+        Ok(()) => Ok(trim_due(map, fronts, due)),
+        Err(refused) => {
+            tidy(map, fronts);
+            Err(refused)
+        }
+    }
+}

@@ -1,0 +1,75 @@
+-- What a polling watcher keeps, and what its steps leave of it.
+use Rattle.std.specs.Prelude.{◌≡◌, ℕ, Bool, true, false, not, List, [], ◌∷◌, ◌++◌, filter, Option, IfSome, ◌⊎◌}
+use Rattle.std.specs.List.{list_any}
+use Rattle.notify_paths.specs.Errors.{ErrorValue, ErrorKindValue, GenericKind, IoKind, PathNotFoundKind, WatchNotFoundKind, FullKind, MemoryKind}
+use Rattle.notify_paths.specs.Path.{PathValue, path_eq}
+use Rattle.notify_types.specs.declared.event.RecursiveMode.{RecursiveMode}
+use Rattle.folder_listing.specs.Listing.{ListingValue, has_entry}
+use Rattle.folder_listing.specs.MergedListings.{IsMerged}
+use Rattle.folder_listing.specs.Near.{seen}
+use Rattle.notify_poll.specs.Folders.{IsTree, shown, IsRefusal}
+
+-- the watched paths, each with its mode, and what their last listing found
+pub record PolledValue : Type 0 where
+  pub roots : List (PathValue × RecursiveMode)
+  pub last : ListingValue
+
+-- an equal path is watched
+abbrev pub is_watched : List (PathValue × RecursiveMode) → PathValue → Bool
+is_watched roots path = list_any (λ root. path_eq root.0 path) roots
+
+-- the roots whose path is another
+abbrev pub other_roots : List (PathValue × RecursiveMode) → PathValue → List (PathValue × RecursiveMode)
+other_roots roots path = filter (λ root. not (path_eq root.0 path)) roots
+
+-- the root goes last, in the place of one with an equal path
+abbrev pub with_root : List (PathValue × RecursiveMode) → PathValue × RecursiveMode → List (PathValue × RecursiveMode)
+with_root roots root = other_roots roots root.0 ++ root ∷ []
+
+-- these are the roots, and of these entries what they show is kept
+abbrev pub kept_by : List (PathValue × RecursiveMode) → ListingValue → PolledValue
+kept_by roots entries = record { roots = roots; last = seen entries roots }
+
+-- the root is watched: the last listing is completed by the root's first one, which has its path, and of this is kept
+-- what the roots show
+abbrev pub Watches : PolledValue → PathValue × RecursiveMode → ListingValue → PolledValue → Type 0
+Watches old root first new =
+    (has_entry first root.0 ≡ true)
+    × ((merged : ListingValue) × IsMerged old.last first merged × (new ≡ kept_by (with_root old.roots root) merged))
+
+-- folders that tell their tree show this listing at the root
+abbrev pub ShowsFirst : Option ListingValue → PathValue × RecursiveMode → ListingValue → Type 0
+ShowsFirst told root first = IfSome told (λ tree. IsTree tree → first ≡ shown tree (root ∷ []))
+
+-- nothing stands at the root's path, if the folders tell their tree
+abbrev pub LacksRoot : Option ListingValue → PathValue × RecursiveMode → Type 0
+LacksRoot told root = IfSome told (λ tree. IsTree tree → has_entry (shown tree (root ∷ [])) root.0 ≡ false)
+
+-- a path to be watched isn't there
+abbrev pub path_not_found : ErrorValue
+path_not_found = record { kind = PathNotFoundKind; paths = [] }
+
+-- a path to be unwatched isn't watched
+abbrev pub watch_not_found : ErrorValue
+watch_not_found = record { kind = WatchNotFoundKind; paths = [] }
+
+-- why a path can't be watched: nothing stands there, or the folders refused
+abbrev pub IsWatchRefusal : Option ListingValue → PathValue × RecursiveMode → ErrorValue → ℕ → ℕ → Type 0
+IsWatchRefusal told root e before after = ((e ≡ path_not_found) × LacksRoot told root) ⊎ IsRefusal e before after
+
+-- an allocation failed, or a device or system call
+abbrev pub IsFailure : ErrorKindValue → Type 0
+IsFailure (IoKind kind) = Unit {0}
+IsFailure MemoryKind = Unit {0}
+IsFailure (GenericKind text) = ⊥
+IsFailure PathNotFoundKind = ⊥
+IsFailure WatchNotFoundKind = ⊥
+IsFailure FullKind = ⊥
+
+-- why a watcher over real folders doesn't watch a path
+abbrev pub IsWatchError : ErrorValue → Type 0
+IsWatchError e = (e ≡ path_not_found) ⊎ (IsFailure e.kind × (e.paths ≡ []))
+
+-- .. and why it doesn't unwatch one
+abbrev pub IsUnwatchError : ErrorValue → Type 0
+IsUnwatchError e = e ≡ watch_not_found

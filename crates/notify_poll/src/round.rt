@@ -1,0 +1,77 @@
+//! One round of polling.
+ghost use Rattle.std.specs.Prelude.{◌≡◌, true, false, IfOk, IfSome};
+ghost use Rattle.notify_poll.specs.Folders.{IsTree, shown};
+ghost use Rattle.notify_paths.specs.Errors.{ErrorValue};
+ghost use Rattle.folder_listing.specs.Changes.{changes};
+ghost use Rattle.notify_poll.specs.Rounds.{HandsEach};
+
+use crate::folders::Folders;
+use crate::list::list;
+use folder_listing::compare::compare;
+use folder_listing::listing::Listing;
+use notify_paths::error::Error;
+use notify_paths::path::PathBuf;
+use notify_types::event::{Event, RecursiveMode};
+use notify_watch::handler::EventHandler;
+use std::alloc::Allocator;
+
+/// Hands the events on, in order.
+fn hand_each<A: Allocator, H: EventHandler<Result<Event<A>, Error<A>>>>(
+    events: Vec<Event<A>, A>,
+    handler: &mut H,
+)
+    requires { H.ready handler.old }
+    ensures again { H.ready handler.new }
+    ensures handed { HandsEach H.handles events.items handler.old handler.new }
+{
+    for event in events {
+        handler.handle_event(Ok(event));
+    }
+}
+
+/// The listing of the roots, and what changed since the last one.
+fn look_again<A: Allocator + Copy, D: Folders<A>>(
+    alloc: A,
+    folders: &mut D,
+    roots: &[(PathBuf<A>, RecursiveMode)],
+    last: &Listing<A>,
+) -> Result<(Listing<A>, Vec<Event<A>, A>), Error<A>>
+    ensures shown { IfSome (D.told folders.old) (λ tree. IsTree tree → IfOk result (λ pair. pair.0 ≡ shown tree roots.now)) }
+    ensures ok { IfOk result (λ pair. pair.1.items ≡ changes last.now pair.0) }
+    ensures same { D.told folders.new ≡ D.told folders.old }
+{
+    let listing = list(alloc, folders, roots)?;
+    let events = compare(alloc, last, &listing)?;
+    Ok((listing, events))
+}
+
+/// Lists the roots, hands on what changed since the last listing, and keeps the new one. Where listing
+/// or comparing is refused, it hands on that one error and keeps the last listing. Returns whether
+/// neither was refused.
+pub fn poll_round<A: Allocator + Copy, D: Folders<A>, H: EventHandler<Result<Event<A>, Error<A>>>>(
+    alloc: A,
+    folders: &mut D,
+    roots: &[(PathBuf<A>, RecursiveMode)],
+    last: &mut Listing<A>,
+    handler: &mut H,
+) -> bool
+    requires { H.ready handler.old }
+    ensures again { H.ready handler.new }
+    ensures given { result ≡ true → HandsEach H.handles (changes last.old last.new) handler.old handler.new }
+    ensures shown { IfSome (D.told folders.old) (λ tree. IsTree tree → result ≡ true → last.new ≡ shown tree roots.now) }
+    ensures unchanged { result ≡ false → last.new ≡ last.old }
+    ensures refused { result ≡ false → ((e : ErrorValue) × H.handles handler.old (Err e) handler.new) }
+    ensures same { D.told folders.new ≡ D.told folders.old }
+{
+    match look_again(alloc, folders, roots, last) {
+        Ok((listing, events)) => {
+            hand_each(events, handler);
+            *last = listing;
+            true
+        }
+        Err(error) => {
+            handler.handle_event(Err(error));
+            false
+        }
+    }
+}

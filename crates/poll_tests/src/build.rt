@@ -1,0 +1,142 @@
+//! What several tests build and print. There is memory for it, so each call hands out what it is asked
+//! for.
+use fake_folders::tree::TreeFolders;
+use folder_listing::entry::EntryKind;
+use folder_listing::listing::Listing;
+use notify_paths::error::{Error, ErrorKind};
+use notify_paths::path::PathBuf;
+use notify_types::event::{Event, RecursiveMode};
+use notify_watch::handler::EventHandler;
+use refusing_allocator::Refusing;
+use std::alloc::{AllocError, Allocator, Global};
+use std::fmt::Debug;
+use std::mem::replace;
+use std::process::Abort;
+
+pub type Heap = &'static Refusing<Global>;
+
+pub fn new_heap(rt: &(impl Abort + AllocGlobal)) -> Heap {
+    let heap = Box::new(rt.alloc(), Refusing::new(rt.alloc())).expect(rt, "memory");
+    Box::leak(heap)
+}
+
+pub fn path<A: Allocator + Copy + Debug>(rt: &impl Abort, alloc: A, text: &str) -> PathBuf<A> {
+    PathBuf::parse(alloc, text).expect(rt, "memory")
+}
+
+/// One root, which is watched with what is below it.
+pub fn root<A: Allocator + Copy + Debug>(
+    rt: &impl Abort,
+    alloc: A,
+    text: &str,
+) -> Vec<(PathBuf<A>, RecursiveMode), A> {
+    let place = path(rt, alloc, text);
+    vec![in alloc; (place, RecursiveMode::Recursive)].expect(rt, "memory")
+}
+
+/// The entries of a text, as `/ folder, /f file 3`.
+pub fn entries<A: Allocator + Copy + Debug>(
+    rt: &impl Abort,
+    alloc: A,
+    text: &str,
+) -> Vec<(PathBuf<A>, EntryKind, u64), A> {
+    let mut entries = Vec::new(alloc);
+    for entry in text.split(", ") {
+        let (place, found) = entry.split_once(' ').expect(rt, entry);
+        let (kind, length) = match found.split_once(' ') {
+            Some((_, length)) => (EntryKind::File, number(rt, length)),
+            None if found == "folder" => (EntryKind::Folder, 0),
+            None => (EntryKind::Other, 0),
+        };
+        entries
+            .push((path(rt, alloc, place), kind, length))
+            .expect(rt, "memory");
+    }
+    entries
+}
+
+fn number(rt: &impl Abort, text: &str) -> u64 {
+    match text.parse::<u64>() {
+        Ok(number) => number,
+        Err(_) => panic!(rt; "{text} is no length"),
+    }
+}
+
+pub fn listing<A: Allocator + Copy + Debug>(rt: &impl Abort, alloc: A, text: &str) -> Listing<A> {
+    Listing::from_entries(alloc, entries(rt, alloc, text))
+        .expect(rt, "memory")
+        .expect(rt, text)
+}
+
+/// Folders that hold the entries of a text.
+pub fn tree<A: Allocator + Copy + Debug>(rt: &impl Abort, alloc: A, text: &str) -> TreeFolders<A> {
+    TreeFolders::new(alloc, listing(rt, alloc, text)).expect(rt, text)
+}
+
+/// What the events say, as `Create(File) /f, Remove(Folder) /d`.
+pub fn text_of(rt: &(impl Abort + AllocGlobal), events: &[Event]) -> String {
+    let mut text = String::new(rt.alloc());
+    for event in events {
+        add_event(&mut text, event).expect(rt, "memory");
+    }
+    text
+}
+
+/// Adds what the event says.
+fn add_event<A: Allocator>(text: &mut String, event: &Event<A>) -> Result<(), AllocError> {
+    add(text, event.kind.word())?;
+    for place in &event.paths {
+        text.push(' ')?;
+        text.push_str(place.as_str())?;
+    }
+    Ok(())
+}
+
+/// Adds the words, after a comma if there are others.
+fn add(text: &mut String, words: &str) -> Result<(), AllocError> {
+    if !text.is_empty() {
+        text.push_str(", ")?;
+    }
+    text.push_str(words)
+}
+
+/// A handler that notes what it is called with. A note that finds no memory is lost, and the test that
+/// reads the notes fails.
+#[derive(Drop)]
+pub struct Notes {
+    text: String,
+}
+
+impl Notes {
+    pub fn new(rt: &impl AllocGlobal) -> Notes {
+        Notes {
+            text: String::new(rt.alloc()),
+        }
+    }
+
+    /// Returns the notes since the last time.
+    pub fn take(&mut self) -> String {
+        let alloc = *self.text.allocator();
+        replace(&mut self.text, String::new(alloc))
+    }
+}
+
+impl<A: Allocator + 'static> EventHandler<Result<Event<A>, Error<A>>> for Notes {
+    ghost ready = { λ _. Unit {0} };
+
+    ghost handles = { λ _ _ _. Unit {0} };
+
+    fn handle_event(&mut self, event: Result<Event<A>, Error<A>>)
+        ensures again { Unit {0} }
+        ensures handled { Unit {0} }
+    {
+        let _ = match event {
+            Ok(event) => add_event(&mut self.text, &event),
+            Err(error) => match error.kind {
+                ErrorKind::Memory => add(&mut self.text, "error Memory"),
+                ErrorKind::Io(_) => add(&mut self.text, "error Io"),
+                _ => add(&mut self.text, "another error"),
+            },
+        };
+    }
+}

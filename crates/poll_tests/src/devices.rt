@@ -1,0 +1,129 @@
+//! Folders that fail, and folders that go missing.
+ghost use Rattle.std.specs.Prelude.{None};
+
+use crate::build::{Notes, root, text_of, tree};
+use fake_folders::failing::FailingFolders;
+use fake_folders::tree::TreeFolders;
+use folder_listing::compare::compare;
+use folder_listing::entry::Found;
+use folder_listing::listing::Listing;
+use notify_paths::error::{Error, ErrorKind};
+use notify_paths::path::PathBuf;
+use notify_poll::folders::Folders;
+use notify_poll::list::list;
+use notify_poll::round::poll_round;
+use std::io;
+use std::process::Abort;
+
+/// Six entries in three folders.
+const SIX: &str = "/ folder, /a folder, /a/x file 1, /b folder, /b/y file 2, /c file 3";
+
+const ALL_CREATED: &str =
+    "Create(Folder) /, Create(Folder) /a, Create(File) /a/x, Create(Folder) /b, Create(File) /b/y, Create(File) /c";
+
+/// A look at each entry, and the names of each folder.
+const CALLS: u64 = 9;
+
+fn failing(
+    rt: &(impl Abort + AllocGlobal),
+    call: u64,
+) -> FailingFolders<std::alloc::Global, TreeFolders<std::alloc::Global>> {
+    FailingFolders::new(rt.alloc(), tree(rt, rt.alloc(), SIX), call)
+}
+
+#[test]
+fn a_failed_call_fails_the_listing(rt: HostRuntime) {
+    let roots = root(&rt, rt.alloc(), "/");
+    for call in 0..CALLS {
+        let mut folders = failing(&rt, call);
+        let refused = list(rt.alloc(), &mut folders, roots.as_slice());
+        let wanted = Err(Error::new(rt.alloc(), ErrorKind::Io(io::ErrorKind::Other)));
+        assert!(rt;
+            refused.map(|_| ()) == wanted && folders.failures() == 1,
+            "{call}"
+        );
+    }
+    let mut folders = failing(&rt, CALLS);
+    let listed = list(rt.alloc(), &mut folders, roots.as_slice()).expect(&rt, "no call fails");
+    assert_eq!(rt; (listed.len(), folders.failures()), (6, 0));
+}
+
+#[test]
+fn a_failed_round_reports_its_error_and_nothing_else(rt: HostRuntime) {
+    for call in 0..CALLS {
+        check_failed_round(&rt, call);
+    }
+}
+
+/// The first round fails at this call, and the second one reports everything.
+fn check_failed_round(rt: &(impl Abort + AllocGlobal), call: u64) {
+    let roots = root(rt, rt.alloc(), "/");
+    let mut folders = failing(rt, call);
+    let mut last = Listing::new(rt.alloc());
+    let mut notes = Notes::new(rt);
+    let first = poll_round(
+        rt.alloc(),
+        &mut folders,
+        roots.as_slice(),
+        &mut last,
+        &mut notes,
+    );
+    let left = last.len();
+    assert_eq!(rt;
+        (first, left, notes.take().as_str()),
+        (false, 0, "error Io"),
+        "{call}"
+    );
+    let second = poll_round(
+        rt.alloc(),
+        &mut folders,
+        roots.as_slice(),
+        &mut last,
+        &mut notes,
+    );
+    assert_eq!(rt;
+        (second, last.len(), notes.take().as_str()),
+        (true, 6, ALL_CREATED),
+        "{call}"
+    );
+}
+
+/// Folders of which one goes missing after it was looked at.
+#[derive(Drop)]
+struct Vanishing {
+    inner: TreeFolders<std::alloc::Global>,
+}
+
+impl Folders<std::alloc::Global> for Vanishing {
+    ghost told = { λ _. None };
+
+    ghost failed = { λ _. 0 };
+
+    fn look(&mut self, path: &PathBuf) -> Result<Option<Found>, Error> {
+        self.inner.look(path)
+    }
+
+    fn names(&mut self, path: &PathBuf) -> Result<Option<Vec<String>>, Error> {
+        if path.as_str() == "/a" {
+            return Ok(None);
+        }
+        self.inner.names(path)
+    }
+
+    fn failures(&self) -> u64 {
+        0
+    }
+}
+
+#[test]
+fn a_folder_that_goes_missing_is_left_out(rt: HostRuntime) {
+    let roots = root(&rt, rt.alloc(), "/");
+    let mut folders = Vanishing {
+        inner: tree(&rt, rt.alloc(), SIX),
+    };
+    let listed = list(rt.alloc(), &mut folders, roots.as_slice()).expect(&rt, "no call fails");
+    let events = compare(rt.alloc(), &Listing::new(rt.alloc()), &listed).expect(&rt, "memory");
+    let got = text_of(&rt, events.as_slice());
+    let wanted = "Create(Folder) /, Create(Folder) /b, Create(File) /b/y, Create(File) /c";
+    assert_eq!(rt; got.as_str(), wanted);
+}

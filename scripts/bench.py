@@ -1,0 +1,81 @@
+#!/usr/bin/env python3
+"""Times this debouncer beside the Rust crate's own code, and prints a table.
+
+usage: scripts/bench.py PROGRAM [N [KIND..]]
+
+PROGRAM is built from the Rust crate: `PROGRAM --bench N KIND 1` runs one workload over N events once,
+and prints `KIND N total_ns per_op_ns`. The program here is crates/bench, which says what the kinds are;
+it is built first if it has to be. N is 100000 if it isn't given, and then all takes ten minutes and
+more.
+
+Each run is a process of its own. A figure is the least of five runs; the two programs take turns, and
+each goes first in every second round.
+"""
+import os
+import subprocess
+import sys
+import time
+
+TOP = os.path.dirname(os.path.dirname(os.path.abspath(__file__)))
+KINDS = ["create", "modify", "rename", "sort", "idle", "rmdir", "due"]
+ROUNDS = 5
+
+
+def run(words):
+    """Runs a program, and returns the nanoseconds of an operation and the process's peak memory in MB."""
+    process = subprocess.Popen(words, stdout=subprocess.PIPE, stderr=subprocess.STDOUT, text=True)
+    output = process.stdout.read()
+    _, status, usage = os.wait4(process.pid, 0)
+    if status != 0:
+        sys.exit(f"{' '.join(words)} failed:\n{output}")
+    figures = next(words for words in map(str.split, output.splitlines()) if len(words) == 4)
+    return float(figures[3]), usage.ru_maxrss / 1024
+
+
+def least_of_turns(programs):
+    """Runs the programs in turns, and returns the least figures of each."""
+    runs = [[] for _ in programs]
+    for turn in range(ROUNDS):
+        for i in range(len(programs)):
+            which = (turn + i) % len(programs)
+            runs[which].append(run(programs[which]))
+    return [tuple(map(min, zip(*figures))) for figures in runs]
+
+
+def row(*cells):
+    print("| " + " | ".join(cells) + " |", flush=True)
+
+
+def ratio_row(name, here, there, unit):
+    row(name, f"{here:,.0f} {unit}", f"{there:,.0f} {unit}", f"{here / there:.2g}")
+
+
+def main(program, n="100000", *kinds):
+    folder = os.path.join(TOP, "crates", "bench")
+    subprocess.run(["rt", "run"], cwd=folder, check=True, capture_output=True)
+    bench, crate = os.path.join(folder, "out", "bench"), os.path.abspath(program)
+    idle = None
+    print(f"N = {n}, {time.strftime('%Y-%m-%d')}, {os.cpu_count()} processors\n")
+    row("workload", "here", "the Rust crate", "ratio")
+    row("---", "---:", "---:", "---:")
+    for kind in kinds or KINDS:
+        turns = [[bench, n, kind]]
+        if kind != "due":
+            turns.append([crate, "--bench", n, kind, "1"])
+        elif idle is None:
+            turns.append([crate, "--bench", n, "idle", "1"])
+        (here, memory), *crates = least_of_turns(turns)
+        # Each tick of the crate looks at every queue, so one with ten events due takes no less than an
+        # idle one.
+        there, crate_memory = crates[0] if crates else idle
+        if kind == "idle":
+            idle = there, crate_memory
+        ratio_row(kind, here, there, "ns")
+        if kind == "create":
+            ratio_row("create, peak memory", memory, crate_memory, "MB")
+
+
+if __name__ == "__main__":
+    if len(sys.argv) < 2 or not set(sys.argv[3:]) <= set(KINDS):
+        sys.exit(__doc__)
+    main(*sys.argv[1:])
