@@ -32,7 +32,7 @@ impl<'a> Form<'a> {
             [name] => script_form(name.as_str()),
             [form, name] => check_form(form.as_str(), name.as_str()),
             [form, folder, ticks] => watch_form(form.as_str(), folder.as_str(), ticks.as_str()),
-            [form, ..] => threads_form(form.as_str()),
+            [form, _, _, _, ..] => threads_form(form.as_str()),
         }
     }
 }
