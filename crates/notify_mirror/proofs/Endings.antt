@@ -3,7 +3,7 @@ use Rattle.std.proofs.Common.{◌≡◌, ◌⊎◌, ℕ, inl, inr, refl, Option,
 use Rattle.mirror_script.specs.Script.{ScriptValue, Fails, script_of}
 use Rattle.mirror_script.specs.ScriptView.{IsScript, IsFaulty}
 use Rattle.mirror_script.specs.declared.fault.Fault.{Fault}
-use Rattle.mirror_script.specs.declared.fault.Fault.TheVariants.{Usage, NotUtf8, CannotRead, NotCommand, Memory, OutputFailed}
+use Rattle.mirror_script.specs.declared.fault.Fault.TheVariants.{Usage, NotUtf8, CannotRead, NotCommand, Memory, CannotWatch, OutputFailed, NoThread}
 use Rattle.notify_mirror.specs.declared.transcript.Report.{Report}
 use Rattle.notify_mirror.specs.Ending.{status_of, IsStopped}
 use Rattle.notify_mirror.specs.Transcript.{PrintsRun, BeginsRun, IsGiven}
@@ -31,6 +31,8 @@ module _ {A : Type 0} (report : Report) (bytes old new : Option (List ℕ)) wher
   at_0 (Err CannotRead) h s = absurd (omega (arith, s))
   at_0 (Err (NotCommand line)) h s = absurd (omega (arith, s))
   at_0 (Err Memory) h s = absurd (omega (arith, s))
+  at_0 (Err CannotWatch) h s = absurd (h.1)
+  at_0 (Err NoThread) h s = absurd (h.1)
   at_0 (Err OutputFailed) h s = absurd (omega (arith, s))
 
   -- at 6 a beginning of it
@@ -41,6 +43,8 @@ module _ {A : Type 0} (report : Report) (bytes old new : Option (List ℕ)) wher
   at_6 (Err CannotRead) h s = absurd (omega (arith, s))
   at_6 (Err (NotCommand line)) h s = absurd (omega (arith, s))
   at_6 (Err Memory) h s = absurd (omega (arith, s))
+  at_6 (Err CannotWatch) h s = absurd (h.1)
+  at_6 (Err NoThread) h s = absurd (h.1)
   at_6 (Err OutputFailed) h s = h.1
 
   -- at 4 nothing, or a beginning of it
@@ -51,6 +55,8 @@ module _ {A : Type 0} (report : Report) (bytes old new : Option (List ℕ)) wher
   at_4 (Err CannotRead) h s = absurd (omega (arith, s))
   at_4 (Err (NotCommand line)) h s = absurd (omega (arith, s))
   at_4 (Err Memory) h s = h.1
+  at_4 (Err CannotWatch) h s = absurd (h.1)
+  at_4 (Err NoThread) h s = absurd (h.1)
   at_4 (Err OutputFailed) h s = absurd (omega (arith, s))
 
   -- at 1 and 3 nothing
@@ -63,6 +69,8 @@ module _ {A : Type 0} (report : Report) (bytes old new : Option (List ℕ)) wher
   at_1_or_3 (Err (NotCommand line)) h s = h.1.0
   at_1_or_3 (Err Memory) h (inl s) = absurd (omega (arith, s))
   at_1_or_3 (Err Memory) h (inr s) = absurd (omega (arith, s))
+  at_1_or_3 (Err CannotWatch) h s = absurd (h.1)
+  at_1_or_3 (Err NoThread) h s = absurd (h.1)
   at_1_or_3 (Err OutputFailed) h (inl s) = absurd (omega (arith, s))
   at_1_or_3 (Err OutputFailed) h (inr s) = absurd (omega (arith, s))
 
@@ -74,6 +82,8 @@ module _ {A : Type 0} (report : Report) (bytes old new : Option (List ℕ)) wher
   at_3 (Err CannotRead) h s = absurd (omega (arith, s))
   at_3 (Err (NotCommand line)) h s = given_faulty bytes line h.1.1
   at_3 (Err Memory) h s = absurd (omega (arith, s))
+  at_3 (Err CannotWatch) h s = absurd (h.1)
+  at_3 (Err NoThread) h s = absurd (h.1)
   at_3 (Err OutputFailed) h s = absurd (omega (arith, s))
 
   -- at 0 and 6 they are one
@@ -89,4 +99,6 @@ module _ {A : Type 0} (report : Report) (bytes old new : Option (List ℕ)) wher
   at_any (Err CannotRead) h = inr (inl refl)
   at_any (Err (NotCommand line)) h = inr (inr (inl refl))
   at_any (Err Memory) h = inr (inr (inr (inl refl)))
+  at_any (Err CannotWatch) h = absurd (h.1)
+  at_any (Err NoThread) h = absurd (h.1)
   at_any (Err OutputFailed) h = inr (inr (inr (inr refl)))
