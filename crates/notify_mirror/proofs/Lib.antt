@@ -1,3 +1,4 @@
 pub mod Prints
 pub mod Endings
 pub mod Runs
+pub mod Forms

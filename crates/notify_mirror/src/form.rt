@@ -2,7 +2,7 @@
 ghost use Rattle.std.specs.Prelude.{◌≡◌, map, is_some};
 ghost use Rattle.std.specs.String.{string_bytes};
 ghost use Rattle.notify_mirror.specs.FormView.{form_values};
-ghost use Rattle.notify_mirror.specs.Usage.{form_of, ticks_of};
+ghost use Rattle.notify_mirror.specs.Usage.{check_form, form_of, script_form, threads_form, ticks_of, watch_form};
 
 use mirror_script::read_number;
 use std::alloc::Allocator;
@@ -16,6 +16,9 @@ pub enum Form<'a> {
     Check(&'a str),
     /// `mirror --watch DIR TICKS`: the folder is watched for so many ticks of a quarter of a second.
     Watch(&'a str, u64),
+    /// `mirror --threads SCRIPT..`: the scripts that the words after the first name are run, each in a
+    /// thread of its own.
+    Threads,
 }
 
 impl<'a> Form<'a> {
@@ -25,14 +28,58 @@ impl<'a> Form<'a> {
         ensures { form_values result ≡ form_of (map string_bytes words.now) }
     {
         match words {
-            [name] if !name.as_str().starts_with("--") => Some(Form::Run(name.as_str())),
-            [form, name] if form.as_str() == "--check" => Some(Form::Check(name.as_str())),
-            [form, folder, ticks] if form.as_str() == "--watch" => {
-                let ticks = ticks_of(ticks.as_str())?;
-                Some(Form::Watch(folder.as_str(), ticks))
-            }
-            _ => None,
+            [] => None,
+            [name] => script_form(name.as_str()),
+            [form, name] => check_form(form.as_str(), name.as_str()),
+            [form, folder, ticks] => watch_form(form.as_str(), folder.as_str(), ticks.as_str()),
+            [form, _, _, _, ..] => threads_form(form.as_str()),
         }
+    }
+}
+
+/// The form of one word: a script, unless it begins with two dashes.
+fn script_form(name: &str) -> Option<Form<'_>>
+    ensures { form_values result ≡ script_form name.now }
+{
+    if name.starts_with("--") {
+        None
+    } else {
+        Some(Form::Run(name))
+    }
+}
+
+/// The form of two words: a script whose stream is checked, or one in a thread.
+fn check_form<'a>(form: &str, name: &'a str) -> Option<Form<'a>>
+    ensures { form_values result ≡ check_form form.now name.now }
+{
+    if form == "--check" {
+        Some(Form::Check(name))
+    } else {
+        threads_form(form)
+    }
+}
+
+/// The form of three words: a folder that is watched for so many ticks, or scripts in threads.
+fn watch_form<'a>(form: &str, folder: &'a str, ticks: &str) -> Option<Form<'a>>
+    ensures { form_values result ≡ watch_form form.now folder.now ticks.now }
+{
+    if form != "--watch" {
+        return threads_form(form);
+    }
+    match ticks_of(ticks) {
+        Some(ticks) => Some(Form::Watch(folder, ticks)),
+        None => None,
+    }
+}
+
+/// The form of two words or more of which this is the first, if it is none of the others.
+fn threads_form(word: &str) -> Option<Form<'static>>
+    ensures { form_values result ≡ threads_form word.now }
+{
+    if word == "--threads" {
+        Some(Form::Threads)
+    } else {
+        None
     }
 }
 

@@ -10,8 +10,8 @@ use crate::run::end;
 use crossbeam_channel::{Receiver, Sender, unbounded};
 use mirror_script::Fault;
 use notify_debouncer_full::{
-    DebounceEventResult, Debouncer, Error, ErrorKind, Feed, PathBuf, RecommendedCache, RecursiveMode,
-    SendTo, Watcher, new_debouncer,
+    DebounceEventResult, Debouncer, Error, ErrorKind, Feed, PathBuf, RecommendedCache,
+    RecursiveMode, SendTo, Watcher, new_debouncer,
 };
 use std::alloc::{AllocError, Allocator};
 use std::fs::Files;
@@ -109,8 +109,10 @@ fn start<
     let handler = SendTo::new(rt, sender);
     let timeout = Duration::from_millis(TIMEOUT);
     let tick = Duration::from_millis(TICK);
-    new_debouncer(rt, alloc, timeout, Some(tick), handler)
-        .map_err(|error| fault_of(&error, Fault::NoThread))
+    new_debouncer(rt, alloc, timeout, Some(tick), handler).map_err(|error| fault_of(
+        &error,
+        Fault::NoThread,
+    ))
 }
 
 /// The fault that the error is: want of memory, or else this one.

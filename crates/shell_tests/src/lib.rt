@@ -1,0 +1,23 @@
+//! Tests of the running debouncer: what its handler is called with and where, what stands after each
+//! refusal, how it starts and stops, and scripts in threads. Each ends by itself: who waits, waits for
+//! so many turns of a millisecond at most.
+#![tactic(auto)]
+
+#[cfg(test)]
+mod build;
+#[cfg(test)]
+mod gates;
+#[cfg(test)]
+mod memory;
+#[cfg(test)]
+mod mirrors;
+#[cfg(test)]
+mod running;
+#[cfg(test)]
+mod starting;
+#[cfg(test)]
+mod stopping;
+#[cfg(test)]
+mod threads;
+#[cfg(test)]
+mod watchers;
