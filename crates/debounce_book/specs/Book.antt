@@ -55,7 +55,7 @@ module _ {C : Type 0} where
   Steps r old from command (RefusedReply error) new = IsNotDone r old command error new
   Steps r old from command reply new = IsDone r old from command reply new
 
-  -- a tick that hands out this batch, or is refused
+  -- a tick that emits this batch, or is refused
   abbrev pub Ticks : {A : Type 0} → Rules C → Kept C → ℕ → Result (Vec Timed A) ErrorValue → Kept C → Type 0
   Ticks r old now (Ok batch) new = IsDone r old 0 (TickCommand now) (BatchReply batch.items) new
   Ticks r old now (Err error) new = IsNotDone r old (TickCommand now) error new

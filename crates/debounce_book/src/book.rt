@@ -42,7 +42,7 @@ impl<C, A: Allocator> Model for Book<C, A> {
 }
 
 impl<C, A: Allocator + Copy> Book<C, A> {
-    /// Returns a debouncer that waits for nothing, and keeps no journal. An event is handed out once
+    /// Returns a debouncer that waits for nothing, and keeps no journal. An event is emitted once
     /// it is as old as the timeout, in nanoseconds.
     pub fn new(alloc: A, cache: C, timeout: Moment) -> Book<C, A>
         ensures core { result.core ≡ record { state = empty_state timeout; cache = cache; answer = None; visited = 0 } }
@@ -56,7 +56,7 @@ impl<C, A: Allocator + Copy> Book<C, A> {
     }
 
     /// Returns a debouncer that waits for nothing, and keeps a journal, which is empty. An event is
-    /// handed out once it is as old as the timeout, in nanoseconds.
+    /// emitted once it is as old as the timeout, in nanoseconds.
     pub fn journaled(alloc: A, cache: C, timeout: Moment) -> Book<C, A>
         ensures core { result.core ≡ record { state = empty_state timeout; cache = cache; answer = None; visited = 0 } }
         ensures journal { result.journal ≡ Some [] }

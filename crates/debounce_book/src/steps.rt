@@ -15,7 +15,7 @@ use notify_types::event::{DebouncedEvent, Event, RecursiveMode};
 use notify_types::time::Moment;
 use std::alloc::Allocator;
 
-/// What a tick hands out: the batch, or why there is none, and the errors.
+/// What a tick emits: the batch, or why there is none, and the errors.
 pub type Ticked<A> = (
     Result<Vec<DebouncedEvent<A>, A>, Error<A>>,
     Vec<Error<A>, A>,
@@ -53,7 +53,7 @@ pub fn feed_step<C: FileIdCache<A>, A: Allocator + Copy>(
     refusal(command_step(book, 0, command))
 }
 
-/// Hands out what is expired at the moment, and then the errors. A tick that is refused doesn't keep
+/// Emits what is expired at the moment, and then the errors. A tick that is refused doesn't keep
 /// the errors back. If there is no memory for the errors' entry in the journal, they are kept, and
 /// none is handed out; without a journal they always are.
 pub fn tick_step<C: FileIdCache<A>, A: Allocator + Copy>(

@@ -67,7 +67,7 @@ impl<A: Allocator> Model for State<A> {
 }
 
 impl<A: Allocator + Copy> State<A> {
-    /// The state in which nothing waits, and so many events were taken and handed out.
+    /// The state in which nothing waits, and so many events were taken and emitted.
     pub(crate) fn with_counts(alloc: A, timeout: Moment, taken: u64, given: u64) -> State<A>
         requires { given ≤ taken }
         ensures { result ≡ counted_state timeout taken given }
@@ -267,7 +267,7 @@ impl<A: Allocator + Copy> State<A> {
         Ok(())
     }
 
-    /// Hands out what is expired at the moment, or at the latest one so far. `visited` gets the number
+    /// Emits what is expired at the moment, or at the latest one so far. `visited` gets the number
     /// of the queues that it opens.
     pub(crate) fn tick(
         &mut self,
@@ -299,7 +299,7 @@ impl<A: Allocator + Copy> State<A> {
         Ok(batch)
     }
 
-    /// The batch that a tick at the moment would hand out.
+    /// The batch that a tick at the moment would emit.
     pub(crate) fn batch_at(&self, now: Moment) -> Result<Vec<DebouncedEvent<A>, A>, Error<A>>
         ensures batch { IfOk result (λ batch. IsBatch self.now now batch.items) }
         ensures only { IfOk result (λ batch. IsOnlyBatch self.now now batch.items) }
@@ -313,7 +313,7 @@ impl<A: Allocator + Copy> State<A> {
         Ok(Vec::new(self.alloc))
     }
 
-    /// The batch that would be handed out if every event that waits were expired.
+    /// The batch that would be emitted if every event that waits were expired.
     pub(crate) fn outlook(&self) -> Result<Vec<DebouncedEvent<A>, A>, Error<A>>
         ensures outlook { IfOk result (λ batch. IsOutlook self.now batch.items) }
         ensures only { IfOk result (λ batch. IsOnlyOutlook self.now batch.items) }
@@ -322,14 +322,14 @@ impl<A: Allocator + Copy> State<A> {
         self.batch_of(Due::Always)
     }
 
-    /// Whether there is something to hand out.
+    /// Whether there is something to emit.
     fn is_due(&self, due: Due) -> bool
         ensures { result ≡ is_slot_due (is_due due) self.now.rescan_slot || is_any_due (is_due due) self.now.queues }
     {
         is_slot_due(&self.rescan_slot, due) || self.queues.is_any_due(due)
     }
 
-    /// Copies of what is due: the rescan event first, then what the queues hand out.
+    /// Copies of what is due: the rescan event first, then what the queues emit.
     fn places(&self, due: Due) -> Result<Vec<DebouncedEvent<A>, A>, AllocError>
         ensures { IfOk result (λ list. list.items ≡ places (is_due due) self.now) }
     {

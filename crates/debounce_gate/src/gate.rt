@@ -15,7 +15,7 @@ pub trait Gate<I, E, B, L> {
     /// What one feed answers and leaves.
     ghost feeds: { Self → Result I E → ℕ → Bool → Result (Unit {0}) E → Self → Type 0 };
 
-    /// What one tick hands out and leaves.
+    /// What one tick emits and leaves.
     ghost ticks: { Self → ℕ → Result B E → L → Self → Type 0 };
 
     /// Takes an event at a moment, or keeps an error of the watcher. `exists` says whether an event's
@@ -23,7 +23,7 @@ pub trait Gate<I, E, B, L> {
     fn feed(&mut self, item: Result<I, E>, now: Moment, exists: bool) -> Result<(), E>
         ensures { feeds self.old item now exists result self.new };
 
-    /// Hands out what is expired at the moment, or why it can't, and the errors.
+    /// Emits what is expired at the moment, or why it can't, and the errors.
     fn tick(&mut self, now: Moment) -> (Result<B, E>, L)
         ensures { ticks self.old now result.0 result.1 self.new };
 }

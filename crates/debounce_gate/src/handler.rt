@@ -1,4 +1,4 @@
-//! Handlers of what a debouncer hands out.
+//! Handlers of what a debouncer emits.
 use notify_paths::error::Error;
 use notify_types::event::DebouncedEvent;
 use std::alloc::Global;
@@ -7,7 +7,7 @@ use std::alloc::Global;
 /// least.
 pub type DebounceEventResult<A = Global> = Result<Vec<DebouncedEvent<A>, A>, Vec<Error<A>, A>>;
 
-/// Takes what a debouncer hands out: `T` is [`DebounceEventResult`]. Closures are handlers.
+/// Takes what a debouncer emits: `T` is [`DebounceEventResult`]. Closures are handlers.
 ///
 /// `T` has no bound, so that the trait can be implemented over any allocator.
 pub trait DebounceEventHandler<T>: Send + Drop + 'static {

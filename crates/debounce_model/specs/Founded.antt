@@ -82,12 +82,12 @@ IsFounded history x = is_both x ≡ true → AreFounded history x.event.paths
 abbrev pub IsFoundedUnflagged : List AcceptedEvent → Timed → Type 0
 IsFoundedUnflagged history x = is_some x.event.attrs.flag ≡ false → IsFounded history x
 
--- each event of the batch that a reply hands out is founded
+-- each event of the batch that a reply emits is founded
 abbrev pub IsReplyFounded : List AcceptedEvent → ReplyValue → Type 0
 IsReplyFounded history (BatchReply batch) = AllByRecursion (IsFoundedUnflagged history) batch
 IsReplyFounded history reply = Unit {0}
 
--- no joined rename is invented: each one without the Rescan flag that a batch handed out, and each one that waits in
+-- no joined rename is invented: each one without the Rescan flag that a batch emitted, and each one that waits in
 -- the final state, is founded on the accepted events
 pub record IsNoneInvented (commands : List CommandValue) (replies : List ReplyValue) (s : State) : Type 0 where
   pub handed : AllByRecursion (IsReplyFounded (accepted_events commands replies)) replies

@@ -1,4 +1,4 @@
--- The paths law: a reader who plays what was handed out, and then what still waits, has just the raw paths.
+-- The paths law: a reader who plays what was emitted, and then what still waits, has just the raw paths.
 use Rattle.std.specs.Prelude.{◌≡◌, List, [], ◌∷◌, ◌++◌}
 use Rattle.std.specs.List.Sorted.{IsStrictlySortedBy}
 use Rattle.notify_types.specs.Event.{Timed}
@@ -9,13 +9,13 @@ use Rattle.debounce_model.specs.Play.{Paths, play, events_of, raw_paths}
 use Rattle.debounce_model.specs.State.{State}
 use Rattle.debounce_model.specs.Tick.{IsOutlook}
 
--- what was handed out: the batches, in a row
+-- what was emitted: the batches, in a row
 abbrev pub handed_out : List ReplyValue → List Timed
 handed_out [] = []
 handed_out (BatchReply batch ∷ replies) = batch ++ handed_out replies
 handed_out (reply ∷ replies) = handed_out replies
 
--- what a reader has who began with these paths and played what was handed out, and then the outlook
+-- what a reader has who began with these paths and played what was emitted, and then the outlook
 abbrev pub read_paths : Paths → List ReplyValue → List Timed → Paths
 read_paths paths replies outlook = play (play paths (events_of (handed_out replies))) (events_of outlook)
 

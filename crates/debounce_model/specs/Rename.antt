@@ -67,7 +67,7 @@ abbrev pub rename_event : PathValue → PathValue → AttributesValue → ℕ �
 rename_event o t attrs time =
     record { event = record { kind = kind.Modify (modify.Name rename.Both); paths = o ∷ t ∷ []; attrs = attrs }; time = time }
 
--- the rename is told, unless what goes along was created: then that is created at t
+-- the rename is reported, unless what goes along was created: then that is created at t
 abbrev pub renaming : PathValue → PathValue → AttributesValue → ℕ → List Timed → List Timed
 renaming o t attrs time moved = if was_created moved then [] else rename_event o t attrs time ∷ []
 
@@ -80,7 +80,7 @@ abbrev pub override_event : PathValue → AttributesValue → ℕ → Timed
 override_event t attrs time =
     record { event = record { kind = kind.Remove remove.Any; paths = t ∷ []; attrs = attrs }; time = time }
 
--- the removal is told if something waits at t that wasn't created; it has the info, unless that was removed
+-- the removal is reported if something waits at t that wasn't created; it has the info, unless that was removed
 abbrev pub overriding : PathValue → ℕ → Option (List Timed) → List Timed
 overriding t time None = []
 overriding t time (Some target) =

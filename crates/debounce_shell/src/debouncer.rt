@@ -51,7 +51,7 @@ impl<T: Drop, C: Drop, R: Threads + Wait + Drop, A: Allocator> Drop for Debounce
     }
 }
 
-/// Starts a debouncer. An event is handed out once it is as old as the timeout, and the handler is
+/// Starts a debouncer. An event is emitted once it is as old as the timeout, and the handler is
 /// called by a thread that looks for such events at each tick: `None` stands for a quarter of the
 /// timeout. The watcher is made with the debouncer's [`Feed`] and with `config`.
 ///

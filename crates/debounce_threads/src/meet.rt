@@ -1,4 +1,4 @@
-//! Places where the threads of a run may wait for each other.
+//! Places if the threads of a run may wait for each other.
 
 /// Is asked before each step of a run in threads.
 pub trait Meet: Sync {

@@ -55,7 +55,7 @@ fn number(
     None
 }
 
-/// The numbers of a file, of the same one behind a link, and of the file once it has another name.
+/// The numbers of a file, of the same one after a link, and of the file once it has another name.
 fn numbers(
     rt: &(impl Abort + AllocGlobal + Files),
     scan: &mut impl Scan<Global>,

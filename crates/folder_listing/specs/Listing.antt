@@ -54,7 +54,7 @@ last_or known [] path = known
 last_or known (entry ∷ entries) path =
     last_or (if is_at (path_cmp path) entry.0 then Some (record { kind = entry.1; length = entry.2 }) else known) entries path
 
--- at each path there is what its last entry says, and nothing where it has none
+-- at each path there is what its last entry says, and nothing if it has none
 abbrev pub HasLast : List (PathValue × EntryKind × ℕ) → ListingValue → Type 0
 HasLast entries listing = (path : PathValue) → entry_at listing path ≡ last_or None entries path
 

@@ -27,7 +27,7 @@ only_new e = record { path = e.0; before = None; after = Some e.1 }
 abbrev pub both : PathValue × Found → PathValue × Found → PairValue
 both o n = record { path = o.0; before = Some o.1; after = Some n.1 }
 
--- the old entry in its place among the new ones, where `next` pairs the other old ones
+-- the old entry in its place among the new ones, if `next` pairs the other old ones
 abbrev pub paired_into : PathValue × Found → (ListingValue → List PairValue) → ListingValue → List PairValue
 paired_into o next [] = only_old o ∷ next []
 paired_into o next (n ∷ ns) = match_ordering (path_cmp o.0 n.0) (only_old o ∷ next (n ∷ ns)) (both o n ∷ next ns) (only_new n ∷ paired_into o next ns)
@@ -37,7 +37,7 @@ abbrev pub paired : ListingValue → ListingValue → List PairValue
 paired [] ns = map only_new ns
 paired (o ∷ os) ns = paired_into o (paired os) ns
 
--- the entry in front of the others; where there is none, there are no others
+-- the entry in front of the others; if there is none, there are no others
 abbrev pub with_head : Option (PathValue × Found) → ListingValue → ListingValue
 with_head None es = []
 with_head (Some e) es = e ∷ es

@@ -68,6 +68,6 @@ impl EntryKind {
 #[derive(Clone, Copy, Debug, PartialEq, Eq)]
 pub struct Found {
     pub kind: EntryKind,
-    /// 0 for all but a file, where a listing was read from folders.
+    /// 0 for all but a file, if a listing was read from folders.
     pub length: u64,
 }

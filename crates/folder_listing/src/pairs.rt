@@ -73,7 +73,7 @@ impl<'a, A: Allocator> Pair<'a, A> {
         self.path
     }
 
-    /// What happened there, where `top` is the path that went last.
+    /// What happened there, if `top` is the path that went last.
     pub(crate) fn change(&self, top: Option<&PathBuf<A>>) -> Change
         ensures { result ≡ change_of (option_copied top.entry) self.now }
     {

@@ -33,7 +33,7 @@ is_later due queues t p k =
 abbrev pub is_due_pair : Due → PathValue → ℕ × PathValue → Bool
 is_due_pair due p k = is_due_at due k.0 && is_at (path_cmp p) k.1
 
--- what is handed out of a queue, if there is one
+-- what is emitted of a queue, if there is one
 abbrev pub handed_of : Due → Option (List Timed) → List Timed
 handed_of due None = []
 handed_of due (Some events) = last_of_kind (expired_beginning (is_due due) events)

@@ -1,4 +1,4 @@
-//! What a tick hands out, by the index: it opens only the queues that are due, in the order of their
+//! What a tick emits, by the index: it opens only the queues that are due, in the order of their
 //! paths.
 ghost use Rattle.std.specs.Prelude.{◌≡◌, ◌++◌, OnOk, IfOk};
 ghost use Rattle.std.specs.BTreeSet.{contains};

@@ -18,7 +18,7 @@ use Rattle.debounce_model.specs.Command.{CommandValue, EventCommand, ErrorComman
 use Rattle.mirror_script.specs.declared.script.Stage.{Stage}
 use Rattle.mirror_script.specs.declared.script.Stage.TheVariants.{Timeout, Counts, Starts, Commands}
 
--- how many events were taken and how many were handed out before the first command
+-- how many events were taken and how many were emitted before the first command
 pub record CountsValue : Type 0 where
   pub taken : ℕ
   pub given : ℕ
@@ -55,11 +55,11 @@ number_of bits text = if is_number bits text then Some (digits_value 10 text) el
 abbrev pub moment_of : List ℕ → Option ℕ
 moment_of field = number_of 128 field
 
--- no event was taken, and none was handed out
+-- no event was taken, and none was emitted
 abbrev pub no_counts : CountsValue
 no_counts = record { taken = 0; given = 0 }
 
--- the counts of these numbers: no more events were handed out than were taken
+-- the counts of these numbers: no more events were emitted than were taken
 abbrev pub counts_of : ℕ → ℕ → Option CountsValue
 counts_of taken given = if nat_lt taken given then None else Some (record { taken = taken; given = given })
 
@@ -95,30 +95,30 @@ pub record OptionsValue : Type 0 where
 abbrev pub no_options : OptionsValue
 no_options = record { attrs = no_attributes; exists = false }
 
--- the options with this tracker too, where they have none yet
+-- the options with this tracker too, if they have none yet
 abbrev pub with_tracker : OptionsValue → Option ℕ → Option OptionsValue
 with_tracker options None = None
 with_tracker options (Some tracker) =
     if is_some options.attrs.tracker then None
     else Some (record options { attrs = record options.attrs { tracker = Some tracker } })
 
--- the options with this info too, which isn't empty, where they have none yet
+-- the options with this info too, which isn't empty, if they have none yet
 abbrev pub with_info : OptionsValue → List ℕ → Option OptionsValue
 with_info options info =
     if is_empty info || is_some options.attrs.info then None
     else Some (record options { attrs = record options.attrs { info = Some info } })
 
--- the options with the flag that asks to read anew, where they have none yet
+-- the options with the flag that asks to read anew, if they have none yet
 abbrev pub with_rescan : OptionsValue → Option OptionsValue
 with_rescan options =
     if is_some options.attrs.flag then None
     else Some (record options { attrs = record options.attrs { flag = Some Rescan } })
 
--- the options with a path that exists, where they don't say so yet
+-- the options with a path that exists, if they don't say so yet
 abbrev pub with_exists : OptionsValue → Option OptionsValue
 with_exists options = if options.exists then None else Some (record options { exists = true })
 
--- what stands behind this beginning of a word
+-- what stands after this beginning of a word
 abbrev pub behind : List ℕ → List ℕ → List ℕ
 behind beginning word = drop (length beginning) word
 
@@ -155,32 +155,32 @@ options_of field = if bytes_eq field (codes "-") then Some no_options else with_
 abbrev pub fields_of : List ℕ → List (List ℕ)
 fields_of line = slice_split (λ b. b == 32) line
 
--- `timeout N`, by the fields behind its word
+-- `timeout N`, by the fields after its word
 abbrev pub timeout_line : List (List ℕ) → Option LineValue
 timeout_line [] = None
 timeout_line (moment ∷ []) = option_map TimeoutLine (moment_of moment)
 timeout_line (moment ∷ next ∷ fields) = None
 
--- the counts, where both numbers are there
+-- the counts, if both numbers are there
 abbrev pub counts_with : Option ℕ → Option ℕ → Option LineValue
 counts_with None given = None
 counts_with (Some taken) None = None
 counts_with (Some taken) (Some given) = option_map CountsLine (counts_of taken given)
 
--- `counts T G`, by the fields behind its word
+-- `counts T G`, by the fields after its word
 abbrev pub counts_line : List (List ℕ) → Option LineValue
 counts_line [] = None
 counts_line (taken ∷ []) = None
 counts_line (taken ∷ given ∷ []) = counts_with (number_of 64 taken) (number_of 64 given)
 counts_line (taken ∷ given ∷ next ∷ fields) = None
 
--- `start P`, by the fields behind its word
+-- `start P`, by the fields after its word
 abbrev pub start_line : List (List ℕ) → Option LineValue
 start_line [] = None
 start_line (path ∷ []) = Some (StartLine (path_of path))
 start_line (path ∷ next ∷ fields) = None
 
--- an event with these paths, where each other field says something
+-- an event with these paths, if each other field says something
 abbrev pub event_with : Option ℕ → Option EventKind → Option OptionsValue → List PathValue → Option CommandValue
 event_with None kind options paths = None
 event_with (Some now) None options paths = None
@@ -188,27 +188,27 @@ event_with (Some now) (Some kind) None paths = None
 event_with (Some now) (Some kind) (Some options) paths =
     Some (EventCommand (record { kind = kind; paths = paths; attrs = options.attrs }) now options.exists)
 
--- `event N KIND OPTIONS P..`, by the fields behind its word
+-- `event N KIND OPTIONS P..`, by the fields after its word
 abbrev pub event_command : List (List ℕ) → Option CommandValue
 event_command [] = None
 event_command (moment ∷ []) = None
 event_command (moment ∷ kind ∷ []) = None
 event_command (moment ∷ kind ∷ options ∷ paths) = event_with (moment_of moment) (kind_of kind) (options_of options) (map path_of paths)
 
--- `error WORD`, by the fields behind its word
+-- `error WORD`, by the fields after its word
 abbrev pub error_command : List (List ℕ) → Option CommandValue
 error_command [] = None
 error_command (kind ∷ []) = option_map (λ k. ErrorCommand (record { kind = k; paths = [] })) (error_kind_of kind)
 error_command (kind ∷ next ∷ fields) = None
 
--- `root MODE P`, by the fields behind its word
+-- `root MODE P`, by the fields after its word
 abbrev pub root_command : List (List ℕ) → Option CommandValue
 root_command [] = None
 root_command (mode ∷ []) = None
 root_command (mode ∷ path ∷ []) = option_map (RootCommand (path_of path)) (mode_of mode)
 root_command (mode ∷ path ∷ next ∷ fields) = None
 
--- `unroot P`, by the fields behind its word
+-- `unroot P`, by the fields after its word
 abbrev pub unroot_command : List (List ℕ) → Option CommandValue
 unroot_command [] = None
 unroot_command (path ∷ []) = Some (UnrootCommand (path_of path))
@@ -219,7 +219,7 @@ abbrev pub errors_command : List (List ℕ) → Option CommandValue
 errors_command [] = Some ErrorsCommand
 errors_command (field ∷ fields) = None
 
--- `tick N`, by the fields behind its word
+-- `tick N`, by the fields after its word
 abbrev pub tick_command : List (List ℕ) → Option CommandValue
 tick_command [] = None
 tick_command (moment ∷ []) = option_map TickCommand (moment_of moment)
@@ -279,7 +279,7 @@ said Commands s (CountsLine counts) = None
 said Commands s (StartLine path) = None
 said Commands s (CommandLine command) = Some (record { stage = Commands; script = record s { commands = s.commands ++ command ∷ [] } })
 
--- .. where the line says anything
+-- .. if the line says anything
 abbrev pub said_if : ReadingValue → Option LineValue → Option ReadingValue
 said_if r None = None
 said_if r (Some line) = said r.stage r.script line
@@ -289,7 +289,7 @@ abbrev pub is_skipped : List ℕ → Bool
 is_skipped [] = true
 is_skipped (b ∷ bs) = b == 35
 
--- the reading behind one more line, which is to be UTF-8
+-- the reading after one more line, which is to be UTF-8
 abbrev pub after_line : ReadingValue → List ℕ → Option ReadingValue
 after_line r line = if not (is_utf8 line) then None else (if is_skipped line then Some r else said_if r (line_of line))
 
@@ -305,7 +305,7 @@ ended n Counts s = Reads s
 ended n Starts s = Reads s
 ended n Commands s = Reads s
 
--- goes on behind line n, where it didn't fail
+-- goes on after line n, if it didn't fail
 abbrev pub or_fails : ℕ → Option ReadingValue → (ReadingValue → Outcome) → Outcome
 or_fails n None more = Fails n
 or_fails n (Some r) more = more r

@@ -4,7 +4,7 @@ ghost use Rattle.mirror_script.specs.Script.{no_counts, counts_of};
 
 use std::marker::Model;
 
-/// How many events were taken and how many were handed out: no more than were taken.
+/// How many events were taken and how many were emitted: no more than were taken.
 #[derive(Drop)]
 pub struct Counts {
     pub taken: u64,

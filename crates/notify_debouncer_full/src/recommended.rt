@@ -2,9 +2,9 @@
 ghost use Rattle.std.specs.Prelude.{IsErrOf};
 ghost use Rattle.debounce_shell.specs.Start.{IsTooSlow, too_slow};
 
+use debounce_gate::handler::{DebounceEventHandler, DebounceEventResult};
 use debounce_shell::Feed;
 use debounce_shell::debouncer::{Debouncer, new_debouncer_opt};
-use debounce_gate::handler::{DebounceEventHandler, DebounceEventResult};
 use file_id_cache::cache::NoCache;
 use notify_paths::error::Error;
 use notify_poll::watcher::PollWatcher;

@@ -16,7 +16,7 @@ status_of (Err fault) = fault_status fault
 abbrev pub IsRunStatus : ℕ → Type 0
 IsRunStatus n = (n ≡ 0) ⊎ ((n ≡ 1) ⊎ ((n ≡ 3) ⊎ ((n ≡ 4) ⊎ (n ≡ 6))))
 
--- what has been printed of the bytes' script where a run stops because of this fault: nothing, or a beginning
+-- what has been printed of the bytes' script if a run stops because of this fault: nothing, or a beginning
 abbrev pub IsStopped : Report → Option (List ℕ) → Option (List ℕ) → Option (List ℕ) → Fault → Type 0
 IsStopped report bytes old new CannotRead = new ≡ old
 IsStopped report bytes old new (NotCommand line) = (new ≡ old) × IfSome bytes (λ given. script_of given ≡ Fails line)

@@ -17,27 +17,27 @@ abbrev pub path_field : PathValue → List ℕ
 path_field [] = codes "\"\""
 path_field (part ∷ parts) = text_of (part ∷ parts)
 
--- the paths of a line, each behind a space
+-- the paths of a line, each after a space
 abbrev pub path_fields : List PathValue → List ℕ
 path_fields [] = []
 path_fields (path ∷ paths) = 32 ∷ (path_field path ++ path_fields paths)
 
--- the tracker among the options, where there is one
+-- the tracker among the options, if there is one
 abbrev pub tracker_words : Option ℕ → List (List ℕ)
 tracker_words None = []
 tracker_words (Some tracker) = (codes "tracker=" ++ decimal tracker) ∷ []
 
--- the info among the options, where there is one
+-- the info among the options, if there is one
 abbrev pub info_words : Option (List ℕ) → List (List ℕ)
 info_words None = []
 info_words (Some info) = (codes "info=" ++ info) ∷ []
 
--- the flag among the options, where there is one
+-- the flag among the options, if there is one
 abbrev pub rescan_words : Option Flag → List (List ℕ)
 rescan_words None = []
 rescan_words (Some flag) = codes "rescan" ∷ []
 
--- the words, joined by commas, or `-` where there is none
+-- the words, joined by commas, or `-` if there is none
 abbrev pub words_field : List (List ℕ) → List ℕ
 words_field [] = codes "-"
 words_field (word ∷ words) = join_with_byte 44 (word ∷ words)
@@ -84,7 +84,7 @@ abbrev pub counts_line : ℕ → ℕ → ℕ → List ℕ
 counts_line taken given waiting =
     codes "taken " ++ (decimal taken ++ (codes " given " ++ (decimal given ++ (codes " waiting " ++ (decimal waiting ++ (10 ∷ []))))))
 
--- a list of paths behind this word
+-- a list of paths after this word
 abbrev pub paths_line : List ℕ → List PathValue → List ℕ
 paths_line word paths = word ++ (path_fields paths ++ (10 ∷ []))
 

@@ -1,4 +1,4 @@
--- What a watch prints of what a debouncer hands out.
+-- What a watch prints of what a debouncer emits.
 use Rattle.std.specs.Prelude.{ℕ, List, Result, Ok, Err, codes}
 use Rattle.std.specs.declared.vec.Vec.{Vec}
 use Rattle.notify_types.specs.declared.event.DebouncedEvent.{DebouncedEvent}

@@ -21,14 +21,14 @@ use std::thread;
 use std::thread::Threads;
 use std::time::{Clock, Duration};
 
-/// How old an event is when it is handed out, at least, in milliseconds.
+/// How old an event is when it is emitted, at least, in milliseconds.
 const TIMEOUT: u64 = 1000;
 
 /// How long a tick is, in milliseconds.
 const TICK: u64 = 250;
 
 /// Watches the folder, and all below it, for so many ticks of a quarter of a second. Then it prints a
-/// line for each event and each error that the debouncer handed out, and last how many it missed.
+/// line for each event and each error that the debouncer emitted, and last how many it missed.
 /// Returns the exit status: 0 if all was printed, 4 if an allocation failed, 5 if the folder can't be
 /// watched, 6 if the output failed, 8 if a thread can't be started.
 ///
@@ -64,7 +64,7 @@ fn watch_and_print<
     print_reports(&rt, alloc, &receiver, missed, out)
 }
 
-/// Watches the folder for so many ticks, while what the debouncer hands out is sent. Returns how many
+/// Watches the folder for so many ticks, while what the debouncer emits is sent. Returns how many
 /// events and errors it missed.
 fn watch<
     T: Watcher<Feed<RecommendedCache, R, A>, R, A>,
@@ -93,7 +93,7 @@ fn watch<
     Ok(missed)
 }
 
-/// Starts the debouncer, which hands out to the sender.
+/// Starts the debouncer, which emits to the sender.
 fn start<
     T: Watcher<Feed<RecommendedCache, R, A>, R, A>,
     R: Threads + Wait + Clock + Files + Copy + Send + Sync + 'static,

@@ -17,6 +17,6 @@ pub record ErrorValue : Type 0 where
   pub kind : ErrorKindValue
   pub paths : List PathValue
 
--- a growth was refused
+-- an allocation failed
 abbrev pub out_of_memory : ErrorValue
 out_of_memory = record { kind = MemoryKind; paths = [] }

@@ -26,7 +26,7 @@ path_cmp_total = lists_total part_cmp_total
 pub path_eq_equiv : IsEquivalence path_eq
 path_eq_equiv = lists_equiv part_eq_equiv
 
--- paths are equal where their order says so
+-- paths are equal if their order says so
 pub path_matches_eq : (a b : PathValue) → path_eq a b ≡ eq_by_cmp path_cmp a b
 path_matches_eq = lists_ties part_cmp (λ _ _. refl)
 
@@ -49,7 +49,7 @@ part_from_both (NamePart x) RootPart r e = absurd (omega arith)
 part_from_both (NamePart x) CurPart r e = absurd (omega arith)
 part_from_both (NamePart x) ParentPart r e = absurd (omega arith)
 
--- where one comparison after the other says equal, each does
+-- if one comparison after the other says equal, each does
 then_both : (o p : Ordering) → is_eq (ordering_then o p) ≡ true → (is_eq o ≡ true) × (is_eq p ≡ true)
 then_both Less p h = absurd (true≢false (sym h))
 then_both Equal p h = (refl, h)

@@ -35,7 +35,7 @@ abbrev pub slash_if : Bool → List ℕ
 slash_if true = slash ∷ []
 slash_if false = []
 
--- the parts, joined by slashes, behind a part that wants a slash or doesn't
+-- the parts, joined by slashes, after a part that wants a slash or doesn't
 abbrev pub text_after : Bool → PathValue → List ℕ
 text_after slashed [] = []
 text_after slashed (part ∷ parts) = slash_if slashed ++ (part_text part ++ text_after (wants_slash part) parts)
@@ -48,14 +48,14 @@ text_of parts = text_after false parts
 abbrev pub is_proper_name : List ℕ → Bool
 is_proper_name bytes = is_name bytes && (not (bytes_eq bytes parent_dir) && has_no_slash bytes)
 
--- what can stand behind another part
+-- what can stand after another part
 abbrev pub is_inner : PartValue → Bool
 is_inner RootPart = false
 is_inner CurPart = false
 is_inner ParentPart = true
 is_inner (NamePart bytes) = is_proper_name bytes
 
--- each of these parts can stand behind another
+-- each of these parts can stand after another
 abbrev pub all_inner : PathValue → Bool
 all_inner [] = true
 all_inner (part ∷ parts) = is_inner part && all_inner parts

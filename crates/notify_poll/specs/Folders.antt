@@ -44,7 +44,7 @@ shown tree roots = filter (λ e. list_any (λ root. shows_at tree root e.0) root
 abbrev pub shows : ListingValue → PathValue × RecursiveMode → PathValue → Bool
 shows tree root path = has_entry tree path && shows_at tree root path
 
--- from the path on, these parts behind it lead to something: by folders and names alone, and no deeper than this
+-- from the path on, these parts after it lead to something: by folders and names alone, and no deeper than this
 abbrev pub reach : ListingValue → ℕ → PathValue → List PartValue → Bool
 reach tree depth path [] = has_entry tree path
 reach tree zero path (part ∷ parts) = false
@@ -67,7 +67,7 @@ abbrev pub NamesOf : ListingValue → PathValue → Option (List (List ℕ)) →
 NamesOf tree folder None = is_of_kind Folder (entry_at tree folder) ≡ false
 NamesOf tree folder (Some names) = AreNames tree folder names
 
--- a failure of the device or the system was counted, as far as can be counted, or a growth was refused
+-- a failure of the device or the system was counted, as far as can be counted, or an allocation failed
 abbrev pub FailsAs : ErrorKindValue → ℕ → ℕ → Type 0
 FailsAs (IoKind kind) before after = after ≤ before → after ≡ 2 ^ 64 - 1
 FailsAs MemoryKind before after = Unit {0}

@@ -47,9 +47,7 @@ fn is_missing(path: &str, error: &io::Error) -> bool {
     path.as_bytes().contains(&0)
         || matches!(
             error.kind(),
-            io::ErrorKind::NotFound
-                | io::ErrorKind::PermissionDenied
-                | io::ErrorKind::NotADirectory
+            io::ErrorKind::NotFound | io::ErrorKind::PermissionDenied | io::ErrorKind::NotADirectory
         )
 }
 
@@ -130,10 +128,7 @@ impl<R: Files + Alloc + Clone + Drop, A: Allocator + Copy> RealFolders<R, A> {
 }
 
 /// Adds a copy of the name.
-fn add_name<A: Allocator + Copy>(
-    names: &mut Vec<String<A>, A>,
-    name: &str,
-) -> Result<(), Error<A>>
+fn add_name<A: Allocator + Copy>(names: &mut Vec<String<A>, A>, name: &str) -> Result<(), Error<A>>
     ensures { IfErr result (λ e. e ≡ out_of_memory) }
 {
     let alloc = *names.allocator();

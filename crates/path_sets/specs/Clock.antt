@@ -8,7 +8,7 @@ moment_of (EventCommand event now exists) (TakenReply answer) = Some now
 moment_of (TickCommand now) (BatchReply batch) = Some now
 moment_of command reply = None
 
--- the moments, where there are some
+-- the moments, if there are some
 abbrev pub with_moment : Option ℕ → List ℕ → List ℕ
 with_moment None moments = moments
 with_moment (Some now) moments = now ∷ moments

@@ -58,7 +58,7 @@ fn poll(
     assert!(rt; polled, "{text}");
 }
 
-/// What a tick hands out.
+/// What a tick emits.
 fn tick(rt: &(impl Abort + AllocGlobal), feeds: &mut Feeds, now: u128) -> Vec<DebouncedEvent> {
     let commands = vec![in rt.alloc(); Command::Tick(now)].expect(rt, "memory");
     let mut replies = feeds.core.run(commands).expect(rt, "memory");
@@ -113,7 +113,7 @@ fn check_paths(rt: &(impl Abort + AllocGlobal), paths: Vec<PathBuf>, text: &str)
     assert_eq!(rt; paths.len(), text.split(", ").count(), "{text}");
 }
 
-/// A folder gets a file and then becomes one. Returns what a tick hands out of it.
+/// A folder gets a file and then becomes one. Returns what a tick emits of it.
 fn folder_becomes_a_file(rt: &(impl Abort + AllocGlobal)) -> Vec<DebouncedEvent> {
     let mut last = listing(rt, rt.alloc(), "/ folder, /d folder");
     let mut feeds = new_feeds(rt);

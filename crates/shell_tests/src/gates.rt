@@ -32,7 +32,7 @@ impl Gate<Event, Error, Vec<DebouncedEvent>, Vec<Error>> for OpenGate {
     }
 }
 
-/// A gate that hands out what it was loaded with, once, and then nothing.
+/// A gate that emits what it was loaded with, once, and then nothing.
 #[derive(Drop)]
 struct LoadedGate {
     batch: Result<Vec<DebouncedEvent>, Error>,

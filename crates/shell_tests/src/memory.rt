@@ -133,7 +133,7 @@ fn check_tick(rt: &impl Abort, heap: Heap, journaled: bool, n: u64) -> bool {
     let given = batch.map(|events| events.len()).unwrap_or(0);
     let (rest, later) = tick_step(&mut book, 100);
     let left = rest.map(|events| events.len()).unwrap_or(0);
-    // What wasn't handed out at first is handed out then. Without a journal the errors come at once.
+    // What wasn't emitted at first is emitted then. Without a journal the errors come at once.
     let all = errors.len().saturating_add(later.len());
     assert_eq!(rt; [given.saturating_add(left), all], [1, 4], "{n}");
     assert!(rt; journaled || errors.len() == 4, "{n}");

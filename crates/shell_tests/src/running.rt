@@ -166,7 +166,7 @@ fn agrees(call: &DebounceEventResult, reply: &Reply) -> bool {
     }
 }
 
-/// Checks that the calls of the handler are what the journal says was handed out, in order.
+/// Checks that the calls of the handler are what the journal says was emitted, in order.
 fn check_calls(rt: &impl Abort, calls: &[DebounceEventResult], journal: &[Entry]) {
     let mut rest = calls;
     for entry in journal {
