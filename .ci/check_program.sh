@@ -41,6 +41,10 @@ expect 'a script is run' 0 "$top/crates/mirror/stdout" '' "$program" example
     echo clock yes
 } >checked
 expect 'a script is checked' 0 checked '' "$program" --check example
+printf 'entries 12\ntaken 8\nreplay same\n' >replayed
+expect 'scripts run in threads' 0 replayed '' "$program" --threads example example
+expect 'a missing folder is watched' 5 nothing 'mirror: cannot watch missing' "$program" --watch missing 1
+expect 'no ticks' 2 nothing "$usage" "$program" --watch folder 0
 expect 'no word' 2 nothing "$usage" "$program"
 expect 'two words' 2 nothing "$usage" "$program" example example
 expect 'a check of nothing' 2 nothing "$usage" "$program" --check
