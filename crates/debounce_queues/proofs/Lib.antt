@@ -1,3 +1,4 @@
+mod AwayLemmas
 mod Outcomes
 mod RunLists
 mod TouchedFronts

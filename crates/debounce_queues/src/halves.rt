@@ -44,7 +44,8 @@ pub(crate) fn source_at<'a, A: Allocator>(
     source_of(without_last(events_at(queues, from)))
 }
 
-fn target_at<A: Allocator>(queues: &QueueMap<A>, path: &PathBuf<A>) -> Target
+/// What a rename finds at the path, if it is no rename to its own path.
+pub(crate) fn target_at<A: Allocator>(queues: &QueueMap<A>, path: &PathBuf<A>) -> Target
     ensures { result ≡ target_of (queue_at queues.now.entries path.now) }
 {
     match queues.get(path) {

@@ -1,20 +1,25 @@
 //! The joined rename, with the index of the fronts.
-ghost use Rattle.std.specs.Prelude.{◌≡◌, ◌++◌, ◌<◌, true, length, IfOk, OnOk, OnErr};
+ghost use Rattle.std.specs.Prelude.{◌≡◌, ◌++◌, ◌<◌, true, is_some, length, IfOk, OnOk, OnErr};
 ghost use Rattle.std.specs.List.Sorted.{IsStrictlySortedBy};
 ghost use Rattle.std.specs.Map.{keys_of};
 ghost use Rattle.notify_paths.specs.Path.{path_cmp};
 ghost use Rattle.debounce_model.specs.Moved.{below_of, are_apart};
+ghost use Rattle.debounce_model.specs.Queues.{with_queue, without_queue};
 ghost use Rattle.debounce_model.specs.WellFormed.{AreQueues, IsQueueMap};
+ghost use Rattle.event_queue.specs.Front.{front_time};
 ghost use Rattle.event_queue.specs.Renames.{halves_by, joined_by};
 ghost use Rattle.front_index.specs.Fronts.{IsIndexed};
 ghost use Rattle.front_index.specs.Steps.{DifferAt, IsKept, IsWith, pairs_of};
 ghost use Rattle.debounce_queues.specs.Touched.{moved_pair, moved_pairs, fronts_after, fronts_of_two, fronts_of_all, touches_two};
 
-use crate::halves::{join_halves, source_at};
+use crate::halves::{join_halves, source_at, target_at};
 use crate::joined::{are_apart, join};
+use crate::map::new_key;
 use event_queue::queue::Queue;
-use event_queue::rename::{Rename, Source};
+use event_queue::rename::{Rename, Source, arrived};
+use front_index::below::remove as take_out;
 use front_index::fronts::{Fronts, QueueMap};
+use front_index::put::put;
 use front_index::settle::{Pairs, add_front_at, add_pair, insert_copies, settle};
 use notify_paths::below::count_below;
 use notify_paths::path::PathBuf;
@@ -162,7 +167,7 @@ fn insert_and_join_two<A: Allocator + Copy>(
 
 /// The joined rename at its two paths. The index gets all fronts that may come first, by what can fail; after
 /// the rename, or if it is refused, it loses what is no front.
-fn join_two<A: Allocator + Copy>(
+fn join_by_pairs<A: Allocator + Copy>(
     queues: &mut QueueMap<A>,
     fronts: &mut Fronts<A>,
     spare: &mut PathBuf<A>,
@@ -179,6 +184,56 @@ fn join_two<A: Allocator + Copy>(
     let joined = insert_and_join_two(queues, fronts, spare, &pairs, rename);
     settle(queues, fronts, pairs.as_slice());
     joined
+}
+
+/// Puts a queue at a path, and takes out what waits at another.
+fn put_and_take<A: Allocator + Copy>(
+    queues: &mut QueueMap<A>,
+    fronts: &mut Fronts<A>,
+    from: &PathBuf<A>,
+    to: PathBuf<A>,
+    queue: Queue<A>,
+) -> Result<(), AllocError>
+    requires filled { is_some (front_time queue) ≡ true }
+    requires indexed { IsIndexed fronts.old queues.old.entries }
+    ensures ok { OnOk result (queues.new.entries ≡ without_queue (with_queue queues.old.entries to queue) from.now) }
+    ensures err { OnErr result (queues.new.entries ≡ queues.old.entries) }
+    ensures indexed { IsIndexed fronts.new queues.new.entries }
+{
+    let Some(time) = queue.front_time() else {
+        return Err(AllocError);
+    };
+    put(queues, fronts, to, time, queue)?;
+    take_out(queues, fronts, from);
+    Ok(())
+}
+
+/// The joined rename at its two paths. Mostly nothing stays at the source, and then it just goes, once the
+/// target has its queue.
+fn join_two<A: Allocator + Copy>(
+    queues: &mut QueueMap<A>,
+    fronts: &mut Fronts<A>,
+    spare: &mut PathBuf<A>,
+    alloc: A,
+    rename: Rename<'_, A>,
+) -> Result<(), AllocError>
+    requires map { IsQueueMap queues.old.entries }
+    requires indexed { IsIndexed fronts.old queues.old.entries }
+    ensures ok { OnOk result (queues.new.entries ≡ halves_by queues.old.entries rename.entry) }
+    ensures err { OnErr result (queues.new.entries ≡ queues.old.entries) }
+    ensures indexed { IsIndexed fronts.new queues.new.entries }
+{
+    if *rename.from == *rename.to {
+        return join_by_pairs(queues, fronts, spare, alloc, rename);
+    }
+    let source = source_at(queues, rename.from);
+    if source.staying_time().is_some() {
+        return join_by_pairs(queues, fronts, spare, alloc, rename);
+    }
+    let from = rename.from;
+    let to = new_key(spare, rename.to)?;
+    let queue = arrived(alloc, &source, target_at(queues, rename.to), rename)?;
+    put_and_take(queues, fronts, from, to, queue)
 }
 
 /// The joined rename with what goes along, after the index got these pairs.

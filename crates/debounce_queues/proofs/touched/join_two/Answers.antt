@@ -1,9 +1,43 @@
-use Rattle.debounce_queues.proofs.TouchedFronts.{index_follows, halves_told, kept_halves}
+-- Nothing stays at the source: the target gets its queue, and the source goes.
+use Rattle.std.proofs.Common.{◌≡◌, ◌∙◌, ap, sym, refl, false, is_some, None}
+use Rattle.std.specs.Option.{option_map}
+use Rattle.std.proofs.lemmas.Result.{on_ok_weaker}
+use Rattle.notify_types.specs.Event.{Timed}
+use Rattle.notify_paths.specs.Path.{path_eq}
+use Rattle.debounce_model.specs.Queues.{queue_at, with_queue, without_queue}
+use Rattle.debounce_model.specs.Rename.{arrived, staying, without_both}
+use Rattle.debounce_model.specs.MapSteps.{before_half}
+use Rattle.debounce_model.proofs.RenameLemmas.{events_law}
+use Rattle.debounce_queues.proofs.AwayLemmas.{away, arrived_front, none_of}
 use Rattle.debounce_queues.proofs.touched.join_two.Goals as goal
 
-pub returns-clause-indexed : goal.returns-clause-indexed
-returns-clause-indexed g c =
-    let m = c.args.queues.now.entries in
+pub source_at-source-requires : goal.source_at-source-requires
+source_at-source-requires g c = (events_law c.args.queues.now.entries c.args.rename.from.now c.requires.map.kept).1
+
+pub put_and_take-requires-clause-filled : goal.put_and_take-requires-clause-filled
+put_and_take-requires-clause-filled g c =
+    let queues = c.args.queues.now.entries in
     let r = c.args.rename in
-    let j = c.insert_and_join_two-joined in
-    index_follows j.result c.args.fronts.now j.new.fronts c.settle.new.fronts c.as_slice.result.now m j.new.queues.entries _ c.requires.indexed c.requires.map.kept (kept_halves m r.from.now r.to.now r.time r.attrs c.requires.map) j.ensures.ok j.ensures.err (rw c.as_slice.ensures.value j.ensures.put) j.ensures.grown (rw c.as_slice.ensures.value j.ensures.others) (rw (c.as_slice.ensures.value, c.in_ok-pairs.ensures.pairs) (halves_told m r.from.now r.to.now r.time r.attrs c.requires.map.ordered)) c.settle.ensures
+    let f = r.from.now in
+    let t = r.to.now in
+    let s = c.source_at-source.ensures in
+    let arrives : c.in_ok-queue.queue ≡ arrived (before_half queues f) (queue_at queues t) f t r.time r.attrs =
+    c.in_ok-queue.ensures (queue_at queues t) c.target_at.ensures ∙ rw (s.earlier, s.moving) refl in
+    rw arrives (arrived_front (before_half queues f) (queue_at queues t) f t r.time r.attrs)
+
+pub returns-clause-ok : goal.returns-clause-ok
+returns-clause-ok g c =
+    let queues = c.args.queues.now.entries in
+    let r = c.args.rename in
+    let f = r.from.now in
+    let t = r.to.now in
+    let v = c.in_ok-queue.queue in
+    let s = c.source_at-source.ensures in
+    let other : path_eq f t ≡ false = sym c.eq.ensures.value ∙ c.if-eq.false in
+    let no : is_some (option_map (λ (x : Timed). x.time) (staying (without_both (before_half queues f)))) ≡ false = rw (c.staying_time.ensures, s.stays) at (sym c.is_some.ensures ∙ c.if-is_some.false) in
+    let none : staying (without_both (before_half queues f)) ≡ None = none_of _ no in
+    let arrives : v ≡ arrived (before_half queues f) (queue_at queues t) f t r.time r.attrs =
+    c.in_ok-queue.ensures (queue_at queues t) c.target_at.ensures ∙ rw (s.earlier, s.moving) refl in
+    on_ok_weaker c.put_and_take.result
+    (λ e. away queues (with_queue queues t v) c.put_and_take.new.queues.entries f t r.time r.attrs v c.requires.map.ordered other none arrives refl (e ∙ ap (λ k. without_queue (with_queue queues k v) f) c.in_ok-to.ensures))
+    c.put_and_take.ensures.ok
