@@ -8,7 +8,7 @@ use Rattle.notify_types.specs.declared.kind.EventKind.{EventKind}
 use Rattle.debounce_model.specs.declared.file_id.FileId.{FileId}
 use Rattle.debounce_model.specs.Cache.{Rules}
 use Rattle.debounce_model.specs.Command.{CommandValue, EventCommand, ReplyValue, TakenReply, BatchReply}
-use Rattle.debounce_model.specs.Kept.{tells_rename, has_rename, takes_away, is_among, is_waiting, is_handed_out, is_change_kept, is_kept_at, tells_change, is_event_kept, is_kept}
+use Rattle.debounce_model.specs.Kept.{tells_rename, has_rename, takes_away, is_among, is_waiting, is_emitted, is_change_kept, is_kept_at, tells_change, is_event_kept, is_kept}
 use Rattle.debounce_model.specs.Play.{accepted}
 use Rattle.debounce_model.specs.Run.{Step, Run}
 use Rattle.debounce_model.specs.State.{Core, waiting}
@@ -27,13 +27,13 @@ any-accepted : (f : EventValue → Bool) (c : CommandValue) (y : ReplyValue) (cs
 any-accepted f c y cs ys = ap (list_any f) (accepted-cons c y cs ys) ∙ list_any-append f (accepted (c ∷ []) (y ∷ [])) (accepted cs ys)
 
 -- what was handed out, by the first reply and by the others
-handed-cons : (path : PathValue) (kind : EventKind) (y : ReplyValue) (ys : List ReplyValue) → is_handed_out path kind (y ∷ ys) ≡ (is_handed_out path kind (y ∷ []) || is_handed_out path kind ys)
-handed-cons path kind (BatchReply batch) ys = by (is_among path kind batch)
+emitted-cons : (path : PathValue) (kind : EventKind) (y : ReplyValue) (ys : List ReplyValue) → is_emitted path kind (y ∷ ys) ≡ (is_emitted path kind (y ∷ []) || is_emitted path kind ys)
+emitted-cons path kind (BatchReply batch) ys = by (is_among path kind batch)
   where
-    by : (b : Bool) → (b || is_handed_out path kind ys) ≡ ((b || false) || is_handed_out path kind ys)
+    by : (b : Bool) → (b || is_emitted path kind ys) ≡ ((b || false) || is_emitted path kind ys)
     by true = refl
     by false = refl
-handed-cons path kind y ys = refl
+emitted-cons path kind y ys = refl
 
 -- no rename was accepted, of the first command and of the others
 calm_parts : (c : CommandValue) (y : ReplyValue) (cs : List CommandValue) (ys : List ReplyValue) → has_rename (c ∷ cs) (y ∷ ys) ≡ false → (list_any tells_rename (accepted (c ∷ []) (y ∷ [])) ≡ false) × (has_rename cs ys ≡ false)
@@ -66,7 +66,7 @@ carried r path kind s t (c ∷ cs) (y ∷ ys) (m, step, more) told calm h =
     let effect = step_effect r s m c y step parts.0 in
     let first = found_after path kind c y s.state.queues m.state.queues effect told h in
     let then = carried r path kind m t cs ys more (told_after c y s.state.queues m.state.queues effect told) parts.1 in
-    rw (any-accepted (takes_away path) c y cs ys, handed-cons path kind y ys) (kept_on (list_any (takes_away path) (accepted (c ∷ []) (y ∷ []))) (list_any (takes_away path) (accepted cs ys)) (is_waiting path kind m.state) (is_waiting path kind t.state) (is_handed_out path kind (y ∷ [])) (is_handed_out path kind ys) first then)
+    rw (any-accepted (takes_away path) c y cs ys, emitted-cons path kind y ys) (kept_on (list_any (takes_away path) (accepted (c ∷ []) (y ∷ []))) (list_any (takes_away path) (accepted cs ys)) (is_waiting path kind m.state) (is_waiting path kind t.state) (is_emitted path kind (y ∷ [])) (is_emitted path kind ys) first then)
 
 -- ---- whole runs
 

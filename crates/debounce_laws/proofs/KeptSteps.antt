@@ -16,7 +16,7 @@ use Rattle.debounce_model.specs.declared.file_id.FileId.{FileId}
 use Rattle.debounce_model.specs.Cache.{Rules}
 use Rattle.debounce_model.specs.Command.{CommandValue, EventCommand, ErrorCommand, RootCommand, UnrootCommand, ErrorsCommand, TickCommand, ReplyValue, TakenReply, NotedReply, RootedReply, UnrootedReply, ErrorsReply, BatchReply, RefusedReply}
 use Rattle.debounce_model.specs.Due.{place_list, rests}
-use Rattle.debounce_model.specs.Kept.{has_first, tells_rename, takes_away, stands_for, is_among, is_handed_out, tells_change}
+use Rattle.debounce_model.specs.Kept.{has_first, tells_rename, takes_away, stands_for, is_among, is_emitted, tells_change}
 use Rattle.debounce_model.specs.Play.{accepted}
 use Rattle.debounce_model.specs.Queues.{Queues, push, removal, events_at}
 use Rattle.debounce_model.specs.Run.{Step}
@@ -37,7 +37,7 @@ pub data Effect (command : CommandValue) (reply : ReplyValue) (before after : Qu
   Stays : after ≡ before → Effect command reply before after
   Pushed : (p : PathValue) → (x : Timed) → IsTold p x → after ≡ push before p x → Effect command reply before after
   Removed : (p : PathValue) → (x : Timed) → IsTold p x → is_removal x.event.kind ≡ true → accepted (command ∷ []) (reply ∷ []) ≡ x.event ∷ [] → after ≡ removal before p x → Effect command reply before after
-  Rested : (due : Timed → Bool) → ((path : PathValue) (kind : EventKind) → is_among path kind (place_list due before) ≡ true → is_handed_out path kind (reply ∷ []) ≡ true) → after ≡ rests due before → Effect command reply before after
+  Rested : (due : Timed → Bool) → ((path : PathValue) (kind : EventKind) → is_among path kind (place_list due before) ≡ true → is_emitted path kind (reply ∷ []) ≡ true) → after ≡ rests due before → Effect command reply before after
 
 -- ---- an event
 
@@ -128,8 +128,8 @@ refused_stays r s t event exists MemoryKind h = ap (λ k. k.state.queues) h.2
 refused_stays r s t event exists kind h = absurd h
 
 -- what is handed out of the queues is in the batch
-handed_in_batch : (s : State) (now : ℕ) (batch : List Timed) (path : PathValue) (kind : EventKind) → IsBatch s now batch → is_among path kind (place_list (is_expired_in s now) s.queues) ≡ true → is_handed_out path kind (BatchReply batch ∷ []) ≡ true
-handed_in_batch s now batch path kind b h =
+emitted_in_batch : (s : State) (now : ℕ) (batch : List Timed) (path : PathValue) (kind : EventKind) → IsBatch s now batch → is_among path kind (place_list (is_expired_in s now) s.queues) ≡ true → is_emitted path kind (BatchReply batch ∷ []) ≡ true
+emitted_in_batch s now batch path kind b h =
     let among : list_any f batch ≡ true = sym (any-batch f (places due s) batch b) ∙ list_any-append f (due_of due s.rescan_slot) (place_list due s.queues) ∙ rw h (or_true (list_any f (due_of due s.rescan_slot))) in
     rw among refl
   where
@@ -151,7 +151,7 @@ step_effect r s t (RootCommand path mode) (RefusedReply error) h n = Stays (ap (
 step_effect r s t (UnrootCommand path) UnrootedReply h n = Stays (ap (λ k. k.state.queues) h.0)
 step_effect r s t (UnrootCommand path) (RefusedReply error) h n = Stays (ap (λ k. k.state.queues) h.2.0)
 step_effect r s t ErrorsCommand (ErrorsReply errors) h n = Stays (ap (λ k. k.state.queues) h.1)
-step_effect r s t (TickCommand now) (BatchReply batch) h n = Rested (is_expired_in s.state now) (λ path kind. handed_in_batch s.state now batch path kind h.0) (ap (λ k. k.state.queues) h.1)
+step_effect r s t (TickCommand now) (BatchReply batch) h n = Rested (is_expired_in s.state now) (λ path kind. emitted_in_batch s.state now batch path kind h.0) (ap (λ k. k.state.queues) h.1)
 step_effect r s t (TickCommand now) (RefusedReply error) h n = Stays (ap (λ k. k.state.queues) h.2)
 step_effect r s t command reply h n = absurd h
 
@@ -171,16 +171,16 @@ first_prefix p path [] i h = h
 first_prefix p path (q ∷ qs) i h = rw ((path_eq_decides q p).0 h) i
 
 -- what stands for a change at a path stays there, or is handed out, unless a removal takes the path away
-pub found_after : (path : PathValue) (kind : EventKind) (command : CommandValue) (reply : ReplyValue) (before after : Queues) → Effect command reply before after → AreAllTold before → list_any (stands_for kind) (events_at before path) ≡ true → (list_any (takes_away path) (accepted (command ∷ []) (reply ∷ [])) || (list_any (stands_for kind) (events_at after path) || is_handed_out path kind (reply ∷ []))) ≡ true
+pub found_after : (path : PathValue) (kind : EventKind) (command : CommandValue) (reply : ReplyValue) (before after : Queues) → Effect command reply before after → AreAllTold before → list_any (stands_for kind) (events_at before path) ≡ true → (list_any (takes_away path) (accepted (command ∷ []) (reply ∷ [])) || (list_any (stands_for kind) (events_at after path) || is_emitted path kind (reply ∷ []))) ≡ true
 found_after path kind command reply before after (Stays e) t h = rw (e, h) (or_true _)
 found_after path kind command reply before after (Pushed p x l e) t h = rw (e, found-push (stands_for kind) path before p x h) (or_true _)
 found_after path kind command reply before after (Removed p x l k a e) t h = by (is_prefix p path) refl
   where
-    by : (b : Bool) → is_prefix p path ≡ b → (list_any (takes_away path) (accepted (command ∷ []) (reply ∷ [])) || (list_any (stands_for kind) (events_at after path) || is_handed_out path kind (reply ∷ []))) ≡ true
+    by : (b : Bool) → is_prefix p path ≡ b → (list_any (takes_away path) (accepted (command ∷ []) (reply ∷ [])) || (list_any (stands_for kind) (events_at after path) || is_emitted path kind (reply ∷ []))) ≡ true
     by true i = rw (a, l.unflagged, k, first_prefix p path x.event.paths i l.first) refl
     by false i = rw (e, found-removal (stands_for kind) path before p x i h) (or_true _)
 found_after path kind command reply before after (Rested due handed e) t h = by (list_any (stands_for kind) (events_at (rests due before) path)) refl (found-rests due before path kind t h)
   where
-    by : (b : Bool) → list_any (stands_for kind) (events_at (rests due before) path) ≡ b → (b || is_among path kind (place_list due before)) ≡ true → (list_any (takes_away path) (accepted (command ∷ []) (reply ∷ [])) || (list_any (stands_for kind) (events_at after path) || is_handed_out path kind (reply ∷ []))) ≡ true
+    by : (b : Bool) → list_any (stands_for kind) (events_at (rests due before) path) ≡ b → (b || is_among path kind (place_list due before)) ≡ true → (list_any (takes_away path) (accepted (command ∷ []) (reply ∷ [])) || (list_any (stands_for kind) (events_at after path) || is_emitted path kind (reply ∷ []))) ≡ true
     by true i g = rw (e, i) (or_true _)
     by false i g = rw (e, i, handed path kind g) (or_true _)

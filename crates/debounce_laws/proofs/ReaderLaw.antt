@@ -11,7 +11,7 @@ use Rattle.notify_paths.specs.PathLaws.{path_cmp_total}
 use Rattle.debounce_model.specs.Cache.{Rules}
 use Rattle.debounce_model.specs.Command.{CommandValue, ReplyValue, BatchReply}
 use Rattle.debounce_model.specs.Honest.{is_closed, is_honest_event, are_honest}
-use Rattle.debounce_model.specs.PathsLaw.{handed_out, read_paths, LeavesRawPaths}
+use Rattle.debounce_model.specs.PathsLaw.{emitted, read_paths, LeavesRawPaths}
 use Rattle.debounce_model.specs.Play.{Paths, has_path, play, play_one, events_of, accepted, raw_paths}
 use Rattle.debounce_model.specs.Queues.{Queues, waiting_in}
 use Rattle.debounce_model.specs.Run.{Run}
@@ -55,27 +55,27 @@ honest_parts raw (e ∷ es) fs h =
     (rw (two.0, more.0) refl, more.1)
 
 -- what was handed out, by the first reply and by the others
-handed-cons : (y : ReplyValue) (ys : List ReplyValue) → handed_out (y ∷ ys) ≡ handed_out (y ∷ []) ++ handed_out ys
-handed-cons (BatchReply batch) ys = ap (λ l. l ++ handed_out ys) (sym (append-nil batch))
-handed-cons y ys = refl
+emitted-cons : (y : ReplyValue) (ys : List ReplyValue) → emitted (y ∷ ys) ≡ emitted (y ∷ []) ++ emitted ys
+emitted-cons (BatchReply batch) ys = ap (λ l. l ++ emitted ys) (sym (append-nil batch))
+emitted-cons y ys = refl
 
 -- .. played by the first and by the others
-play-handed : (s : Paths) (y : ReplyValue) (ys : List ReplyValue) → play (play s (events_of (handed_out (y ∷ [])))) (events_of (handed_out ys)) ≡ play s (events_of (handed_out (y ∷ ys)))
-play-handed s y ys =
-    sym (play-append s (events_of (handed_out (y ∷ []))) (events_of (handed_out ys)))
-    ∙ ap (play s) (sym (events-append (handed_out (y ∷ [])) (handed_out ys)) ∙ ap events_of (sym (handed-cons y ys)))
+play-emitted : (s : Paths) (y : ReplyValue) (ys : List ReplyValue) → play (play s (events_of (emitted (y ∷ [])))) (events_of (emitted ys)) ≡ play s (events_of (emitted (y ∷ ys)))
+play-emitted s y ys =
+    sym (play-append s (events_of (emitted (y ∷ []))) (events_of (emitted ys)))
+    ∙ ap (play s) (sym (events-append (emitted (y ∷ [])) (emitted ys)) ∙ ap events_of (sym (emitted-cons y ys)))
 
 -- a run keeps the balance
-balanced_run : {C : Type 0} (r : Rules C) (s t : Core C) (cs : List CommandValue) (ys : List ReplyValue) (reader raw : Paths) → Run r s cs ys t → are_honest raw (accepted cs ys) ≡ true → IsBalancedIn s.state reader raw → IsBalancedIn t.state (play reader (events_of (handed_out ys))) (play raw (accepted cs ys))
+balanced_run : {C : Type 0} (r : Rules C) (s t : Core C) (cs : List CommandValue) (ys : List ReplyValue) (reader raw : Paths) → Run r s cs ys t → are_honest raw (accepted cs ys) ≡ true → IsBalancedIn s.state reader raw → IsBalancedIn t.state (play reader (events_of (emitted ys))) (play raw (accepted cs ys))
 balanced_run {C = C} r s t [] [] reader raw run h b = subst (λ (k : Core C). IsBalancedIn k.state reader raw) (sym run) b
 balanced_run r s t [] (y ∷ ys) reader raw run h b = absurd run
 balanced_run r s t (c ∷ cs) [] reader raw run h b = absurd run
 balanced_run r s t (c ∷ cs) (y ∷ ys) reader raw (m, step, more) h b =
     let parts = honest_parts raw (accepted (c ∷ []) (y ∷ [])) (accepted cs ys) (sym (ap (are_honest raw) (accepted-cons c y cs ys)) ∙ h) in
     let first = balanced_step r s m c y reader raw step parts.0 b in
-    let rest = balanced_run r m t cs ys (play reader (events_of (handed_out (y ∷ [])))) (play raw (accepted (c ∷ []) (y ∷ []))) more parts.1 first in
-    subst (λ d. IsBalancedIn t.state d (play raw (accepted (c ∷ cs) (y ∷ ys)))) (play-handed reader y ys)
-    (subst (λ w. IsBalancedIn t.state (play (play reader (events_of (handed_out (y ∷ [])))) (events_of (handed_out ys))) w)
+    let rest = balanced_run r m t cs ys (play reader (events_of (emitted (y ∷ [])))) (play raw (accepted (c ∷ []) (y ∷ []))) more parts.1 first in
+    subst (λ d. IsBalancedIn t.state d (play raw (accepted (c ∷ cs) (y ∷ ys)))) (play-emitted reader y ys)
+    (subst (λ w. IsBalancedIn t.state (play (play reader (events_of (emitted (y ∷ [])))) (events_of (emitted ys))) w)
     (sym (play-append raw (accepted (c ∷ []) (y ∷ [])) (accepted cs ys)) ∙ ap (play raw) (sym (accepted-cons c y cs ys))) rest)
 
 -- ---- the opening
@@ -113,10 +113,10 @@ balanced_opening s paths queues slot closed =
 -- the outlook
 pub raw_paths_from_nothing : {C : Type 0} (r : Rules C) (s t : Core C) (commands : List CommandValue) (replies : List ReplyValue) → s.state.queues ≡ [] → s.state.rescan_slot ≡ None → Run r s commands replies t → LeavesRawPaths commands replies t.state
 raw_paths_from_nothing r s t commands replies queues slot run = λ paths outlook ordered honest o.
-    let reader = play paths (events_of (handed_out replies)) in
+    let reader = play paths (events_of (emitted replies)) in
     let b = balanced_run r s t commands replies paths paths run honest.events (balanced_opening s.state paths queues slot honest.closed) in
     same_sets (read_paths paths replies outlook) (raw_paths paths commands replies)
-    (sorted_play reader (events_of outlook) (sorted_play paths (events_of (handed_out replies)) ordered))
+    (sorted_play reader (events_of outlook) (sorted_play paths (events_of (emitted replies)) ordered))
     (sorted_play paths (accepted commands replies) ordered)
     (outlook_shown t.state outlook reader (raw_paths paths commands replies) b o)
 

@@ -12,7 +12,7 @@ use Rattle.debounce_model.specs.Cache.{Rules}
 use Rattle.debounce_model.specs.Command.{CommandValue, EventCommand, ErrorCommand, RootCommand, UnrootCommand, ErrorsCommand, TickCommand, ReplyValue, TakenReply, NotedReply, RootedReply, UnrootedReply, ErrorsReply, BatchReply, RefusedReply}
 use Rattle.debounce_model.specs.Honest.{has_folders, is_honest_at, is_honest_with, is_honest_event, are_honest}
 use Rattle.debounce_model.specs.Kept.{tells_rename}
-use Rattle.debounce_model.specs.PathsLaw.{handed_out}
+use Rattle.debounce_model.specs.PathsLaw.{emitted}
 use Rattle.debounce_model.specs.Play.{Paths, has_path, with_path, without_at, play, play_first, play_one, events_of, accepted}
 use Rattle.debounce_model.specs.Queues.{push, removal}
 use Rattle.debounce_model.specs.Run.{Step}
@@ -111,7 +111,7 @@ balanced_refused r s t event exists MemoryKind reader raw h b = balanced_as s t 
 balanced_refused r s t event exists kind reader raw h b = absurd h
 
 -- each command keeps the balance of what was played so far
-pub balanced_step : {C : Type 0} (r : Rules C) (s t : Core C) (command : CommandValue) (reply : ReplyValue) (reader raw : Paths) → Step r s command reply t → are_honest raw (accepted (command ∷ []) (reply ∷ [])) ≡ true → IsBalancedIn s.state reader raw → IsBalancedIn t.state (play reader (events_of (handed_out (reply ∷ [])))) (play raw (accepted (command ∷ []) (reply ∷ [])))
+pub balanced_step : {C : Type 0} (r : Rules C) (s t : Core C) (command : CommandValue) (reply : ReplyValue) (reader raw : Paths) → Step r s command reply t → are_honest raw (accepted (command ∷ []) (reply ∷ [])) ≡ true → IsBalancedIn s.state reader raw → IsBalancedIn t.state (play reader (events_of (emitted (reply ∷ [])))) (play raw (accepted (command ∷ []) (reply ∷ [])))
 balanced_step r s t (EventCommand event now exists) (TakenReply answer) reader raw h n b =
     subst (λ k. IsBalancedIn k reader (play_one raw event)) (sym h.0.state) (balanced_event s.state event now exists t.answer reader raw b (and_parts (is_honest_event raw event) true n).0)
 balanced_step r s t (EventCommand event now exists) (RefusedReply error) reader raw h n b = balanced_refused r s t event exists error.kind reader raw h.1 b

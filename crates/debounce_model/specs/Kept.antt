@@ -45,16 +45,16 @@ abbrev pub is_among : PathValue → EventKind → List Timed → Bool
 is_among path kind batch = list_any (λ x. has_first (λ p. path_eq p path) x.event.paths && stands_for kind x) batch
 
 -- such an event is in some batch of these replies
-abbrev pub is_handed_out : PathValue → EventKind → List ReplyValue → Bool
-is_handed_out path kind [] = false
-is_handed_out path kind (BatchReply batch ∷ replies) = is_among path kind batch || is_handed_out path kind replies
-is_handed_out path kind (reply ∷ replies) = is_handed_out path kind replies
+abbrev pub is_emitted : PathValue → EventKind → List ReplyValue → Bool
+is_emitted path kind [] = false
+is_emitted path kind (BatchReply batch ∷ replies) = is_among path kind batch || is_emitted path kind replies
+is_emitted path kind (reply ∷ replies) = is_emitted path kind replies
 
 -- a change of this kind at this path is kept by the later commands and their replies: it is found again, unless a
 -- removal took the path away
 abbrev pub is_change_kept : PathValue → EventKind → List CommandValue → List ReplyValue → State → Bool
 is_change_kept path kind commands replies s =
-    list_any (takes_away path) (accepted commands replies) || (is_waiting path kind s || is_handed_out path kind replies)
+    list_any (takes_away path) (accepted commands replies) || (is_waiting path kind s || is_emitted path kind replies)
 
 -- a change at the first of these paths, if there is one, is kept
 abbrev pub is_kept_at : List PathValue → EventKind → List CommandValue → List ReplyValue → State → Bool

@@ -10,14 +10,14 @@ use Rattle.debounce_model.specs.State.{State}
 use Rattle.debounce_model.specs.Tick.{IsOutlook}
 
 -- what was emitted: the batches, in a row
-abbrev pub handed_out : List ReplyValue → List Timed
-handed_out [] = []
-handed_out (BatchReply batch ∷ replies) = batch ++ handed_out replies
-handed_out (reply ∷ replies) = handed_out replies
+abbrev pub emitted : List ReplyValue → List Timed
+emitted [] = []
+emitted (BatchReply batch ∷ replies) = batch ++ emitted replies
+emitted (reply ∷ replies) = emitted replies
 
 -- what a reader has who began with these paths and played what was emitted, and then the outlook
 abbrev pub read_paths : Paths → List ReplyValue → List Timed → Paths
-read_paths paths replies outlook = play (play paths (events_of (handed_out replies))) (events_of outlook)
+read_paths paths replies outlook = play (play paths (events_of (emitted replies))) (events_of outlook)
 
 -- from each set of paths from which the stream is honest, a reader has the raw paths: after the outlook of this
 -- final state, whatever the clock did

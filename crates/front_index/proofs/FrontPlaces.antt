@@ -1,4 +1,4 @@
--- What is handed out by the paths that are due is what is handed out of all queues.
+-- What is emitted_at out by the paths that are due is what is emitted_at out of all queues.
 use Rattle.std.proofs.Common.{◌≡◌, Bool, true, false, cond, ◌||◌, refl, ap, sym, ◌∙◌, Option, Some, None, List, [], ◌∷◌, ◌++◌, is_some}
 use Rattle.std.specs.Prelude.{filter}
 use Rattle.std.specs.Ordering.{is_eq, ordering_reverse}
@@ -23,7 +23,7 @@ use Rattle.debounce_model.specs.Due.{is_front_due, expired_beginning, last_of_ki
 use Rattle.debounce_model.proofs.Entries.{sorted-filter}
 use Rattle.event_queue.specs.declared.due.Due.{Due}
 use Rattle.event_queue.specs.Due.{is_due}
-use Rattle.front_index.specs.Steps.{is_due_front, handed_of, handed}
+use Rattle.front_index.specs.Steps.{is_due_front, emitted_of, emitted_at}
 use Rattle.front_index.proofs.FrontTicks.{all_found}
 
 -- the queues that are due
@@ -51,19 +51,19 @@ none_handed due [] h = refl
 none_handed due (x ∷ q) h = rw h refl
 
 -- those that are due hand out all
-due_hand : (due : Due) (queues es : Queues) → AllByRecursion (λ e. queue_at queues e.0 ≡ Some e.1) es → handed due queues (keys_of (due_of due es)) ≡ place_list (is_due due) es
+due_hand : (due : Due) (queues es : Queues) → AllByRecursion (λ e. queue_at queues e.0 ≡ Some e.1) es → emitted_at due queues (keys_of (due_of due es)) ≡ place_list (is_due due) es
 due_hand due queues [] f = refl
 due_hand due queues (e ∷ es) f = by (is_front_due (is_due due) e.1) refl (due_hand due queues es f.1)
   where
-    by : (b : Bool) → is_front_due (is_due due) e.1 ≡ b → handed due queues (keys_of (due_of due es)) ≡ place_list (is_due due) es → handed due queues (keys_of (cond b (e ∷ due_of due es) (due_of due es))) ≡ last_of_kind (expired_beginning (is_due due) e.1) ++ place_list (is_due due) es
-    by true d more = ap (λ o. handed_of due o ++ handed due queues (keys_of (due_of due es))) f.0 ∙ ap (λ r. last_of_kind (expired_beginning (is_due due) e.1) ++ r) more
+    by : (b : Bool) → is_front_due (is_due due) e.1 ≡ b → emitted_at due queues (keys_of (due_of due es)) ≡ place_list (is_due due) es → emitted_at due queues (keys_of (cond b (e ∷ due_of due es) (due_of due es))) ≡ last_of_kind (expired_beginning (is_due due) e.1) ++ place_list (is_due due) es
+    by true d more = ap (λ o. emitted_of due o ++ emitted_at due queues (keys_of (due_of due es))) f.0 ∙ ap (λ r. last_of_kind (expired_beginning (is_due due) e.1) ++ r) more
     by false d more = more ∙ ap (λ r. r ++ place_list (is_due due) es) (sym (none_handed (is_due due) e.1 d))
 
 -- the paths that are due, in order, hand out what all queues do
-pub handed-all : (due : Due) (paths : BTreeSet PathValue) (queues : Queues) → IsStrictlySortedBy path_cmp paths.keys → IsStrictlySortedBy path_cmp (keys_of queues) → ((p : PathValue) → contains path_cmp paths p ≡ is_due_front due (queue_at queues p)) → handed due queues paths.keys ≡ place_list (is_due due) queues
-handed-all due paths queues s t h =
+pub emitted-all : (due : Due) (paths : BTreeSet PathValue) (queues : Queues) → IsStrictlySortedBy path_cmp paths.keys → IsStrictlySortedBy path_cmp (keys_of queues) → ((p : PathValue) → contains path_cmp paths p ≡ is_due_front due (queue_at queues p)) → emitted_at due queues paths.keys ≡ place_list (is_due due) queues
+emitted-all due paths queues s t h =
     let same : paths.keys ≡ keys_of (due_of due queues) = btree_set_from_contains path_cmp_total paths (record { keys = keys_of (due_of due queues) }) s (sorted-filter path_cmp_total (λ e. is_front_due (is_due due) e.1) queues t) (λ p. h p ∙ sym (due_found due queues t p)) same_path in
-    ap (handed due queues) same ∙ due_hand due queues queues (all_found path_cmp_total queues t)
+    ap (emitted_at due queues) same ∙ due_hand due queues queues (all_found path_cmp_total queues t)
 
 -- one more path
 pub path_step : (paths next : BTreeSet PathValue) (key path p : PathValue) → key ≡ path → ((q : PathValue) → contains path_cmp next q ≡ cond (is_at (path_cmp key) q) true (contains path_cmp paths q)) → contains path_cmp next p ≡ (contains path_cmp paths p || is_at (path_cmp p) path)

@@ -34,13 +34,13 @@ abbrev pub is_due_pair : Due → PathValue → ℕ × PathValue → Bool
 is_due_pair due p k = is_due_at due k.0 && is_at (path_cmp p) k.1
 
 -- what is emitted of a queue, if there is one
-abbrev pub handed_of : Due → Option (List Timed) → List Timed
-handed_of due None = []
-handed_of due (Some events) = last_of_kind (expired_beginning (is_due due) events)
+abbrev pub emitted_of : Due → Option (List Timed) → List Timed
+emitted_of due None = []
+emitted_of due (Some events) = last_of_kind (expired_beginning (is_due due) events)
 
 -- .. of the queues of these paths
-abbrev pub handed : Due → Queues → List PathValue → List Timed
-handed due queues paths = flat_map (λ p. handed_of due (queue_at queues p)) paths
+abbrev pub emitted_at : Due → Queues → List PathValue → List Timed
+emitted_at due queues paths = flat_map (λ p. emitted_of due (queue_at queues p)) paths
 
 -- the pair is that of t and p
 abbrev pub is_pair : ℕ × PathValue → ℕ → PathValue → Bool

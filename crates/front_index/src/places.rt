@@ -7,7 +7,7 @@ ghost use Rattle.debounce_model.specs.Due.{place_list};
 ghost use Rattle.debounce_model.specs.Queues.{queue_at};
 ghost use Rattle.event_queue.specs.Due.{is_due};
 ghost use Rattle.front_index.specs.Fronts.{IsIndexed};
-ghost use Rattle.front_index.specs.Steps.{AreDuePaths, handed_of, is_due_front};
+ghost use Rattle.front_index.specs.Steps.{AreDuePaths, emitted_of, is_due_front};
 
 use crate::fronts::{Fronts, QueueMap};
 use crate::whole::{add_all_places, is_last_due};
@@ -45,7 +45,7 @@ fn add_due<A: Allocator + Copy>(
     path: &PathBuf<A>,
     due: Due,
 ) -> Result<(), AllocError>
-    ensures { OnOk result (places.new.items ≡ places.old.items ++ handed_of due (queue_at map.now.entries path.now)) }
+    ensures { OnOk result (places.new.items ≡ places.old.items ++ emitted_of due (queue_at map.now.entries path.now)) }
 {
     match map.get(path) {
         None => Ok(()),
