@@ -59,6 +59,29 @@ report 'a full device' "$([ $? = 6 ] && [ ! -s err ] && echo yes)"
 (ulimit -v 150000 && exec "$program" long) >out 2>err
 report 'no memory' "$([ $? = 4 ] && [ ! -s out ] && [ "$(cat err)" = 'mirror: out of memory' ] && echo yes)"
 
+# A folder in which files come while it is watched: each is reported, but for names that aren't UTF-8.
+mkdir watched
+for number in $(seq 40); do
+    : >"watched/file$number" && : >$'watched/\xff'"$number" && sleep 0.1
+done &
+"$program" --watch watched 20 >out 2>err
+status=$?
+wait
+created='^event [0-9]+ Create\(File\) - watched/file[0-9]+$'
+report 'a folder is watched' "$([ $status = 0 ] && [ ! -s err ] && grep -qE "$created" out &&
+    [ "$(grep -vE "$created" out)" = 'missed 0' ] && echo yes)"
+(ulimit -S -s 1000000 && ulimit -v 500000 && exec "$program" --watch watched 1) >out 2>err
+report 'no thread' "$([ $? = 8 ] && [ ! -s out ] && [ "$(cat err)" = 'mirror: cannot start a thread' ] && echo yes)"
+
+# A tree whose listing takes 38 MB, twice while it is merged, watched with 60 MB.
+name=$(printf '%0180d' 0)
+tree=tree
+for _ in $(seq 20); do tree=$tree/$name; done
+mkdir -p "$tree"
+(cd "$tree" && seq -f '%0180.0f' 10000 | xargs touch)
+(ulimit -S -s 1000 && ulimit -v 60000 && exec "$program" --watch tree 1) >out 2>err
+report 'no memory for a listing' "$([ $? = 4 ] && [ ! -s out ] && [ "$(cat err)" = 'mirror: out of memory' ] && echo yes)"
+
 # A tick of 70,000 due events: more than 64 KiB of output, and more events than 16 bits count.
 (echo timeout 50; seq -f 'event 0 Create(File) - /%05.0f' 70000; echo tick 100) >great
 (

@@ -60,7 +60,7 @@ module _ {C : Type 0} where
   Ticks r old now (Ok batch) new = IsDone r old 0 (TickCommand now) (BatchReply batch.items) new
   Ticks r old now (Err error) new = IsNotDone r old (TickCommand now) error new
 
-  -- the errors are handed out; or there was no memory for their entry, none is handed out, and they are kept
+  -- the errors are emitted; or there was no memory for their entry, none is emitted, and they are kept
   abbrev pub GivesErrors : Rules C → Kept C → List ErrorValue → Kept C → Type 0
   GivesErrors r old errors new =
       IsDone r old 0 ErrorsCommand (ErrorsReply errors) new ⊎ ((errors ≡ []) × IsUnwritten old ErrorsCommand out_of_memory new)

@@ -79,7 +79,7 @@ impl<C, A: Allocator + Copy> Book<C, A> {
         self.journal.is_some()
     }
 
-    /// The root of a book without a journal.
+    /// Adds a root to a book without a journal.
     pub(crate) fn add_root(
         &mut self,
         path: &PathBuf<A>,
@@ -95,7 +95,7 @@ impl<C, A: Allocator + Copy> Book<C, A> {
         self.core.add_root(path, mode)
     }
 
-    /// The root of a book without a journal goes.
+    /// Drops a root, and the roots below it, from a book without a journal.
     pub(crate) fn remove_root(&mut self, path: &PathBuf<A>) -> Result<(), Error<A>>
     where
         C: FileIdCache<A>,

@@ -55,7 +55,7 @@ pub fn feed_step<C: FileIdCache<A>, A: Allocator + Copy>(
 
 /// Emits what is expired at the moment, and then the errors. A tick that is refused doesn't keep
 /// the errors back. If there is no memory for the errors' entry in the journal, they are kept, and
-/// none is handed out; without a journal they always are.
+/// none is emitted; without a journal they always are emitted.
 pub fn tick_step<C: FileIdCache<A>, A: Allocator + Copy>(
     book: &mut Book<C, A>,
     now: Moment,

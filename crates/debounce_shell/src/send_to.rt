@@ -13,6 +13,7 @@ pub struct SendTo<T: Drop, R: Wait + Drop, A: Allocator = Global> {
 }
 
 impl<T: Drop, R: Wait + Drop, A: Allocator> SendTo<T, R, A> {
+    /// Returns a handler that sends by this sender.
     pub fn new(rt: R, sender: Sender<T, A>) -> SendTo<T, R, A> {
         SendTo { rt, sender }
     }

@@ -1,6 +1,6 @@
-//! Places if the threads of a run may wait for each other.
+//! Places at which the threads of a run may wait for each other.
 
-/// Is asked before each step of a run in threads.
+/// Is called before each step of a run in threads.
 pub trait Meet: Sync {
     /// Called by the thread of the script with this number before each of its steps, while it doesn't
     /// hold the lock. It may wait.

@@ -108,7 +108,7 @@ fn clone_commands<A: Allocator + Copy>(
 }
 
 /// Carries out each script in a thread of its own, over one debouncer without a cache that keeps a
-/// journal, and returns the journal. Before each step `meet` is reported from which script it comes.
+/// journal, and returns the journal. Before each step a thread calls `meet` with its script's number.
 ///
 /// A thread ends at its first command that is refused. If one was refused, a thread couldn't be
 /// started (`Io` of `Other`), or an allocation failed, one such refusal is returned, after all threads

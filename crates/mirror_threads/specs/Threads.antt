@@ -1,8 +1,10 @@
 -- What a run in threads prints, and with which status it ends if it stops.
-use Rattle.std.specs.Prelude.{ℕ, Bool, List, ◌++◌, codes, if◌then◌else◌, Option}
+use Rattle.std.specs.Prelude.{◌≡◌, ◌⊎◌, ℕ, Bool, List, ◌++◌, codes, if◌then◌else◌, Option}
 use Rattle.std.specs.Fmt.{decimal}
 use Rattle.std.specs.Io.KnownBytes.{Appends}
 use Rattle.mirror_script.specs.Faults.{fault_status}
+use Rattle.mirror_script.specs.declared.fault.Fault.{Fault}
+use Rattle.mirror_script.specs.declared.fault.Fault.TheVariants.{CannotRead, NotCommand, Memory, NoThread}
 use Rattle.mirror_threads.specs.declared.stop.Stop.{Stop}
 use Rattle.mirror_threads.specs.declared.stop.Stop.TheVariants.{Faulty, Timeouts}
 
@@ -10,6 +12,31 @@ use Rattle.mirror_threads.specs.declared.stop.Stop.TheVariants.{Faulty, Timeouts
 abbrev pub stop_status : Stop → ℕ
 stop_status (Faulty name fault) = fault_status fault
 stop_status Timeouts = 3
+
+-- a fault that ends a run before it prints anything
+abbrev pub IsEarlyFault : Fault → Type 0
+IsEarlyFault CannotRead = Unit {0}
+IsEarlyFault (NotCommand line) = Unit {0}
+IsEarlyFault Memory = Unit {0}
+IsEarlyFault NoThread = Unit {0}
+IsEarlyFault other = ⊥
+
+-- why a run stops before it prints anything
+abbrev pub IsEarlyStop : Stop → Type 0
+IsEarlyStop (Faulty name fault) = IsEarlyFault fault
+IsEarlyStop Timeouts = Unit {0}
+
+-- why a run stops: the output failed, or nothing has been printed
+abbrev pub IsStop : Option (List ℕ) → Option (List ℕ) → Stop → Type 0
+IsStop old new stop = (stop_status stop ≡ 6) ⊎ (IsEarlyStop stop × (new ≡ old))
+
+-- a run that stops early ends with one of these
+abbrev pub IsEarlyStatus : ℕ → Type 0
+IsEarlyStatus n = (n ≡ 1) ⊎ ((n ≡ 3) ⊎ ((n ≡ 4) ⊎ (n ≡ 8)))
+
+-- a run in threads ends with one of these
+abbrev pub IsThreadsStatus : ℕ → Type 0
+IsThreadsStatus n = (n ≡ 0) ⊎ ((n ≡ 7) ⊎ ((n ≡ 6) ⊎ IsEarlyStatus n))
 
 -- the last word: the replies are the same, or they differ
 abbrev pub last_word : Bool → List ℕ

@@ -1,4 +1,6 @@
 //! The replay of a journal by one thread.
+ghost use Rattle.std.specs.Prelude.{◌≡◌, IfErr};
+
 use debounce_book::entry::Entry;
 use debounce_core::data::DebounceDataInner;
 use debounce_model::command::Reply;
@@ -13,7 +15,9 @@ pub(crate) fn is_same<A: Allocator + Copy>(
     alloc: A,
     timeout: Moment,
     journal: Vec<Entry<A>, A>,
-) -> Result<bool, Fault> {
+) -> Result<bool, Fault>
+    ensures { IfErr result (λ fault. fault ≡ Fault.Memory) }
+{
     let mut core = DebounceDataInner::new(alloc, NoCache::new(), timeout);
     for entry in journal {
         if !is_same_reply(&mut core, entry)? {
@@ -27,7 +31,9 @@ pub(crate) fn is_same<A: Allocator + Copy>(
 fn is_same_reply<A: Allocator + Copy>(
     core: &mut DebounceDataInner<NoCache, A>,
     entry: Entry<A>,
-) -> Result<bool, Fault> {
+) -> Result<bool, Fault>
+    ensures { IfErr result (λ fault. fault ≡ Fault.Memory) }
+{
     let Entry { command, reply, .. } = entry;
     let again = core.step(command);
     if let Reply::Refused(error) = &again {

@@ -1,7 +1,7 @@
 //! The run of scripts in threads over readers and writers.
-ghost use Rattle.std.specs.Prelude.{◌≡◌, ◌⊎◌, true, false, IfOk, OnOk};
+ghost use Rattle.std.specs.Prelude.{◌≡◌, ◌⊎◌, true, false, IfErr, IfOk, OnOk};
 ghost use Rattle.std.specs.Io.KnownBytes.{Appends};
-ghost use Rattle.mirror_threads.specs.Threads.{threads_lines, PrintsLines};
+ghost use Rattle.mirror_threads.specs.Threads.{threads_lines, IsEarlyStatus, IsEarlyStop, IsStop, IsThreadsStatus, PrintsLines};
 
 use crate::replay::is_same;
 use crate::scripts::{commands_of, counts_of, read_scripts, timeout_of};
@@ -25,7 +25,8 @@ use std::thread::Threads;
 /// Returns the exit status: 0 if they are the same and all was printed, 1 if a script can't be read, 3
 /// if a line is none of a script, also a `counts` line, or if the scripts differ in timeout, 4 if an
 /// allocation failed, 6 if the output failed, 7 if the replies differ, 8 if a thread couldn't be
-/// started.
+/// started. Nothing is printed if it is 1, 3, 4 or 8.
+#[tactic(auto, using(crate::proofs::Statuses::stopped_status, crate::proofs::Statuses::stopped_untouched, crate::proofs::Statuses::not_early))]
 pub fn threads_run<
     T: Threads + Wait + Sync,
     A: Allocator + Copy + Send + Sync + 'static,
@@ -35,6 +36,8 @@ pub fn threads_run<
 >(rt: &T, alloc: A, names: &[String<A>], readers: &mut [R], out: &mut O, err: &mut E) -> u8
     ensures same { result ≡ 0 → PrintsLines (O.contents out.old) (O.contents out.new) true }
     ensures differs { result ≡ 7 → PrintsLines (O.contents out.old) (O.contents out.new) false }
+    ensures untouched { IsEarlyStatus result → O.contents out.new ≡ O.contents out.old }
+    ensures statuses { IsThreadsStatus result }
     ensures silent { (result ≡ 0) ⊎ (result ≡ 7) → E.contents err.new ≡ E.contents err.old }
 {
     match play(rt, alloc, names, readers, out) {
@@ -60,7 +63,8 @@ where
     A: Allocator + Copy + Send + Sync + 'static,
     R: Read,
     O: Write,
-    ensures { IfOk result (λ same. PrintsLines (O.contents out.old) (O.contents out.new) same) }
+    ensures ok { IfOk result (λ same. PrintsLines (O.contents out.old) (O.contents out.new) same) }
+    ensures err { IfErr result (IsStop (O.contents out.old) (O.contents out.new)) }
 {
     let scripts = read_scripts(alloc, names, readers)?;
     let timeout = timeout_of(scripts.as_slice())?;
@@ -81,7 +85,9 @@ fn is_replayed<T: Threads + Wait + Sync, A: Allocator + Copy + Send + Sync + 'st
     alloc: A,
     timeout: Moment,
     scripts: Vec<Vec<Command<A>, A>, A>,
-) -> Result<bool, Stop<'static>> {
+) -> Result<bool, Stop<'static>>
+    ensures { IfErr result IsEarlyStop }
+{
     let journal = match run_threads(rt, alloc, timeout, scripts, &NoMeet) {
         Ok(journal) => journal,
         Err(error) => {
@@ -105,7 +111,8 @@ fn write_lines<O: Write>(
     same: bool,
     out: &mut O,
 ) -> Result<(), Fault>
-    ensures { OnOk result (Appends (O.contents out.old) (O.contents out.new) (threads_lines commands events same)) }
+    ensures ok { OnOk result (Appends (O.contents out.old) (O.contents out.new) (threads_lines commands events same)) }
+    ensures err { IfErr result (λ fault. fault ≡ Fault.OutputFailed) }
 {
     let word = if same { "same" } else { "differs" };
     let Ok(()) = write!(out, "entries {commands}\ntaken {events}\nreplay {word}\n") else {

@@ -1,4 +1,7 @@
 //! Scripts for threads: all of one timeout, and without counts.
+ghost use Rattle.std.specs.Prelude.{◌≡◌, IfErr};
+ghost use Rattle.mirror_threads.specs.Threads.{IsEarlyFault, IsEarlyStop};
+
 use crate::stop::Stop;
 use debounce_model::command::Command;
 use mirror_script::{Fault, Script, read_script};
@@ -11,7 +14,9 @@ pub(crate) fn read_scripts<'n, A: Allocator + Copy, R: Read>(
     alloc: A,
     names: &'n [String<A>],
     readers: &mut [R],
-) -> Result<Vec<Script<A>, A>, Stop<'n>> {
+) -> Result<Vec<Script<A>, A>, Stop<'n>>
+    ensures { IfErr result IsEarlyStop }
+{
     let Ok(mut scripts) = Vec::with_capacity(alloc, names.len()) else {
         return Err(Stop::Faulty("", Fault::Memory));
     };
@@ -29,7 +34,9 @@ pub(crate) fn read_scripts<'n, A: Allocator + Copy, R: Read>(
 }
 
 /// Reads a script in which a `counts` line is a fault.
-fn read_plain<A: Allocator + Copy, R: Read>(alloc: A, reader: &mut R) -> Result<Script<A>, Fault> {
+fn read_plain<A: Allocator + Copy, R: Read>(alloc: A, reader: &mut R) -> Result<Script<A>, Fault>
+    ensures { IfErr result IsEarlyFault }
+{
     let bytes = read_whole(alloc, reader)?;
     let script = read_script(alloc, &mut bytes.as_slice());
     match (counts_line(bytes.as_slice()), script) {
@@ -40,7 +47,9 @@ fn read_plain<A: Allocator + Copy, R: Read>(alloc: A, reader: &mut R) -> Result<
 }
 
 /// The bytes that the reader gives, up to its end.
-fn read_whole<A: Allocator, R: Read>(alloc: A, reader: &mut R) -> Result<Vec<u8, A>, Fault> {
+fn read_whole<A: Allocator, R: Read>(alloc: A, reader: &mut R) -> Result<Vec<u8, A>, Fault>
+    ensures { IfErr result IsEarlyFault }
+{
     let mut bytes = Vec::new(alloc);
     match reader.read_to_end(&mut bytes) {
         Ok(_) => Ok(bytes),
@@ -62,7 +71,9 @@ fn counts_line(bytes: &[u8]) -> Option<u64> {
 }
 
 /// The timeout of the scripts, if they have the same.
-pub(crate) fn timeout_of<A: Allocator>(scripts: &[Script<A>]) -> Result<Moment, Stop<'static>> {
+pub(crate) fn timeout_of<A: Allocator>(scripts: &[Script<A>]) -> Result<Moment, Stop<'static>>
+    ensures { IfErr result IsEarlyStop }
+{
     let [first, rest @ ..] = scripts else {
         return Ok(0);
     };

@@ -14,8 +14,10 @@ use std::alloc::Allocator;
 /// Folders and what stands in them, which are asked path by path. Some tell their whole tree to
 /// proofs, as the fake of the tests does; the real file system, which others change, can't.
 pub trait Folders<A: Allocator> {
+    /// The tree, if the folders tell it.
     ghost told: { Self → Option ListingValue };
 
+    /// How many calls of the device or the system failed so far.
     ghost failed: { Self → ℕ };
 
     /// Returns what stands at the path; `None` if it is missing. Links aren't followed.
@@ -32,8 +34,8 @@ pub trait Folders<A: Allocator> {
         ensures counted { failed self.old ≤ failed self.new }
         ensures err { IfErr result (λ e. IsRefusal e (failed self.old) (failed self.new)) };
 
-    /// Returns how many calls of the device or the system failed so far. It never falls, and stays
-    /// at the greatest number that it can count to.
+    /// Returns how many calls failed so far. It never falls, and stays at the greatest number that it
+    /// can count to.
     fn failures(&self) -> u64
         ensures { result ≡ failed self.now };
 }

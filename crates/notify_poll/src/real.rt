@@ -21,7 +21,9 @@ pub struct RealFolders<R: Drop, A: Allocator = Global> {
 
 impl<R: Drop, A: Allocator + Copy> RealFolders<R, A> {
     /// Returns the real file system. Relative paths begin at the folder that the program runs in.
-    pub fn new(rt: R, alloc: A) -> RealFolders<R, A> {
+    pub fn new(rt: R, alloc: A) -> RealFolders<R, A>
+        ensures { result.failures ≡ 0 }
+    {
         RealFolders {
             rt,
             alloc,

@@ -15,7 +15,7 @@ use notify_types::event::{Event, RecursiveMode};
 use notify_watch::handler::EventHandler;
 use std::alloc::Allocator;
 
-/// Hands the events on, in order.
+/// Reports the events, in order.
 fn hand_each<A: Allocator, H: EventHandler<Result<Event<A>, Error<A>>>>(
     events: Vec<Event<A>, A>,
     handler: &mut H,
@@ -45,9 +45,9 @@ fn look_again<A: Allocator + Copy, D: Folders<A>>(
     Ok((listing, events))
 }
 
-/// Lists the roots, hands on what changed since the last listing, and keeps the new one. Where listing
-/// or comparing is refused, it hands on that one error and keeps the last listing. Returns whether
-/// neither was refused.
+/// Lists the roots, reports what changed since the last listing, and keeps the new one. If listing or
+/// comparing is refused, it reports that one error and keeps the last listing. Returns whether neither
+/// was refused.
 pub fn poll_round<A: Allocator + Copy, D: Folders<A>, H: EventHandler<Result<Event<A>, Error<A>>>>(
     alloc: A,
     folders: &mut D,

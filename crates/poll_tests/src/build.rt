@@ -1,5 +1,4 @@
-//! What several tests build and print. There is memory for it, so each call hands out what it is asked
-//! for.
+//! What several tests build and print. There is memory for it, so each call gives what it is asked for.
 use fake_folders::tree::TreeFolders;
 use folder_listing::entry::EntryKind;
 use folder_listing::listing::Listing;

@@ -64,7 +64,7 @@ fn tick(rt: &(impl Abort + AllocGlobal), feeds: &mut Feeds, now: u128) -> Vec<De
     let mut replies = feeds.core.run(commands).expect(rt, "memory");
     match replies.pop() {
         Some(Reply::Batch(batch)) => batch,
-        _ => panic!(rt; "a tick hands out a batch"),
+        _ => panic!(rt; "a tick gives a batch"),
     }
 }
 

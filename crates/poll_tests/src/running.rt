@@ -3,13 +3,15 @@ use crate::build::path;
 use crate::real::new_folder;
 use crossbeam_channel::{Receiver, unbounded};
 use notify_debouncer_full::{
-    Config, DebounceEventResult, Debouncer, RecommendedCache, RecommendedWatcher, RecursiveMode,
-    SendTo, WatcherKind, new_debouncer,
+    Config, DebounceEventResult, Debouncer, Error, Event, EventHandler, PollTask, PollWatcher,
+    RecommendedCache, RecommendedWatcher, RecursiveMode, SendTo, Watcher, WatcherKind,
+    new_debouncer, start_task,
 };
-use std::fs;
 use std::process::Abort;
-use std::sync::Wait;
+use std::sync::atomic::{AtomicBool, Ordering};
+use std::sync::{Arc, Wait};
 use std::time::{Clock, Duration};
+use std::{fs, thread};
 
 type Polling = Debouncer<RecommendedWatcher<HostRuntime>, RecommendedCache, HostRuntime>;
 
@@ -71,4 +73,53 @@ fn a_written_file_is_reported(rt: HostRuntime) {
         (true, [true, false], false, 0)
     );
     assert!(rt; Polling::kind() == WatcherKind::PollWatcher);
+}
+
+/// A handler that does nothing, and raises a flag when it is dropped.
+struct Flagged {
+    dropped: Arc<AtomicBool>,
+}
+
+impl Drop for Flagged {
+    fn drop(self) {
+        self.dropped.store(true, Ordering::SeqCst);
+        let Self { dropped: _ } = self;
+    }
+}
+
+impl EventHandler<Result<Event, Error>> for Flagged {
+    ghost ready = { λ _. Unit {0} };
+
+    ghost handles = { λ _ _ _. Unit {0} };
+
+    fn handle_event(&mut self, _event: Result<Event, Error>)
+        ensures again { Unit {0} }
+        ensures handled { Unit {0} }
+    {}
+}
+
+/// Waits for the flag, and answers whether it was raised.
+fn wait_for(rt: &impl Clock, flag: &AtomicBool) -> bool {
+    for _ in 0..TURNS {
+        if flag.load(Ordering::SeqCst) {
+            return true;
+        }
+        thread::sleep(rt, Duration::from_millis(100));
+    }
+    false
+}
+
+#[test]
+fn a_dropped_watcher_ends_its_thread(rt: HostRuntime) {
+    let dropped = Arc::new(rt.alloc(), AtomicBool::new(false)).expect(&rt, "memory");
+    let handler = Flagged {
+        dropped: Arc::try_clone(&dropped).expect(&rt, "memory"),
+    };
+    let config = Config::default().with_poll_interval(Duration::from_millis(10));
+    let made: Result<(PollWatcher<HostRuntime>, PollTask<Flagged, HostRuntime>), Error> =
+        PollWatcher::new(rt, rt.alloc(), handler, config);
+    let (watcher, task) = made.expect(&rt, "memory");
+    start_task(&rt, rt.alloc(), task).expect(&rt, "a thread");
+    drop(watcher);
+    assert!(rt; wait_for(&rt, &dropped));
 }

@@ -1,6 +1,6 @@
-//! What several tests build. There is memory for it, so each call hands out what it is asked for.
+//! What several tests build. There is memory for it, so each call gives what it is asked for.
 use notify_debouncer_full::{
-    Command, CreateKind, DataChange, Event, EventKind, ModifyKind, PathBuf, RemoveKind,
+    Command, CreateKind, DataChange, Event, EventKind, ModifyKind, PathBuf, RemoveKind, RenameMode,
 };
 use refusing_allocator::Refusing;
 use std::alloc::{Allocator, Global};
@@ -14,6 +14,9 @@ pub const CREATE: EventKind = EventKind::Create(CreateKind::Any);
 pub const REMOVE: EventKind = EventKind::Remove(RemoveKind::Any);
 
 pub const MODIFY: EventKind = EventKind::Modify(ModifyKind::Data(DataChange::Any));
+
+/// A half of a rename that doesn't say which one it is.
+pub const HALF: EventKind = EventKind::Modify(ModifyKind::Name(RenameMode::Any));
 
 /// How many turns of a millisecond a test waits at most.
 pub const TURNS: u32 = 2000;
@@ -43,7 +46,7 @@ pub fn created<A: Allocator + Copy + Debug>(rt: &impl Abort, alloc: A, text: &st
     event(rt, alloc, CREATE, text)
 }
 
-/// A creation and a tick that hands it out.
+/// A creation and a tick that emits it.
 pub fn script<A: Allocator + Copy + Debug>(
     rt: &impl Abort,
     alloc: A,

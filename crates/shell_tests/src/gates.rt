@@ -113,7 +113,7 @@ fn batch(rt: &(impl Abort + AllocGlobal)) -> Vec<DebouncedEvent> {
 }
 
 #[test]
-fn a_turn_hands_out_the_batch_and_then_the_errors(rt: HostRuntime) {
+fn a_turn_emits_the_batch_and_then_the_errors(rt: HostRuntime) {
     let mut gate = loaded(&rt, Ok(batch(&rt)), 2);
     assert!(rt; !turn_calls(&rt, &mut gate, "batch 1 errors 2 "));
     assert!(rt; !turn_calls(&rt, &mut gate, ""));
@@ -126,7 +126,7 @@ fn a_refused_tick_keeps_no_errors_back(rt: HostRuntime) {
 }
 
 #[test]
-fn what_was_fed_is_handed_out(rt: HostRuntime) {
+fn what_was_fed_is_emitted(rt: HostRuntime) {
     let alloc = rt.alloc();
     let mut gate = OpenGate {
         book: Book::new(alloc, NoCache::new(), 50),

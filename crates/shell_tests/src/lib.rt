@@ -1,4 +1,4 @@
-//! Tests of the running debouncer: what its handler is called with and if, what stands after each
+//! Tests of the running debouncer: what its handler is called with and when, what stands after each
 //! refusal, how it starts and stops, and scripts in threads. Each ends by itself: who waits, waits for
 //! so many turns of a millisecond at most.
 #![tactic(auto)]

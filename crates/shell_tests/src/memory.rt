@@ -178,15 +178,15 @@ fn each_refused_event_is_missed(rt: HostRuntime) {
     let heap = new_heap(&rt);
     // The worker sleeps all the while, and asks for no memory.
     let timeout = Duration::from_secs(60);
-    let handler = Silent;
-    let config = Config::default().with_poll_interval(Duration::from_nanos(0));
+    let cache = NoCache::new();
+    let config = Config::default();
     let debouncer: Result<Hungry, Error<Heap>> = new_journaled_debouncer(
         rt,
         heap,
         timeout,
         Some(timeout),
-        handler,
-        NoCache::new(),
+        Silent,
+        cache,
         config,
     );
     let mut debouncer = debouncer.expect(&rt, "a debouncer");
@@ -209,18 +209,12 @@ fn each_refused_event_is_missed(rt: HostRuntime) {
 }
 
 #[test]
-fn a_refused_copy_of_the_journal_is_told(rt: HostRuntime) {
+fn a_refused_copy_of_the_journal_is_reported(rt: HostRuntime) {
     let heap = new_heap(&rt);
     let (timeout, config) = (Duration::from_millis(4), Config::default());
-    let handler = Silent;
+    let cache = NoCache::new();
     let debouncer: Result<Hungry, Error<Heap>> = new_journaled_debouncer(
-        rt,
-        heap,
-        timeout,
-        None,
-        handler,
-        NoCache::new(),
-        config,
+        rt, heap, timeout, None, Silent, cache, config,
     );
     let mut debouncer = debouncer.expect(&rt, "a debouncer");
     debouncer
@@ -230,4 +224,34 @@ fn a_refused_copy_of_the_journal_is_told(rt: HostRuntime) {
     let refusal = debouncer.stop_journal().err().expect(&rt, "a refusal");
     heap.refuse(0);
     assert!(rt; refusal == Error::new(heap, ErrorKind::Memory));
+}
+
+/// Whether the first path of each event existed when it was fed.
+fn existing(rt: &(impl Abort + AllocGlobal), journal: &[Entry<Heap>]) -> String {
+    let mut text = String::new(rt.alloc());
+    for entry in journal {
+        if let Command::Event(_, _, exists) = &entry.command {
+            let word = if *exists { "yes " } else { "no " };
+            text.push_str(word).expect(rt, "memory");
+        }
+    }
+    text
+}
+
+#[test]
+fn a_feed_sees_whether_the_path_of_a_half_exists(rt: HostRuntime) {
+    let heap = new_heap(&rt);
+    let (timeout, config) = (Duration::from_millis(4), Config::default());
+    let cache = NoCache::new();
+    let debouncer: Result<Hungry, Error<Heap>> = new_journaled_debouncer(
+        rt, heap, timeout, None, Silent, cache, config,
+    );
+    let mut debouncer = debouncer.expect(&rt, "a debouncer");
+    for place in ["/", "/nothing has this name"] {
+        debouncer
+            .watch(&path(&rt, heap, place), RecursiveMode::Recursive)
+            .expect(&rt, "memory");
+    }
+    let (_, journal) = debouncer.stop_journal().expect(&rt, "memory");
+    assert_eq!(rt; existing(&rt, &journal).as_str(), "yes no ");
 }

@@ -150,7 +150,7 @@ fn words(rt: &(impl Abort + AllocGlobal), journal: &[Entry]) -> String {
 }
 
 /// Whether the handler is called with this reply.
-fn is_handed_out(reply: &Reply) -> bool {
+fn is_emitted(reply: &Reply) -> bool {
     match reply {
         Reply::Batch(batch) => !batch.is_empty(),
         Reply::Errors(errors) => !errors.is_empty(),
@@ -166,11 +166,16 @@ fn agrees(call: &DebounceEventResult, reply: &Reply) -> bool {
     }
 }
 
+/// Whether the handler was called with a batch, and with errors.
+fn has_both(calls: &[DebounceEventResult]) -> bool {
+    calls.iter().any(|call| call.is_ok()) && calls.iter().any(|call| call.is_err())
+}
+
 /// Checks that the calls of the handler are what the journal says was emitted, in order.
 fn check_calls(rt: &impl Abort, calls: &[DebounceEventResult], journal: &[Entry]) {
     let mut rest = calls;
     for entry in journal {
-        if !is_handed_out(&entry.reply) {
+        if !is_emitted(&entry.reply) {
             continue;
         }
         match rest {
@@ -203,12 +208,14 @@ fn journal_is_handed_out(rt: HostRuntime) {
         config,
     );
     let mut debouncer = debouncer.expect(&rt, "a debouncer");
+    let place = path(&rt, alloc, "/w");
     debouncer
-        .watch(&path(&rt, alloc, "/w"), RecursiveMode::Recursive)
+        .watch(&place, RecursiveMode::Recursive)
         .expect(&rt, "a watch");
+    debouncer.unwatch(&place).expect(&rt, "no watch any longer");
     let mut calls: Vec<DebounceEventResult> = Vec::new(alloc);
     for _ in 0..TURNS {
-        if calls.iter().any(|call| call.is_ok()) {
+        if has_both(&calls) {
             break;
         }
         if let Ok(call) = from.recv_timeout(&rt, Duration::from_millis(1)) {
@@ -224,9 +231,9 @@ fn journal_is_handed_out(rt: HostRuntime) {
     }
     assert_eq!(rt;
         (kept, words(&rt, &journal).as_str()),
-        (4_000_000, "event event event error root ")
+        (4_000_000, "event event event error root unroot ")
     );
-    assert!(rt; calls.iter().any(|call| call.is_ok()));
+    assert!(rt; has_both(&calls));
     check_calls(&rt, &calls, &journal);
 }
 

@@ -73,11 +73,13 @@ fn one_script_runs_as_it_is_written(rt: HostRuntime) {
     };
     assert!(rt; taken.reply == Reply::Taken(None));
     assert_eq!(rt; [taken.from, early.from, due.from], [0, 0, 0]);
-    assert_eq!(rt; [handed_out(early), handed_out(due)], [0, 1]);
+    assert_eq!(rt; [batch_len(early), batch_len(due)], [0, 1]);
+    let copy = due.try_clone(alloc).expect(&rt, "memory");
+    assert!(rt; copy == *due);
 }
 
 /// How many events the entry's batch has.
-fn handed_out(entry: &Entry) -> usize {
+fn batch_len(entry: &Entry) -> usize {
     match &entry.reply {
         Reply::Batch(batch) => batch.len(),
         _ => usize::MAX,

@@ -2,7 +2,7 @@
 ghost use Rattle.std.specs.Prelude.{IfOk};
 ghost use Rattle.notify_watch.specs.declared.config.WatcherKind.TheVariants.{NullWatcher, Other};
 
-use crate::build::{CREATE, Heap, MODIFY, REMOVE, TURNS, sleep_a_turn};
+use crate::build::{CREATE, HALF, Heap, MODIFY, REMOVE, TURNS, sleep_a_turn};
 use notify_debouncer_full::{
     Config, Error, ErrorKind, Event, EventHandler, EventKind, Feed, NoCache, PathBuf,
     RecursiveMode, Task, Watcher, WatcherKind,
@@ -112,8 +112,8 @@ impl<F: Drop, R: Drop, A: Allocator + Copy> Watcher<F, R, A> for Stubborn<A> {
 /// The feed of a debouncer whose memory may be refused.
 pub type HeapFeed<R> = Feed<NoCache, R, Heap>;
 
-/// A watcher that reports one creation in each call of `watch`, while the nth request for memory is
-/// refused: n is what `configure` set last, in nanoseconds, and 0 at first.
+/// A watcher that reports one half of a rename in each call of `watch`, while the nth request for
+/// memory is refused: n is what `configure` set last, in nanoseconds, and 0 at first.
 #[derive(Drop)]
 pub struct Starved<R: Wait + Drop> {
     handler: HeapFeed<R>,
@@ -149,7 +149,7 @@ impl<R: Clock + Files + Wait + Drop + Send + 'static> Watcher<HeapFeed<R>, R, He
     }
 
     fn watch(&mut self, path: &PathBuf<Heap>, _mode: RecursiveMode) -> Result<(), Error<Heap>> {
-        let event = Event::new(self.heap, CREATE).add_path(path.try_clone()?)?;
+        let event = Event::new(self.heap, HALF).add_path(path.try_clone()?)?;
         let item: Result<Event<Heap>, Error<Heap>> = Ok(event);
         self.heap.refuse(self.refused);
         self.handler.handle_event(item);
@@ -177,7 +177,7 @@ struct Signals {
     /// How often the thread was asked to report.
     asked: AtomicU64,
     /// How often it did.
-    told: AtomicU64,
+    reported: AtomicU64,
     stop: AtomicBool,
 }
 
@@ -221,14 +221,14 @@ impl<
             if self.signals.stop.load(Ordering::SeqCst) {
                 return;
             }
-            let told = self.signals.told.load(Ordering::SeqCst);
-            if told < self.signals.asked.load(Ordering::SeqCst) {
+            let reported = self.signals.reported.load(Ordering::SeqCst);
+            if reported < self.signals.asked.load(Ordering::SeqCst) {
                 self.handler.handle_event(item(self.alloc, REMOVE));
                 self.handler.handle_event(item(self.alloc, CREATE));
                 self.handler.handle_event(item(self.alloc, MODIFY));
                 let error = Error::new(self.alloc, ErrorKind::PathNotFound);
                 self.handler.handle_event(Err(error));
-                self.signals.told.fetch_add(1, Ordering::SeqCst);
+                self.signals.reported.fetch_add(1, Ordering::SeqCst);
             }
             sleep_a_turn(&self.rt);
         }
@@ -263,7 +263,7 @@ impl<
     {
         let signals = Signals {
             asked: AtomicU64::new(0),
-            told: AtomicU64::new(0),
+            reported: AtomicU64::new(0),
             stop: AtomicBool::new(false),
         };
         let Ok(signals) = Arc::new(alloc, signals) else {
@@ -284,7 +284,7 @@ impl<
     fn watch(&mut self, _path: &PathBuf<A>, _mode: RecursiveMode) -> Result<(), Error<A>> {
         let before = self.signals.asked.fetch_add(1, Ordering::SeqCst);
         for _ in 0..TURNS {
-            if self.signals.told.load(Ordering::SeqCst) > before {
+            if self.signals.reported.load(Ordering::SeqCst) > before {
                 break;
             }
             sleep_a_turn(&self.rt);
