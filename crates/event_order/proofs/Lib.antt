@@ -1,2 +1,4 @@
-mod GreatestLemmas
+mod GroupLemmas
+mod MergeLemmas
 mod PlaceLemmas
+mod RankLemmas

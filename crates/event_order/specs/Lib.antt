@@ -1,2 +1,2 @@
-pub mod Greatest
+pub mod Groups
 pub mod Places
