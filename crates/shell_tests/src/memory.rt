@@ -158,7 +158,7 @@ fn a_refused_tick_loses_nothing(rt: HostRuntime) {
 
 /// A handler that does nothing.
 #[derive(Drop)]
-struct Silent;
+pub(crate) struct Silent;
 
 impl DebounceEventHandler<DebounceEventResult<Heap>> for Silent {
     ghost ready = { λ _. Unit {0} };

@@ -1,5 +1,6 @@
 //! Debouncers that are stopped, and watchers that refuse.
 use crate::build::{Heap, new_heap, path};
+use crate::memory::Silent;
 use crate::running::{Holder, Seen, wait_for};
 use crate::starting::sees_the_end;
 use crate::watchers::{Replay, Stubborn};
@@ -121,13 +122,12 @@ type Refusing = Debouncer<Stubborn<Heap>, NoCache, HostRuntime, Heap>;
 fn a_refused_watch_adds_no_root_and_a_refused_unwatch_drops_none(rt: HostRuntime) {
     let heap = new_heap(&rt);
     let (timeout, config) = (Duration::from_millis(4), Config::default());
-    let handler = |_: DebounceEventResult<Heap>| {};
     let debouncer: Result<Refusing, Error<Heap>> = new_journaled_debouncer(
         rt,
         heap,
         timeout,
         None,
-        handler,
+        Silent,
         NoCache::new(),
         config,
     );
