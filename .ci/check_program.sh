@@ -73,13 +73,13 @@ report 'a folder is watched' "$([ $status = 0 ] && [ ! -s err ] && grep -qE "$cr
 (ulimit -S -s 1000000 && ulimit -v 500000 && exec "$program" --watch watched 1) >out 2>err
 report 'no thread' "$([ $? = 8 ] && [ ! -s out ] && [ "$(cat err)" = 'mirror: cannot start a thread' ] && echo yes)"
 
-# A tree whose listing takes 38 MB, twice while it is merged, watched with 60 MB.
+# A tree whose listing takes 38 MB, watched with 30 MB; an empty folder would need less than 8.
 name=$(printf '%0180d' 0)
 tree=tree
 for _ in $(seq 20); do tree=$tree/$name; done
 mkdir -p "$tree"
 (cd "$tree" && seq -f '%0180.0f' 10000 | xargs touch)
-(ulimit -S -s 1000 && ulimit -v 60000 && exec "$program" --watch tree 1) >out 2>err
+(ulimit -S -s 1000 && ulimit -v 30000 && exec "$program" --watch tree 1) >out 2>err
 report 'no memory for a listing' "$([ $? = 4 ] && [ ! -s out ] && [ "$(cat err)" = 'mirror: out of memory' ] && echo yes)"
 
 # A tick of 70,000 due events: more than 64 KiB of output, and more events than 16 bits count.
