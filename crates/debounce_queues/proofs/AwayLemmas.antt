@@ -7,7 +7,7 @@ use Rattle.debounce_model.proofs.Entries.{lookup-insert_other}
 use Rattle.notify_paths.specs.Path.{PathValue, path_cmp, path_eq}
 use Rattle.notify_paths.specs.PathLaws.{path_cmp_total, path_matches_eq}
 use Rattle.notify_types.specs.Event.{Timed, AttributesValue}
-use Rattle.debounce_model.specs.Queues.{Queues, queue_at, events_at, with_queue, without_queue, creates}
+use Rattle.debounce_model.specs.Queues.{Queues, queue_at, with_queue, without_queue, creates}
 use Rattle.debounce_model.specs.Rename.{arrived, at_path, first_both, joined_halves, left_behind, moving, original_path, original_time, overriding, rename_event, renaming, staying, without_both, without_last}
 use Rattle.debounce_model.specs.MapSteps.{before_half}
 use Rattle.debounce_model.proofs.RenameMoves.{joined_other}
