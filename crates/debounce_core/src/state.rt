@@ -16,13 +16,13 @@ ghost use Rattle.debounce_model.specs.declared.case.Case.TheVariants.{Rescan, Cr
 ghost use Rattle.event_queue.specs.Due.{is_due};
 ghost use Rattle.event_queue.specs.Renames.{half_value};
 
+use crate::emit::{copy_due, emit};
 use crate::rename_slot::{RenameSlot, first_half, set_slot};
-use crate::rescan_slot::{add_due, held, is_slot_due, trim_slot};
+use crate::rescan_slot::{held, is_slot_due};
 use crate::roots::{add_root, mode_in, remove_root};
 use debounce_model::case::Case;
 use debounce_model::file_id::FileId;
 use debounce_queues::queues::Queues;
-use event_order::order::sort_events;
 use event_queue::due::Due;
 use event_queue::rename::FirstHalf;
 use file_id_cache::cache::FileIdCache;
@@ -288,15 +288,13 @@ impl<A: Allocator + Copy> State<A> {
             *visited = 0;
             return Ok(Vec::new(self.alloc));
         }
-        let batch = self.batch_of(due)?;
-        let Ok(opened) = self.queues.trim(due) else {
+        let Ok(emitted) = emit(&mut self.queues, &mut self.rescan_slot, self.alloc, due) else {
             return Err(Error::out_of_memory(self.alloc));
         };
-        trim_slot(&mut self.rescan_slot, due);
         self.latest = now;
-        self.given += batch.len() as u64;
-        *visited = opened as u64;
-        Ok(batch)
+        self.given += emitted.batch.len() as u64;
+        *visited = emitted.opened as u64;
+        Ok(emitted.batch)
     }
 
     /// The batch that a tick at the moment would emit.
@@ -329,24 +327,14 @@ impl<A: Allocator + Copy> State<A> {
         is_slot_due(&self.rescan_slot, due) || self.queues.is_any_due(due)
     }
 
-    /// Copies of what is due: the rescan event first, then what the queues emit.
-    fn places(&self, due: Due) -> Result<Vec<DebouncedEvent<A>, A>, AllocError>
-        ensures { IfOk result (λ list. list.items ≡ places (is_due due) self.now) }
-    {
-        let mut list = Vec::new(self.alloc);
-        add_due(&mut list, &self.rescan_slot, due)?;
-        self.queues.add_places(&mut list, due)?;
-        Ok(list)
-    }
-
     /// Copies of what is due, in the order of a batch.
     fn batch_of(&self, due: Due) -> Result<Vec<DebouncedEvent<A>, A>, Error<A>>
         ensures order { IfOk result (λ batch. InBatchOrder (places (is_due due) self.now) batch.items) }
         ensures only { IfOk result (λ batch. IsOnlyOrder (places (is_due due) self.now) batch.items) }
         ensures err { IfErr result (λ e. e ≡ out_of_memory) }
     {
-        match self.places(due) {
-            Ok(list) => sort_events(self.alloc, list),
+        match copy_due(&self.queues, &self.rescan_slot, self.alloc, due) {
+            Ok(batch) => Ok(batch),
             Err(_) => Err(Error::out_of_memory(self.alloc)),
         }
     }

@@ -2,13 +2,14 @@
 //!
 //! [`queues::Queues`] is a map that nobody else changes. An event is pushed, or it removes what is at
 //! its path, or it is the second half of a rename, which takes along what waits at its old path and
-//! below; a tick opens the queues whose first event is due, copies what is due and drops it.
+//! below; a tick opens the queues whose first event is due, and lends what is due of them, or, if all that
+//! waits is due, moves it out.
 //!
 //! ```text
 //! let mut queues = Queues::new(rt.alloc());
 //! queues.push(event)?;
 //! let mut places = Vec::new(rt.alloc());
-//! queues.add_places(&mut places, Due::Expired(50, 60))?;
+//! queues.lend_places(&mut places, Due::Expired(50, 60))?;
 //! let opened = queues.trim(Due::Expired(50, 60))?;
 //! ```
 #![tactic(auto)]

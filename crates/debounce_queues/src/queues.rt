@@ -1,5 +1,6 @@
 //! The queues of all paths.
-ghost use Rattle.std.specs.Prelude.{◌≡◌, ◌++◌, ◌∷◌, ◌<◌, ◌^◌, [], OnOk, OnErr, IfOk, false, length};
+ghost use Rattle.std.specs.Prelude.{◌≡◌, ◌==◌, ◌++◌, ◌+◌, ◌∷◌, ◌<◌, ◌≤◌, ◌^◌, [], OnOk, OnErr, IfOk, false, length, vec_len, vec_capacity};
+ghost use Rattle.notify_types.specs.Borrowed.{borrowed};
 ghost use Rattle.notify_types.specs.Event.{first_of};
 ghost use Rattle.std.specs.List.Sorted.{IsStrictlySortedBy};
 ghost use Rattle.std.specs.Map.{keys_of};
@@ -21,9 +22,10 @@ use event_queue::queue::Queue;
 use event_queue::rename::{FirstHalf, Rename};
 use front_index::below::{drop_below, remove as take_out};
 use front_index::fronts::{Fronts, QueueMap, is_any_due};
-use front_index::places::add_places;
+use front_index::places::lend_places;
 use front_index::put::{put, put_new};
 use front_index::tick::trim;
+use front_index::whole::{is_all_due, take_places};
 use notify_paths::path::PathBuf;
 use notify_types::event::{DebouncedEvent, Event};
 use std::alloc::{AllocError, Allocator, Global};
@@ -158,16 +160,36 @@ impl<A: Allocator + Copy> Queues<A> {
         is_any_due(&self.map, &self.fronts, due)
     }
 
-    /// Adds copies of what is due, in the order of the paths: of each queue's due beginning the
+    /// Adds references to what is due, in the order of the paths: of each queue's due beginning the
     /// last of each kind. If an allocation fails, `places` may hold some of them.
-    pub fn add_places(
-        &self,
-        places: &mut Vec<DebouncedEvent<A>, A>,
+    pub fn lend_places<'a>(
+        &'a self,
+        places: &mut Vec<&'a DebouncedEvent<A>, A>,
         due: Due,
     ) -> Result<(), AllocError>
-        ensures { OnOk result (places.new.items ≡ places.old.items ++ place_list (is_due due) self.now) }
+        ensures { OnOk result (borrowed places.new.items ≡ borrowed places.old.items ++ place_list (is_due due) self.now) }
     {
-        add_places(places, &self.map, &self.fronts, due)
+        lend_places(places, &self.map, &self.fronts, due)
+    }
+
+    /// Whether all that waits is due.
+    pub fn is_all_due(&self, due: Due) -> bool
+        ensures { result ≡ (length (rests (is_due due) self.now) == 0) }
+    {
+        is_all_due(&self.map, due)
+    }
+
+    /// Moves what is due to the end of `out`, which has room for it, in the order of the paths: all that
+    /// waits is due, and no queue is left. Returns how many queues there were. It needs no memory.
+    pub fn take_places(&mut self, due: Due, out: &mut Vec<DebouncedEvent<A>, A>) -> usize
+        requires all { rests (is_due due) self.old ≡ [] }
+        requires room { vec_len out.old + length (place_list (is_due due) self.old) ≤ vec_capacity out.old }
+        ensures moved { out.new.items ≡ out.old.items ++ place_list (is_due due) self.old }
+        ensures capacity { vec_capacity out.new ≡ vec_capacity out.old }
+        ensures count { result ≡ due_fronts (is_due due) self.old }
+        ensures left { self.new ≡ rests (is_due due) self.old }
+    {
+        take_places(&mut self.map, &mut self.fronts, self.alloc, due, out)
     }
 
     /// Drops the due beginning of each queue, and returns how many queues had one. If an allocation

@@ -1,4 +1,4 @@
 mod GroupLemmas
 mod MergeLemmas
-mod PlaceLemmas
+pub mod PlaceLemmas
 mod RankLemmas

@@ -1,1 +1,2 @@
+mod MoveLemmas
 mod TargetLemmas

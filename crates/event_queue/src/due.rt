@@ -1,6 +1,7 @@
 //! What of a queue is due.
-ghost use Rattle.std.specs.Prelude.{◌≡◌, ◌++◌, ◌≤◌, OnOk, length, take, drop};
+ghost use Rattle.std.specs.Prelude.{◌≡◌, ◌++◌, ◌+◌, ◌≤◌, OnOk, length, take, drop, vec_len, vec_capacity};
 ghost use Rattle.std.specs.List.{list_any};
+ghost use Rattle.notify_types.specs.Borrowed.{borrowed};
 ghost use Rattle.notify_types.specs.KindNumbers.{kind_eq};
 ghost use Rattle.debounce_model.specs.Due.{expired_beginning, rest_after, last_of_kind};
 ghost use Rattle.event_queue.specs.Due.{is_due, is_due_at, unless_later};
@@ -61,31 +62,62 @@ fn has_kind<A: Allocator>(events: &[DebouncedEvent<A>], kind: EventKind) -> bool
     events.iter().any(|event| kind.is_same(event.kind()))
 }
 
-/// Adds copies of the events of which no later one has the same kind. If an allocation fails, `out` may
-/// hold some of them.
-pub fn add_last_of_kind<A: Allocator + Copy>(
-    out: &mut Vec<DebouncedEvent<A>, A>,
-    events: &[DebouncedEvent<A>],
+/// Adds references to the events of which no later one has the same kind. If an allocation fails, `out`
+/// may hold some of them.
+pub fn lend_last_of_kind<'a, A: Allocator>(
+    out: &mut Vec<&'a DebouncedEvent<A>, A>,
+    events: &'a [DebouncedEvent<A>],
 ) -> Result<(), AllocError>
-    ensures { OnOk result (out.new.items ≡ out.old.items ++ last_of_kind events.now) }
+    ensures { OnOk result (borrowed out.new.items ≡ borrowed out.old.items ++ last_of_kind events.now) }
 {
     for (i, event) in events.iter().enumerate() {
-        add_unless_later(out, event, &events[i + 1..])?;
+        lend_unless_later(out, event, &events[i + 1..])?;
     }
     Ok(())
 }
 
-/// Adds a copy of the event, unless one of the later events has its kind.
-fn add_unless_later<A: Allocator + Copy>(
-    out: &mut Vec<DebouncedEvent<A>, A>,
-    event: &DebouncedEvent<A>,
+/// Adds a reference to the event, unless one of the later events has its kind.
+fn lend_unless_later<'a, A: Allocator>(
+    out: &mut Vec<&'a DebouncedEvent<A>, A>,
+    event: &'a DebouncedEvent<A>,
     later: &[DebouncedEvent<A>],
 ) -> Result<(), AllocError>
-    ensures { OnOk result (out.new.items ≡ out.old.items ++ unless_later event.now later.now) }
+    ensures { OnOk result (borrowed out.new.items ≡ borrowed out.old.items ++ unless_later event.now later.now) }
 {
     if has_kind(later, event.kind()) {
         return Ok(());
     }
-    out.push(event.clone()?)?;
+    out.push(event)?;
     Ok(())
+}
+
+/// Moves the events of which no later one has the same kind to the end of `out`, which has room for
+/// them. The others are dropped.
+pub(crate) fn move_last_of_kind<A: Allocator>(
+    out: &mut Vec<DebouncedEvent<A>, A>,
+    mut events: Vec<DebouncedEvent<A>, A>,
+)
+    requires { vec_len out.old + length (last_of_kind events.items) ≤ vec_capacity out.old }
+    ensures moved { out.new.items ≡ out.old.items ++ last_of_kind events.items }
+    ensures capacity { vec_capacity out.new ≡ vec_capacity out.old }
+{
+    events.as_mut_slice().reverse();
+    while let Some(event) = events.pop() {
+        move_unless_later(out, event, events.as_slice());
+    }
+}
+
+/// Moves the event to the end of `out`, unless one of the later events has its kind.
+fn move_unless_later<A: Allocator>(
+    out: &mut Vec<DebouncedEvent<A>, A>,
+    event: DebouncedEvent<A>,
+    later: &[DebouncedEvent<A>],
+)
+    requires { vec_len out.old + length (unless_later event later.now) ≤ vec_capacity out.old }
+    ensures moved { out.new.items ≡ out.old.items ++ unless_later event later.now }
+    ensures capacity { vec_capacity out.new ≡ vec_capacity out.old }
+{
+    if !has_kind(later, event.kind()) {
+        out.push_reserved(event);
+    }
 }

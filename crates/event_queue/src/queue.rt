@@ -1,17 +1,17 @@
 //! The queue of one path.
-ghost use Rattle.std.specs.Prelude.{◌≡◌, ◌↔◌, OnOk, OnErr, IfOk, IfErr, IsTrue, false, is_some};
+ghost use Rattle.std.specs.Prelude.{◌≡◌, ◌↔◌, ◌++◌, ◌+◌, ◌≤◌, OnOk, OnErr, IfOk, IfErr, IsTrue, false, not, is_some, length, vec_len, vec_capacity};
 ghost use Rattle.std.specs.Cmp.{partial_equiv_from_equiv};
 ghost use Rattle.notify_paths.specs.Errors.{out_of_memory};
 ghost use Rattle.debounce_model.specs.Equality.{events_eq};
 ghost use Rattle.debounce_model.specs.EqualityLaws.{events_eq_equiv};
 ghost use Rattle.debounce_model.specs.Queues.{was_created, was_removed, appended, skips, creates, removes};
-ghost use Rattle.debounce_model.specs.Due.{is_front_due, rest_after, waits};
+ghost use Rattle.debounce_model.specs.Due.{expired_beginning, is_front_due, last_of_kind, rest_after, waits};
 ghost use Rattle.debounce_model.specs.Rename.{is_both_kind, without_last, without_both, staying};
 ghost use Rattle.debounce_model.specs.MapSteps.{one_or_none};
 ghost use Rattle.event_queue.specs.Due.{is_due};
 ghost use Rattle.event_queue.specs.Front.{front_time};
 
-use crate::due::{Due, expired_count};
+use crate::due::{Due, expired_count, move_last_of_kind};
 use notify_paths::error::Error;
 use notify_types::event::{DebouncedEvent, clone_events};
 use notify_types::kind::{EventKind, ModifyKind, RenameMode};
@@ -210,6 +210,28 @@ impl<A: Allocator> Queue<A> {
         }
         self.events.clear();
         false
+    }
+
+    /// Whether all events are due.
+    pub fn is_all_due(&self, due: Due) -> bool
+        ensures { result ≡ not (waits (rest_after (is_due due) self.now)) }
+    {
+        let events = self.events.as_slice();
+        let count = expired_count(events, due);
+        events[count..].is_empty()
+    }
+
+    /// Moves what is due out of the queue: of its due beginning the last event of each kind goes to the
+    /// end of `out`, which has room for them. All else is dropped.
+    pub fn give_due(self, due: Due, out: &mut Vec<DebouncedEvent<A>, A>)
+        requires { vec_len out.old + length (last_of_kind (expired_beginning (is_due due) self)) ≤ vec_capacity out.old }
+        ensures moved { out.new.items ≡ out.old.items ++ last_of_kind (expired_beginning (is_due due) self) }
+        ensures capacity { vec_capacity out.new ≡ vec_capacity out.old }
+    {
+        let mut events = self.events;
+        let count = expired_count(events.as_slice(), due);
+        events.truncate(count);
+        move_last_of_kind(out, events);
     }
 
     /// Drops the due beginning, and returns whether something still waits.

@@ -1,5 +1,5 @@
 -- The index of what is left of all queues, made from nothing.
-use Rattle.std.proofs.Common.{◌≡◌, ℕ, Bool, true, false, cond, ◌&&◌, ◌||◌, refl, ap, sym, ◌∙◌, Option, Some, None, List, [], ◌∷◌, ◌++◌}
+use Rattle.std.proofs.Common.{◌≡◌, ℕ, ◌+◌, arith, Bool, true, false, cond, ◌&&◌, ◌||◌, refl, ap, sym, ◌∙◌, Option, Some, None, List, [], ◌∷◌, ◌++◌}
 use Rattle.std.specs.Bool.{◌==◌}
 use Rattle.std.specs.BTreeMap.{is_at}
 use Rattle.std.specs.List.{AllByRecursion}
@@ -13,6 +13,7 @@ use Rattle.notify_types.specs.Event.{Timed}
 use Rattle.debounce_model.specs.Due.{rests, rest_after, waits}
 use Rattle.debounce_model.specs.Queues.{Queues, queue_at}
 use Rattle.debounce_model.specs.WellFormed.{IsNonempty}
+use Rattle.debounce_model.proofs.DueCounts.{count_of}
 use Rattle.debounce_model.proofs.Entries.{sorted-changed}
 use Rattle.event_queue.specs.Front.{front_time}
 use Rattle.front_index.specs.Fronts.{is_time, is_front, front_of}
@@ -108,3 +109,8 @@ one_pair s k t p = by (is_pair (s, k) t p)
     by : (b : Bool) → b ≡ (b || false)
     by true = refl
     by false = refl
+
+-- one more is counted before the others
+pub count_first : (b : Bool) (n k : ℕ) → count_of b n + k ≡ n + count_of b k
+count_first true n k = omega arith
+count_first false n k = refl

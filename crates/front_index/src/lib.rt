@@ -20,4 +20,4 @@ pub mod places;
 pub mod put;
 pub mod settle;
 pub mod tick;
-mod whole;
+pub mod whole;

@@ -1,8 +1,9 @@
 //! What a tick emits, by the index: it opens only the queues that are due, in the order of their
-//! paths.
+//! paths, and lends what is due of them.
 ghost use Rattle.std.specs.Prelude.{◌≡◌, ◌++◌, OnOk, IfOk};
 ghost use Rattle.std.specs.BTreeSet.{contains};
 ghost use Rattle.notify_paths.specs.Path.{PathValue, path_cmp};
+ghost use Rattle.notify_types.specs.Borrowed.{borrowed};
 ghost use Rattle.debounce_model.specs.Due.{place_list};
 ghost use Rattle.debounce_model.specs.Queues.{queue_at};
 ghost use Rattle.event_queue.specs.Due.{is_due};
@@ -10,8 +11,8 @@ ghost use Rattle.front_index.specs.Fronts.{IsIndexed};
 ghost use Rattle.front_index.specs.Steps.{AreDuePaths, emitted_of, is_due_front};
 
 use crate::fronts::{Fronts, QueueMap};
-use crate::whole::{add_all_places, is_last_due};
-use event_queue::due::{Due, add_last_of_kind, expired_count};
+use crate::whole::{is_last_due, lend_all_places, lend_due};
+use event_queue::due::Due;
 use notify_paths::path::PathBuf;
 use notify_types::event::DebouncedEvent;
 use std::alloc::{AllocError, Allocator};
@@ -38,58 +39,54 @@ fn due_paths<A: Allocator + Copy>(
     Ok(paths)
 }
 
-/// Adds copies of what is due at the path.
-fn add_due<A: Allocator + Copy>(
-    places: &mut Vec<DebouncedEvent<A>, A>,
-    map: &QueueMap<A>,
+/// Adds references to what is due at the path.
+fn lend_at<'a, A: Allocator>(
+    places: &mut Vec<&'a DebouncedEvent<A>, A>,
+    map: &'a QueueMap<A>,
     path: &PathBuf<A>,
     due: Due,
 ) -> Result<(), AllocError>
-    ensures { OnOk result (places.new.items ≡ places.old.items ++ emitted_of due (queue_at map.now.entries path.now)) }
+    ensures { OnOk result (borrowed places.new.items ≡ borrowed places.old.items ++ emitted_of due (queue_at map.now.entries path.now)) }
 {
     match map.get(path) {
         None => Ok(()),
-        Some(queue) => {
-            let events = queue.events();
-            let count = expired_count(events, due);
-            add_last_of_kind(places, &events[..count])
-        }
+        Some(queue) => lend_due(places, queue, due),
     }
 }
 
-/// Adds copies of what is due at these paths.
-fn add_due_of<A: Allocator + Copy>(
-    places: &mut Vec<DebouncedEvent<A>, A>,
-    map: &QueueMap<A>,
+/// Adds references to what is due at these paths.
+fn lend_all_at<'a, A: Allocator>(
+    places: &mut Vec<&'a DebouncedEvent<A>, A>,
+    map: &'a QueueMap<A>,
     paths: &BTreeSet<PathBuf<A>, A>,
     due: Due,
 ) -> Result<(), AllocError>
     requires due { (p : PathValue) → contains path_cmp paths.now p ≡ is_due_front due (queue_at map.now.entries p) }
-    ensures { OnOk result (places.new.items ≡ places.old.items ++ place_list (is_due due) map.now.entries) }
+    ensures { OnOk result (borrowed places.new.items ≡ borrowed places.old.items ++ place_list (is_due due) map.now.entries) }
 {
     // The proof reads here that the paths ascend, in the map and in the set.
     let _len = map.len();
     let _paths = paths.len();
     for path in paths {
-        add_due(places, map, path, due)?;
+        lend_at(places, map, path, due)?;
     }
     Ok(())
 }
 
-/// Adds copies of what is due, in the order of the paths: of each queue's due beginning the last of
+/// Adds references to what is due, in the order of the paths: of each queue's due beginning the last of
 /// each kind. If an allocation fails, `places` may hold some of them.
-pub fn add_places<A: Allocator + Copy>(
-    places: &mut Vec<DebouncedEvent<A>, A>,
-    map: &QueueMap<A>,
+pub fn lend_places<'a, A: Allocator + Copy>(
+    places: &mut Vec<&'a DebouncedEvent<A>, A>,
+    map: &'a QueueMap<A>,
     fronts: &Fronts<A>,
     due: Due,
 ) -> Result<(), AllocError>
     requires { IsIndexed fronts.now map.now.entries }
-    ensures { OnOk result (places.new.items ≡ places.old.items ++ place_list (is_due due) map.now.entries) }
+    ensures { OnOk result (borrowed places.new.items ≡ borrowed places.old.items ++ place_list (is_due due) map.now.entries) }
 {
     if is_last_due(fronts, due) {
-        return add_all_places(places, map, due);
+        return lend_all_places(places, map, due);
     }
     let paths = due_paths(fronts, *places.allocator(), due)?;
-    add_due_of(places, map, &paths, due)
+    lend_all_at(places, map, &paths, due)
 }

@@ -7,13 +7,8 @@ use Rattle.debounce_model.proofs.DueCounts.{count_of, due_step, count_most}
 use Rattle.event_queue.specs.Due.{is_due}
 use Rattle.front_index.specs.Fronts.{has}
 use Rattle.front_index.specs.Steps.{has_pair, pair_of, pairs_of}
-use Rattle.front_index.proofs.FrontWhole.{rest_put, rests_put}
+use Rattle.front_index.proofs.FrontWhole.{count_first, rest_put, rests_put}
 use Rattle.front_index.proofs.whole.add_rests.Goals as goal
-
--- one more is counted before the others
-count_first : (b : Bool) (n k : ℕ) → count_of b n + k ≡ n + count_of b k
-count_first true n k = omega arith
-count_first false n k = refl
 
 pub counted-count-requires : goal.counted-count-requires
 counted-count-requires g c = omega (arith, c.loop-path.invariant.counted, count_most (is_due c.args.due) c.args.map.now.entries, c.len-len.ensures.len, c.len-len.ensures.small)

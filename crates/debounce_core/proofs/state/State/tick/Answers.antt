@@ -4,7 +4,7 @@ use Rattle.notify_types.specs.Event.{Timed}
 use Rattle.debounce_core.specs.StateView.{state_of}
 use Rattle.debounce_model.specs.Tick.{IsBatch, is_expired_in, is_slot_due, is_due}
 use Rattle.debounce_model.proofs.DueCounts.{quiet_count}
-use Rattle.debounce_model.proofs.OrderUnique.{batch_of_none, in_order_none}
+use Rattle.debounce_model.proofs.OrderUnique.{batch_of_none, batch_unique, in_order_none}
 use Rattle.debounce_model.proofs.StateLemmas.{quiet_state, well_formed-tick}
 use Rattle.debounce_core.proofs.state.State.tick.Goals as goal
 
@@ -43,8 +43,8 @@ pub overflow_add-self : goal.overflow_add-self
 overflow_add-self g c =
     let a = c.self.inside in
     let s = state_of a.queues a.roots.items a.rename_slot a.rescan_slot a.errors.items a.timeout a.latest a.taken a.given in
-    let b = c.in_ok-batch.batch in
-    let batch : IsBatch s c.args.now b.items = rw (← c.self.view_is, c.max-now.ensures) at c.in_ok-batch.ensures.order in
+    let b = c.in-Ok.emitted.batch in
+    let batch : IsBatch s c.args.now b.items = rw c.max-now.ensures at c.in-Ok.ensures.order in
     let kept = well_formed-tick s c.args.now b.items c.self.invariant batch in
     omega (arith, kept.bounded, b.ok.0, c.len.ensures, c.self.ranges)
 
@@ -55,31 +55,31 @@ pub invariant_of-self-2 : goal.invariant_of-self-2
 invariant_of-self-2 g c =
     let a = c.self.inside in
     let s = state_of a.queues a.roots.items a.rename_slot a.rescan_slot a.errors.items a.timeout a.latest a.taken a.given in
-    let b = c.in_ok-batch.batch in
-    let batch : IsBatch s c.args.now b.items = rw (← c.self.view_is, c.max-now.ensures) at c.in_ok-batch.ensures.order in
-    rw (c.in-Ok.ensures.ok, c.trim_slot.ensures, c.len.ensures, b.ok.0, c.max-now.ensures) (well_formed-tick s c.args.now b.items c.self.invariant batch)
+    let b = c.in-Ok.emitted.batch in
+    let batch : IsBatch s c.args.now b.items = rw c.max-now.ensures at c.in-Ok.ensures.order in
+    rw (c.in-Ok.ensures.rests, c.in-Ok.ensures.slot, c.len.ensures, b.ok.0, c.max-now.ensures) (well_formed-tick s c.args.now b.items c.self.invariant batch)
 
 pub returns-clause-batch : goal.returns-clause-batch
 returns-clause-batch g c =
     let a = c.self.inside in
     let s = state_of a.queues a.roots.items a.rename_slot a.rescan_slot a.errors.items a.timeout a.latest a.taken a.given in
-    let batch : IsBatch s c.args.now c.in_ok-batch.batch.items = rw (← c.self.view_is, c.max-now.ensures) at c.in_ok-batch.ensures.order in
+    let batch : IsBatch s c.args.now c.in-Ok.emitted.batch.items = rw c.max-now.ensures at c.in-Ok.ensures.order in
     rw (← c.self.view_is) batch
 
 pub returns-clause-only : goal.returns-clause-only
 returns-clause-only g c =
     let a = c.self.inside in
     let s = state_of a.queues a.roots.items a.rename_slot a.rescan_slot a.errors.items a.timeout a.latest a.taken a.given in
-    let only : (other : List Timed) → IsBatch s c.args.now other → other ≡ c.in_ok-batch.batch.items = rw (← c.self.view_is, c.max-now.ensures) at c.in_ok-batch.ensures.only in
-    rw (← c.self.view_is) only
+    let batch : IsBatch s c.args.now c.in-Ok.emitted.batch.items = rw c.max-now.ensures at c.in-Ok.ensures.order in
+    rw (← c.self.view_is) (λ other order. batch_unique _ other c.in-Ok.emitted.batch.items order batch)
 
 pub returns-clause-ok : goal.returns-clause-ok
 returns-clause-ok g c =
-    let b = c.in_ok-batch.batch in
-    rw (← c.self.view_is, c.in-Ok.ensures.ok, c.trim_slot.ensures, c.len.ensures, b.ok.0, c.max-now.ensures) refl
+    let b = c.in-Ok.emitted.batch in
+    rw (← c.self.view_is, c.in-Ok.ensures.rests, c.in-Ok.ensures.slot, c.len.ensures, b.ok.0, c.max-now.ensures) refl
 
 pub returns-clause-visited : goal.returns-clause-visited
-returns-clause-visited g c = rw (← c.self.view_is, c.in-Ok.ensures.count, c.max-now.ensures) refl
+returns-clause-visited g c = rw (← c.self.view_is, c.in-Ok.ensures.opened, c.max-now.ensures) refl
 
 pub returns-in_default-clause-sure : goal.returns-in_default-clause-sure
 returns-in_default-clause-sure g c = λ q.

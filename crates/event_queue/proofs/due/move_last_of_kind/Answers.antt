@@ -1,0 +1,32 @@
+-- One more event from the back of the reversed list.
+use Rattle.std.proofs.Common.{◌≡◌, ◌∙◌, ◌+◌, ◌++◌, ap, sym, arith, length, length-append}
+use Rattle.std.specs.Prelude.{reverse}
+use Rattle.debounce_model.specs.Due.{last_of_kind}
+use Rattle.event_queue.specs.Due.{unless_later}
+use Rattle.event_queue.proofs.MoveLemmas.{last_of_back, moved_back}
+use Rattle.event_queue.proofs.due.move_last_of_kind.Goals as goal
+
+pub move_unless_later-requires : goal.move_unless_later-requires
+move_unless_later-requires g c =
+    let l = c.loop-event in
+    let next = c.pop.new.self.items in
+    let x = c.in-Some.event in
+    let size : length (last_of_kind (reverse l.events.items)) ≡ length (unless_later x next) + length (last_of_kind (reverse next)) =
+    ap length (last_of_back l.events.items next x c.in-Some.ensures.items) ∙ length-append (unless_later x next) (last_of_kind (reverse next)) in
+    rw c.as_slice.ensures.value (omega (arith, size, l.invariant.room))
+
+pub loop-event-preserved : goal.loop-event-preserved
+loop-event-preserved g c =
+    let l = c.loop-event in
+    let i = l.invariant in
+    let next = c.pop.new.self.items in
+    let x = c.in-Some.event in
+    let more : c.move_unless_later.new.out.items ≡ l.out.items ++ unless_later x next = rw c.as_slice.ensures.value at c.move_unless_later.ensures.moved in
+    let size : length (last_of_kind (reverse l.events.items)) ≡ length (unless_later x next) + length (last_of_kind (reverse next)) =
+    ap length (last_of_back l.events.items next x c.in-Some.ensures.items) ∙ length-append (unless_later x next) (last_of_kind (reverse next)) in
+    let longer : length c.move_unless_later.new.out.items ≡ length l.out.items + length (unless_later x next) = ap length more ∙ length-append l.out.items (unless_later x next) in
+    record {
+      moved = ap (λ o. o ++ last_of_kind (reverse next)) more ∙ moved_back l.out.items (c.args.out.now.items ++ last_of_kind c.args.events.items) next l.events.items x c.in-Some.ensures.items i.moved;
+      room = omega (arith, size, longer, l.out.ok.0, c.move_unless_later.new.out.ok.0, c.move_unless_later.ensures.capacity, i.room);
+      same = c.move_unless_later.ensures.capacity ∙ i.same;
+    }

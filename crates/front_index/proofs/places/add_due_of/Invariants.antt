@@ -1,7 +1,0 @@
-use Rattle.std.proofs.Common.{◌≡◌, ◌++◌}
-use Rattle.front_index.specs.Steps.{emitted_at}
-use Rattle.front_index.proofs.places.add_due_of.Given as goal
-
--- what was added and what the other paths hand out are all
-abbrev pub invariant-loop-path : goal.invariant-loop-path
-invariant-loop-path g l = l.places.items ++ emitted_at l.due l.map.entries l.path-iterator ≡ l.fn.places.items ++ emitted_at l.due l.map.entries l.paths.keys
