@@ -1,5 +1,5 @@
 -- One more queue is counted, and what is left of it has its pair.
-use Rattle.std.proofs.Common.{◌≡◌, ◌∙◌, ◌+◌, ◌||◌, ap, sym, arith, Bool, true, false, refl, List, ℕ}
+use Rattle.std.proofs.Common.{◌∙◌, ◌+◌, ◌||◌, ap, sym, arith, List}
 use Rattle.notify_types.specs.Event.{Timed}
 use Rattle.notify_paths.specs.Path.{PathValue}
 use Rattle.debounce_model.specs.Due.{rests, is_front_due, due_fronts}
