@@ -2,8 +2,8 @@
 //!
 //! [`queues::Queues`] is a map that nobody else changes. An event is pushed, or it removes what is at
 //! its path, or it is the second half of a rename, which takes along what waits at its old path and
-//! below; a tick opens the queues whose first event is due, and lends what is due of them, or, if all that
-//! waits is due, moves it out.
+//! below. A tick opens the queues whose first event is due: it lends what is due of them and then drops
+//! it, or moves it out, if all that waits is due.
 //!
 //! ```text
 //! let mut queues = Queues::new(rt.alloc());

@@ -1,4 +1,4 @@
--- What is emitted_at out by the paths that are due is what is emitted_at out of all queues.
+-- What is emitted of the queues at the paths that are due is what is emitted of all queues.
 use Rattle.std.proofs.Common.{◌≡◌, Bool, true, false, cond, ◌||◌, refl, ap, sym, ◌∙◌, Option, Some, None, List, [], ◌∷◌, ◌++◌, is_some}
 use Rattle.std.specs.Prelude.{filter}
 use Rattle.std.specs.Ordering.{is_eq, ordering_reverse}
