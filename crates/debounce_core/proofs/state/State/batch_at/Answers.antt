@@ -1,8 +1,7 @@
 -- With nothing due the batch is empty; else it is that of the tick.
-use Rattle.std.proofs.Common.{◌≡◌, ◌∙◌, sym, false, List}
-use Rattle.notify_types.specs.Event.{Timed}
+use Rattle.std.proofs.Common.{◌≡◌, ◌∙◌, sym, false}
 use Rattle.debounce_core.specs.StateView.{state_of}
-use Rattle.debounce_model.specs.Tick.{IsBatch, is_expired_in, is_due}
+use Rattle.debounce_model.specs.Tick.{is_expired_in, is_due}
 use Rattle.debounce_model.proofs.OrderUnique.{batch_of_none, in_order_none}
 use Rattle.debounce_model.proofs.StateLemmas.{quiet_state}
 use Rattle.debounce_core.proofs.state.State.batch_at.Goals as goal

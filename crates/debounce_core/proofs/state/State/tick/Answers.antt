@@ -1,6 +1,5 @@
 -- A tick with nothing due changes nothing; else the batch is that of the tick, and the laws are kept.
-use Rattle.std.proofs.Common.{◌≡◌, ◌∙◌, add-zero, sym, arith, refl, true, false, true≢false, List}
-use Rattle.notify_types.specs.Event.{Timed}
+use Rattle.std.proofs.Common.{◌≡◌, ◌∙◌, add-zero, sym, arith, refl, true, false, true≢false}
 use Rattle.debounce_core.specs.StateView.{state_of}
 use Rattle.debounce_model.specs.Tick.{IsBatch, is_expired_in, is_slot_due, is_due}
 use Rattle.debounce_model.proofs.DueCounts.{quiet_count}
