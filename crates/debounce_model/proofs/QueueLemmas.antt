@@ -34,10 +34,14 @@ not_below_itself p = rw (path_eq_equiv.refl p) (by (is_prefix p p))
     by true = refl
     by false = refl
 
--- a removal of what wasn't created may insert first and drop then
-pub removal_by_insert : (queues : Queues) (path : PathValue) (x : Timed) → IsStrictlySortedBy path_cmp (keys_of queues) → was_created_at (queue_at queues path) ≡ false → without_below (with_queue queues path (x ∷ [])) path ≡ removal queues path x
-removal_by_insert queues path x s h =
-    filter-insert_entry path_cmp_total (λ k. not (is_below k path)) queues path (x ∷ []) s (not_below_itself path) (λ y e. rw (sym (same_path path y e)) (not_below_itself path)) ∙ rw h refl
+-- a queue may be put at a path before what lies below the path is dropped
+pub put_before_drop : (queues : Queues) (path : PathValue) (q : List Timed) → IsStrictlySortedBy path_cmp (keys_of queues) → without_below (with_queue queues path q) path ≡ with_queue (without_below queues path) path q
+put_before_drop queues path q s =
+    filter-insert_entry path_cmp_total (λ k. not (is_below k path)) queues path q s (not_below_itself path) (λ y e. rw (sym (same_path path y e)) (not_below_itself path))
+
+-- a removal of what wasn't created leaves its event alone
+pub removal_of_others : (queues : Queues) (path : PathValue) (x : Timed) → was_created_at (queue_at queues path) ≡ false → with_queue (without_below queues path) path (x ∷ []) ≡ removal queues path x
+removal_of_others queues path x h = rw h refl
 
 -- a removal of what was created takes it out
 pub removal_of_created : (queues : Queues) (path : PathValue) (x : Timed) → was_created_at (queue_at queues path) ≡ true → without_queue (without_below queues path) path ≡ removal queues path x

@@ -4,6 +4,6 @@ use Rattle.notify_types.specs.Event.{Timed}
 use Rattle.notify_paths.specs.Path.{PathValue}
 use Rattle.debounce_model.specs.Queues.{Queues, with_queue, without_below}
 
--- the queues with this event alone at its path, and nothing below it
+-- the queues without what is below the path, and with this event alone at it
 abbrev pub replaced : Queues → PathValue → Timed → Queues
-replaced queues path x = without_below (with_queue queues path (x ∷ [])) path
+replaced queues path x = with_queue (without_below queues path) path (x ∷ [])

@@ -2,14 +2,11 @@
 ghost use Rattle.std.specs.Prelude.{◌≡◌, ◌==◌, ◌++◌, ◌+◌, ◌∷◌, ◌<◌, ◌≤◌, ◌^◌, [], OnOk, OnErr, IfOk, false, length, vec_len, vec_capacity};
 ghost use Rattle.notify_types.specs.Borrowed.{borrowed};
 ghost use Rattle.notify_types.specs.Event.{first_of};
-ghost use Rattle.std.specs.List.Sorted.{IsStrictlySortedBy};
-ghost use Rattle.std.specs.Map.{keys_of};
-ghost use Rattle.notify_paths.specs.Path.{path_cmp};
 ghost use Rattle.front_index.specs.Fronts.{IsIndexed};
 ghost use Rattle.debounce_queues.specs.Replaced.{replaced};
 ghost use Rattle.debounce_model.specs.Due.{place_list, rests, is_any_due, due_fronts};
 ghost use Rattle.debounce_model.specs.Memory.{skips_it, cancels};
-ghost use Rattle.debounce_model.specs.Queues.{queue_at, without_queue, without_below, was_created_at, push, removal, waiting_in};
+ghost use Rattle.debounce_model.specs.Queues.{queue_at, without_queue, without_below, with_queue, was_created_at, push, removal, waiting_in};
 ghost use Rattle.debounce_model.specs.Rename.{is_both_kind};
 ghost use Rattle.event_queue.specs.Due.{is_due};
 ghost use Rattle.event_queue.specs.Renames.{joined_to, renamed_by};
@@ -26,6 +23,7 @@ use front_index::places::lend_places;
 use front_index::put::{put, put_new};
 use front_index::tick::trim;
 use front_index::whole::{is_all_due, take_places};
+use notify_paths::below::count_below;
 use notify_paths::path::PathBuf;
 use notify_types::event::{DebouncedEvent, Event};
 use std::alloc::{AllocError, Allocator, Global};
@@ -279,6 +277,26 @@ fn drop_at<A: Allocator + Copy>(
     take_out(queues, fronts, path);
 }
 
+/// Puts the event alone in the place of what waits at its first path.
+fn put_alone<A: Allocator + Copy>(
+    queues: &mut QueueMap<A>,
+    fronts: &mut Fronts<A>,
+    spare: &mut PathBuf<A>,
+    alloc: A,
+    event: DebouncedEvent<A>,
+) -> Result<(), AllocError>
+    requires path { 0 < length event.event.paths }
+    requires indexed { IsIndexed fronts.old queues.old.entries }
+    ensures ok { OnOk result (queues.new.entries ≡ with_queue queues.old.entries (first_of event.event.paths) (event ∷ [])) }
+    ensures err { OnErr result (queues.new.entries ≡ queues.old.entries) }
+    ensures indexed { IsIndexed fronts.new queues.new.entries }
+{
+    let path = first_path(&event);
+    let time = event.time();
+    let key = new_key(spare, path)?;
+    put(queues, fronts, key, time, single(alloc, event)?)
+}
+
 /// Drops what waits below the event's first path, and puts the event in the place of what waits there.
 fn replace<A: Allocator + Copy>(
     queues: &mut QueueMap<A>,
@@ -292,15 +310,15 @@ fn replace<A: Allocator + Copy>(
     ensures ok { OnOk result (queues.new.entries ≡ replaced queues.old.entries (first_of event.event.paths) event) }
     ensures err { OnErr result (queues.new.entries ≡ queues.old.entries) }
     ensures indexed { IsIndexed fronts.new queues.new.entries }
-    ensures was_ordered { IsStrictlySortedBy path_cmp (keys_of queues.old.entries) }
 {
     // The proof reads here that the paths ascend.
     let _len = queues.len();
     let path = first_path(&event);
-    let time = event.time();
+    if count_below(queues, path) == 0 {
+        return put_alone(queues, fronts, spare, alloc, event);
+    }
     let folder = path.clone()?;
-    let key = new_key(spare, path)?;
-    put(queues, fronts, key, time, single(alloc, event)?)?;
+    put_alone(queues, fronts, spare, alloc, event)?;
     drop_below(queues, fronts, &folder, spare);
     Ok(())
 }

@@ -75,6 +75,28 @@ fn check_cancelled(rt: &impl Abort, core: &mut Core, heap: Heap, texts: &str) {
     assert_eq!(rt; core.waiting(), 19, "{texts}");
 }
 
+/// How many requests for memory the tick makes that emits this event.
+fn requests_of_tick(rt: &impl Abort, heap: Heap, event: Event<Heap>) -> u64 {
+    let mut core = DebounceDataInner::new(heap, NoCache::new(), 50);
+    core.add_event(event, 0, true).expect(rt, "memory");
+    heap.refuse(MANY);
+    let batch = core.debounced_events(100).expect(rt, "memory");
+    let requests = MANY.saturating_sub(heap.left());
+    assert_eq!(rt; batch.len(), 1);
+    requests
+}
+
+/// A copy of an event would ask for memory for each of its paths.
+#[test]
+fn a_tick_moves_what_it_emits(rt: HostRuntime) {
+    let heap = new_heap(&rt);
+    let of_one = requests_of_tick(&rt, heap, event(&rt, heap, CREATE, "/a"));
+    let other = PathBuf::parse(heap, "/b").expect(&rt, "memory");
+    let both = event(&rt, heap, CREATE, "/a").add_path(other);
+    let of_two = requests_of_tick(&rt, heap, both.expect(&rt, "memory"));
+    assert_eq!(rt; of_one, of_two);
+}
+
 /// What comes first, and the step of which each request for memory is refused in turn.
 const STORIES: [&str; 7] = [
     "create /b; create /a",
