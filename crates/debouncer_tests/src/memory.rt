@@ -98,7 +98,7 @@ fn a_tick_moves_what_it_emits(rt: HostRuntime) {
 }
 
 /// What comes first, and the step of which each request for memory is refused in turn.
-const STORIES: [&str; 7] = [
+const STORIES: [&str; 8] = [
     "create /b; create /a",
     "modify /a, modify /a/x; remove /a",
     "modify /a, modify /b, from /a; to /b",
@@ -106,6 +106,8 @@ const STORIES: [&str; 7] = [
     "modify /a, create /b, create /a/x; tick",
     "modify /a, create /b, later /a, later /c; tick",
     "modify /a, modify /b, later /a, later /b; tick",
+    "modify /z, later /z, later /a, later /b, later /c, later /d, later /e, later /f, later /g, \
+     later /h, later /i, later /j, later /k, later /l, later /m, later /n, later /o; tick",
 ];
 
 #[test]

@@ -28,7 +28,7 @@ use Rattle.event_queue.specs.Due.{is_due}
 use Rattle.event_queue.specs.Due.{is_due_at}
 use Rattle.event_queue.specs.Front.{front_time}
 use Rattle.front_index.specs.Fronts.{front_of, is_time, front_cmp, has, IsIndexed}
-use Rattle.front_index.specs.Steps.{is_due_front, front_after, is_later, is_due_pair}
+use Rattle.front_index.specs.Steps.{is_due_front, front_after, is_later, is_due_pair, IsWithLater}
 use Rattle.front_index.proofs.FrontLemmas.{Fronts, same_front, queue_at-with}
 use Rattle.front_index.proofs.FrontMoves.{and_both, tied_path}
 
@@ -364,9 +364,9 @@ front_left due (e ∷ es) p s = by (path_cmp p e.0) refl (waits (rest_after (is_
         more ∙ ap (front_after due) none ∙ sym (waits_front (rest_after (is_due due) e.1) w)
 
 -- the index with the later pairs, at a time that is not due
-pub covered_later : (due : Due) (fs gs : Fronts) (m : Queues) → IsIndexed fs m → IsStrictlySortedBy path_cmp (keys_of m) → ((t : ℕ) (p : PathValue) → has gs t p ≡ (list_any (is_later due m t p) fs.keys || has fs t p)) → (t : ℕ) (p : PathValue) → is_due_at due t ≡ false → has gs t p ≡ is_time (front_of (queue_at (rests (is_due due) m) p)) t
+pub covered_later : (due : Due) (fs gs : Fronts) (m : Queues) → IsIndexed fs m → IsStrictlySortedBy path_cmp (keys_of m) → IsWithLater due m fs gs → (t : ℕ) (p : PathValue) → is_due_at due t ≡ false → has gs t p ≡ is_time (front_of (queue_at (rests (is_due due) m) p)) t
 covered_later due fs gs m i s h t p n =
-    h t p ∙ ap (λ b. b || has fs t p) (later_is due fs m i t p) ∙ ap (λ b. (is_due_front due (queue_at m p) && is_time (front_after due (queue_at m p)) t) || b) (i.exact t p) ∙ by (queue_at m p) ∙ sym (ap (λ o. is_time o t) (front_left due m p s))
+    h t p ∙ ap (λ b. (is_due_front due (queue_at m p) && is_time (front_after due (queue_at m p)) t) || b) (i.exact t p) ∙ by (queue_at m p) ∙ sym (ap (λ o. is_time o t) (front_left due m p s))
   where
     by : (o : Option (List Timed)) → ((is_due_front due o && is_time (front_after due o) t) || is_time (front_of o) t) ≡ is_time (front_after due o) t
     by None = refl
@@ -386,9 +386,9 @@ covered_later due fs gs m i s h t p n =
             apart true e = absurd (true≢false (sym d ∙ due_time due x ∙ ap (is_due_at due) (number_is x.time t e) ∙ n))
 
 -- .. at a time that is due
-pub covered_now : (due : Due) (fs gs : Fronts) (m : Queues) → IsIndexed fs m → ((t : ℕ) (p : PathValue) → has gs t p ≡ (list_any (is_later due m t p) fs.keys || has fs t p)) → (t : ℕ) (p : PathValue) → is_due_at due t ≡ true → has gs t p ≡ is_time (front_of (queue_at m p)) t
+pub covered_now : (due : Due) (fs gs : Fronts) (m : Queues) → IsIndexed fs m → IsWithLater due m fs gs → (t : ℕ) (p : PathValue) → is_due_at due t ≡ true → has gs t p ≡ is_time (front_of (queue_at m p)) t
 covered_now due fs gs m i h t p d =
-    h t p ∙ ap (λ b. b || has fs t p) (later_is due fs m i t p ∙ none (queue_at m p)) ∙ i.exact t p
+    h t p ∙ ap (λ b. b || has fs t p) (none (queue_at m p)) ∙ i.exact t p
   where
     and_false : (b : Bool) → (b && false) ≡ false
     and_false true = refl

@@ -63,6 +63,11 @@ front_pair queues p = pair_of (front_of (queue_at queues p)) p
 abbrev pub pairs_of : Queues → List (ℕ × PathValue)
 pairs_of queues = flat_map (λ e. pair_of (front_time e.1) e.0) queues
 
+-- the pair of what is not due of a queue whose front is due, if it has one
+abbrev pub later_pair : Due → PathValue × List Timed → List (ℕ × PathValue)
+later_pair due e =
+    if is_front_due (is_due due) e.1 then pair_of (front_time (rest_after (is_due due) e.1)) e.0 else []
+
 -- each front that only one of the two has is among these pairs
 abbrev pub TellApart : List (ℕ × PathValue) → Queues → Queues → Type 0
 TellApart pairs queues after =
@@ -89,10 +94,6 @@ IsWith pairs old new = (t : ℕ) (p : PathValue) → has new t p ≡ (has_pair p
 -- the two differ by some of these pairs at most
 abbrev pub DifferAt : List (ℕ × PathValue) → FrontSet → FrontSet → Type 0
 DifferAt pairs old new = (t : ℕ) (p : PathValue) → has_pair pairs t p ≡ false → has new t p ≡ has old t p
-
--- the index has just the fronts of these queues
-abbrev pub HasFronts : FrontSet → Queues → Type 0
-HasFronts fronts queues = (t : ℕ) (p : PathValue) → has fronts t p ≡ is_front queues t p
 
 -- the pair was taken out, unless it is a front
 abbrev pub IsSettledPair : Queues → ℕ × PathValue → FrontSet → FrontSet → Type 0
@@ -135,10 +136,17 @@ HasLater due fronts queues =
 abbrev pub HasDue : Due → FrontSet → Queues → Type 0
 HasDue due fronts queues = (t : ℕ) (p : PathValue) → is_due_at due t ≡ true → has fronts t p ≡ is_front queues t p
 
--- the pairs are the fronts that come once what is due is gone
-abbrev pub AreLater : Due → Queues → FrontSet → List (ℕ × PathValue) → Type 0
-AreLater due queues fronts pairs =
-    (t : ℕ) (p : PathValue) → has_pair pairs t p ≡ list_any (is_later due queues t p) fronts.keys
+-- a front comes once what is due is gone
+abbrev pub is_later_front : Due → Queues → ℕ → PathValue → Bool
+is_later_front due queues t p = is_due_front due (queue_at queues p) && is_time (front_after due (queue_at queues p)) t
+
+-- the pairs are the fronts that come
+abbrev pub AreLater : Due → Queues → List (ℕ × PathValue) → Type 0
+AreLater due queues pairs = (t : ℕ) (p : PathValue) → has_pair pairs t p ≡ is_later_front due queues t p
+
+-- the fronts that come were put in
+abbrev pub IsWithLater : Due → Queues → FrontSet → FrontSet → Type 0
+IsWithLater due queues old new = (t : ℕ) (p : PathValue) → has new t p ≡ (is_later_front due queues t p || has old t p)
 
 -- .. with that of the path
 abbrev pub AddsLater : Due → Queues → PathValue → List (ℕ × PathValue) → List (ℕ × PathValue) → Type 0

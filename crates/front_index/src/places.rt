@@ -1,5 +1,5 @@
-//! What a tick emits, by the index: it opens only the queues that are due, in the order of their
-//! paths, and lends what is due of them.
+//! What a tick emits: it lends what is due, in the order of the paths. If few queues are due, it finds
+//! them by the index.
 ghost use Rattle.std.specs.Prelude.{◌≡◌, ◌++◌, OnOk, IfOk};
 ghost use Rattle.std.specs.BTreeSet.{contains};
 ghost use Rattle.notify_paths.specs.Path.{PathValue, path_cmp};
@@ -11,7 +11,7 @@ ghost use Rattle.front_index.specs.Fronts.{IsIndexed};
 ghost use Rattle.front_index.specs.Steps.{AreDuePaths, emitted_of, is_due_front};
 
 use crate::fronts::{Fronts, QueueMap};
-use crate::whole::{is_last_due, lend_all_places, lend_due};
+use crate::whole::{are_many_due, lend_all_places, lend_due};
 use event_queue::due::Due;
 use notify_paths::path::PathBuf;
 use notify_types::event::DebouncedEvent;
@@ -84,7 +84,7 @@ pub fn lend_places<'a, A: Allocator + Copy>(
     requires { IsIndexed fronts.now map.now.entries }
     ensures { OnOk result (borrowed places.new.items ≡ borrowed places.old.items ++ place_list (is_due due) map.now.entries) }
 {
-    if is_last_due(fronts, due) {
+    if are_many_due(fronts, due) {
         return lend_all_places(places, map, due);
     }
     let paths = due_paths(fronts, *places.allocator(), due)?;

@@ -1,14 +1,15 @@
-//! A tick by the index: it opens only the queues whose fronts are due.
+//! What a tick leaves. If few queues are due, it finds them by the index.
 ghost use Rattle.std.specs.Prelude.{◌≡◌, ℕ, OnOk, OnErr, IfOk, true};
 ghost use Rattle.notify_paths.specs.Path.{PathValue};
 ghost use Rattle.debounce_model.specs.Due.{rests, due_fronts};
 ghost use Rattle.debounce_model.specs.Queues.{queue_at};
 ghost use Rattle.event_queue.specs.Due.{is_due};
 ghost use Rattle.front_index.specs.Fronts.{IsIndexed, has, is_front};
-ghost use Rattle.front_index.specs.Steps.{AddsLater, AreFilled, AreLater, HasDue, HasLater, IsKept, IsOneFewer, IsTrimmed, IsWith, OthersStay, front_after};
+ghost use Rattle.front_index.specs.Steps.{AddsLater, AreFilled, AreLater, HasDue, HasLater, IsKept, IsOneFewer, IsTrimmed, IsWith, IsWithLater, OthersStay, front_after};
 
 use crate::fronts::{Fronts, QueueMap, is_front, pop_due};
-use crate::whole::{is_last_due, trim_all};
+use crate::settle::Pairs;
+use crate::whole::{are_many_due, insert_all_later, trim_all};
 use event_queue::due::Due;
 use notify_paths::path::PathBuf;
 use notify_types::time::Moment;
@@ -65,7 +66,7 @@ fn time_after<A: Allocator>(map: &QueueMap<A>, path: &PathBuf<A>, due: Due) -> O
 
 /// Adds the pair of what is not due of what waits at the path.
 fn add_later<A: Allocator + Copy>(
-    later: &mut Vec<(Moment, PathBuf<A>), A>,
+    later: &mut Pairs<A>,
     map: &QueueMap<A>,
     path: &PathBuf<A>,
     due: Due,
@@ -81,15 +82,16 @@ fn add_later<A: Allocator + Copy>(
     Ok(())
 }
 
-/// The pairs that the index gets once what is due is gone: the rest of each queue that is due in part
-/// has another front.
+/// The pairs that come once what is due is gone: the rest of each queue that is due in part has another
+/// front.
 fn later_fronts<A: Allocator + Copy>(
     map: &QueueMap<A>,
     fronts: &Fronts<A>,
     alloc: A,
     due: Due,
-) -> Result<Vec<(Moment, PathBuf<A>), A>, AllocError>
-    ensures { IfOk result (λ later. AreLater due map.now.entries fronts.now later.items) }
+) -> Result<Pairs<A>, AllocError>
+    requires { IsIndexed fronts.now map.now.entries }
+    ensures { IfOk result (λ later. AreLater due map.now.entries later.items) }
 {
     // The proof reads here that the pairs ascend.
     let _len = fronts.len();
@@ -106,7 +108,7 @@ fn later_fronts<A: Allocator + Copy>(
 /// Puts these pairs into the index.
 fn add_fronts<A: Allocator + Copy>(
     fronts: &mut Fronts<A>,
-    later: Vec<(Moment, PathBuf<A>), A>,
+    later: Pairs<A>,
 ) -> Result<(), AllocError>
     ensures ok { OnOk result (IsWith later.items fronts.old fronts.new) }
     ensures grown { IsKept fronts.old fronts.new }
@@ -117,12 +119,47 @@ fn add_fronts<A: Allocator + Copy>(
     Ok(())
 }
 
+/// Puts the fronts that come once what is due is gone into the index. If an allocation fails, it may
+/// have some of them.
+fn insert_later_fronts<A: Allocator + Copy>(
+    fronts: &mut Fronts<A>,
+    map: &QueueMap<A>,
+    alloc: A,
+    due: Due,
+) -> Result<(), AllocError>
+    requires { IsIndexed fronts.old map.now.entries }
+    ensures ok { OnOk result (IsWithLater due map.now.entries fronts.old fronts.new) }
+    ensures grown { IsKept fronts.old fronts.new }
+{
+    if are_many_due(fronts, due) {
+        return insert_all_later(fronts, map, due);
+    }
+    let later = later_fronts(map, fronts, alloc, due)?;
+    add_fronts(fronts, later)
+}
+
 /// Takes out of the index what is no front.
 fn tidy<A: Allocator>(map: &QueueMap<A>, fronts: &mut Fronts<A>)
     requires covered { (t : ℕ) (p : PathValue) → is_front map.now.entries t p ≡ true → has fronts.old t p ≡ true }
     ensures { (t : ℕ) (p : PathValue) → has fronts.new t p ≡ is_front map.now.entries t p }
 {
     fronts.retain(|front| is_front(map, &front.1, front.0));
+}
+
+/// Drops the due beginning of each queue. The index has the fronts that come already. Returns how many
+/// queues had a front that was due.
+fn trim_queues<A: Allocator>(map: &mut QueueMap<A>, fronts: &mut Fronts<A>, due: Due) -> usize
+    requires later { HasLater due fronts.old map.old.entries }
+    requires now { HasDue due fronts.old map.old.entries }
+    requires filled { AreFilled map.old.entries }
+    ensures rests { map.new.entries ≡ rests (is_due due) map.old.entries }
+    ensures indexed { IsIndexed fronts.new map.new.entries }
+    ensures count { result ≡ due_fronts (is_due due) map.old.entries }
+{
+    if are_many_due(fronts, due) {
+        return trim_all(map, fronts, due);
+    }
+    trim_due(map, fronts, due)
 }
 
 /// Drops the due beginning of each queue, and returns how many queues had one. The later fronts go
@@ -139,14 +176,10 @@ pub fn trim<A: Allocator + Copy>(
     ensures err { OnErr result (map.new.entries ≡ map.old.entries) }
     ensures indexed { IsIndexed fronts.new map.new.entries }
 {
-    if is_last_due(fronts, due) {
-        return trim_all(map, fronts, alloc, due);
-    }
-    let later = later_fronts(map, fronts, alloc, due)?;
     // The proof reads here that the paths ascend.
     let _len = map.len();
-    match add_fronts(fronts, later) {
-        Ok(()) => Ok(trim_due(map, fronts, due)),
+    match insert_later_fronts(fronts, map, alloc, due) {
+        Ok(()) => Ok(trim_queues(map, fronts, due)),
         Err(refused) => {
             tidy(map, fronts);
             Err(refused)

@@ -1,13 +1,13 @@
-//! A tick at which the front of every queue is due: it goes over the queues in the order of their paths,
-//! and needs no look-up.
+//! A tick at which many queues are due: it goes over all queues in the order of their paths, and needs no
+//! search.
 ghost use Rattle.std.specs.Prelude.{◌≡◌, ◌==◌, ◌++◌, ◌+◌, ◌-◌, ◌^◌, ◌<◌, ◌≤◌, ℕ, [], OnOk, OnErr, IfOk, false, length, vec_len, vec_capacity};
 ghost use Rattle.notify_paths.specs.Path.{PathValue};
 ghost use Rattle.notify_types.specs.Borrowed.{borrowed};
 ghost use Rattle.debounce_model.specs.Due.{due_fronts, expired_beginning, last_of_kind, place_list, rest_after, rests, waits};
 ghost use Rattle.event_queue.specs.Due.{is_due};
 ghost use Rattle.debounce_model.proofs.DueCounts.{count_of};
-ghost use Rattle.front_index.specs.Fronts.{IsIndexed, has};
-ghost use Rattle.front_index.specs.Steps.{HasFronts, IsWith, pair_of};
+ghost use Rattle.front_index.specs.Fronts.{IsIndexed};
+ghost use Rattle.front_index.specs.Steps.{HasLater, IsKept, IsWith, IsWithLater, later_pair, pair_of};
 
 use crate::change::{Change, change_values};
 use crate::fronts::{Fronts, QueueMap};
@@ -20,12 +20,11 @@ use std::alloc::{AllocError, Allocator};
 use std::collections::{BTreeMap, BTreeSet};
 use std::mem::replace;
 
-/// Whether the last pair of the index is due, so that all are.
-pub(crate) fn is_last_due<A: Allocator>(fronts: &Fronts<A>, due: Due) -> bool {
-    match fronts.last() {
-        None => true,
-        Some(front) => due.is_due_at(front.0),
-    }
+/// Whether more than a sixteenth of the queues have a front that is due. To go over all of them then
+/// takes less time than to search for each that is due.
+pub(crate) fn are_many_due<A: Allocator>(fronts: &Fronts<A>, due: Due) -> bool {
+    let many = fronts.len() / 16 + 1;
+    fronts.iter().take(many).all(|front| due.is_due_at(front.0))
 }
 
 /// Adds references to what is due of the queue.
@@ -117,7 +116,8 @@ fn insert_front<A: Allocator + Copy>(
     time: Option<Moment>,
     path: &PathBuf<A>,
 ) -> Result<(), AllocError>
-    ensures { OnOk result (IsWith (pair_of time path.now) fronts.old fronts.new) }
+    ensures ok { OnOk result (IsWith (pair_of time path.now) fronts.old fronts.new) }
+    ensures grown { IsKept fronts.old fronts.new }
 {
     if let Some(time) = time {
         fronts.insert((time, path.clone()?))?;
@@ -133,25 +133,51 @@ fn counted(counts: bool, count: usize) -> usize
     if counts { count + 1 } else { count }
 }
 
-/// Puts the front of what is not due of each queue into an index that has none, and returns how many
-/// queues have a front that is due.
-fn add_rests<A: Allocator + Copy>(
+/// Puts the front of what is not due of the queue into the index, if the queue's front is due.
+fn insert_later<A: Allocator + Copy>(
+    fronts: &mut Fronts<A>,
+    path: &PathBuf<A>,
+    queue: &Queue<A>,
+    due: Due,
+) -> Result<(), AllocError>
+    ensures ok { OnOk result (IsWith (later_pair due (path.now, queue.now)) fronts.old fronts.new) }
+    ensures grown { IsKept fronts.old fronts.new }
+{
+    if !queue.is_front_due(due) {
+        return Ok(());
+    }
+    insert_front(fronts, queue.time_after(due), path)
+}
+
+/// Puts the fronts that come once what is due is gone into the index. If an allocation fails, it may
+/// have some of them.
+pub(crate) fn insert_all_later<A: Allocator + Copy>(
     fronts: &mut Fronts<A>,
     map: &QueueMap<A>,
     due: Due,
-) -> Result<usize, AllocError>
-    requires { (t : ℕ) (p : PathValue) → has fronts.old t p ≡ false }
-    ensures fronts { OnOk result (HasFronts fronts.new (rests (is_due due) map.now.entries)) }
-    ensures count { IfOk result (λ count. count ≡ due_fronts (is_due due) map.now.entries) }
+) -> Result<(), AllocError>
+    ensures ok { OnOk result (IsWithLater due map.now.entries fronts.old fronts.new) }
+    ensures grown { IsKept fronts.old fronts.new }
 {
-    // The proof reads here that the paths ascend, and that the queues can be counted.
+    // The proof reads here that the paths ascend.
+    let _len = map.len();
+    for (path, queue) in map {
+        insert_later(fronts, path, queue, due)?;
+    }
+    Ok(())
+}
+
+/// How many queues have a front that is due.
+fn count_due<A: Allocator>(map: &QueueMap<A>, due: Due) -> usize
+    ensures { result ≡ due_fronts (is_due due) map.now.entries }
+{
+    // The proof reads here that the queues can be counted.
     let _len = map.len();
     let mut count = 0;
-    for (path, queue) in map {
+    for (_path, queue) in map {
         count = counted(queue.is_front_due(due), count);
-        insert_front(fronts, queue.time_after(due), path)?;
     }
-    Ok(count)
+    count
 }
 
 /// Drops the due beginning of a queue.
@@ -170,23 +196,20 @@ impl<A: Allocator> Change<Queue<A>> for Trim {
     }
 }
 
-/// Drops the due beginning of each queue, and returns how many queues had one. The index of what is
-/// left is made first, by what alone can fail; if that is refused, nothing has changed.
-pub(crate) fn trim_all<A: Allocator + Copy>(
+/// Drops the due beginning of each queue. The index has the fronts that come already. Returns how many
+/// queues had a front that was due.
+pub(crate) fn trim_all<A: Allocator>(
     map: &mut QueueMap<A>,
     fronts: &mut Fronts<A>,
-    alloc: A,
     due: Due,
-) -> Result<usize, AllocError>
-    requires { IsIndexed fronts.old map.old.entries }
-    ensures count { IfOk result (λ count. count ≡ due_fronts (is_due due) map.old.entries) }
-    ensures ok { OnOk result (map.new.entries ≡ rests (is_due due) map.old.entries) }
-    ensures err { OnErr result (map.new.entries ≡ map.old.entries) }
+) -> usize
+    requires { HasLater due fronts.old map.old.entries }
+    ensures rests { map.new.entries ≡ rests (is_due due) map.old.entries }
     ensures indexed { IsIndexed fronts.new map.new.entries }
+    ensures count { result ≡ due_fronts (is_due due) map.old.entries }
 {
-    let mut later = BTreeSet::new(alloc);
-    let count = add_rests(&mut later, map, due)?;
+    let count = count_due(map, due);
     change_values(map, &Trim { due });
-    *fronts = later;
-    Ok(count)
+    fronts.retain(|front| !due.is_due_at(front.0));
+    count
 }

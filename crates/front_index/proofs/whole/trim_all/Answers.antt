@@ -1,10 +1,17 @@
-use Rattle.std.proofs.Common.{rules}
-use Rattle.event_queue.specs.Due.{is_due}
-use Rattle.front_index.proofs.FrontWhole.{filled-rests}
+use Rattle.std.proofs.Common.{◌∙◌, ap, not, rules}
+use Rattle.std.specs.BTreeMap.{is_at}
+use Rattle.std.specs.List.{list_any}
+use Rattle.std.proofs.lemmas.Fn.{filter_same}
+use Rattle.event_queue.specs.Due.{is_due_at}
+use Rattle.front_index.specs.Fronts.{front_cmp}
+use Rattle.front_index.proofs.FrontMoves.{filtered}
+use Rattle.front_index.proofs.FrontWhole.{indexed-trimmed}
 use Rattle.front_index.proofs.whole.trim_all.Goals as goal
 
-pub add_rests-requires : goal.add_rests-requires
-add_rests-requires g c = λ t p. search rules
-
 pub returns-clause-indexed : goal.returns-clause-indexed
-returns-clause-indexed g c = rw c.change_values.ensures (record { exact = c.in_ok-count.ensures.fronts; filled = filled-rests (is_due c.args.due) c.args.map.now.entries })
+returns-clause-indexed g c =
+    indexed-trimmed c.args.due c.args.fronts.now c.retain.new.self c.args.map.now.entries c.change_values.new.map.entries c.requires
+    (λ t p.
+    ap (list_any (is_at (front_cmp (t, p)))) (filter_same _ (λ k. not (is_due_at c.args.due k.0)) _ (λ x b f' t. search rules) c.args.fronts.now.keys c.retain.new.self.keys c.retain.ensures.filtered)
+    ∙ filtered (λ t p. not (is_due_at c.args.due t)) c.args.fronts.now.keys t p)
+    c.change_values.ensures
