@@ -1,7 +1,7 @@
-use Rattle.std.proofs.Common.{◌∙◌, ap, refl, ◌∷◌, []}
+use Rattle.std.proofs.Common.{◌∙◌, ap, refl}
 use Rattle.std.proofs.lemmas.Result.{on_ok_weaker}
 use Rattle.notify_types.specs.Event.{first_of}
-use Rattle.debounce_model.specs.Queues.{Queues, with_queue}
+use Rattle.debounce_model.specs.Queues.{with_queue}
 use Rattle.debounce_queues.proofs.queues.put_alone.Goals as goal
 
 pub put-requires : goal.put-requires

@@ -1,4 +1,4 @@
-use Rattle.std.proofs.Common.{◌≡◌, ◌∙◌, ◌||◌, ap, sym, refl, true, false, Bool, List}
+use Rattle.std.proofs.Common.{◌∙◌, ◌||◌, ap, sym, List}
 use Rattle.std.specs.List.{flat_map}
 use Rattle.notify_types.specs.Event.{Timed}
 use Rattle.notify_paths.specs.Path.{PathValue}
