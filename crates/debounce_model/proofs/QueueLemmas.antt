@@ -39,7 +39,7 @@ pub put_before_drop : (queues : Queues) (path : PathValue) (q : List Timed) → 
 put_before_drop queues path q s =
     filter-insert_entry path_cmp_total (λ k. not (is_below k path)) queues path q s (not_below_itself path) (λ y e. rw (sym (same_path path y e)) (not_below_itself path))
 
--- a removal of what wasn't created leaves its event alone
+-- a removal of what wasn't created waits in the place of its path's queue
 pub removal_of_others : (queues : Queues) (path : PathValue) (x : Timed) → was_created_at (queue_at queues path) ≡ false → with_queue (without_below queues path) path (x ∷ []) ≡ removal queues path x
 removal_of_others queues path x h = rw h refl
 

@@ -106,6 +106,7 @@ const STORIES: [&str; 8] = [
     "modify /a, create /b, create /a/x; tick",
     "modify /a, create /b, later /a, later /c; tick",
     "modify /a, modify /b, later /a, later /b; tick",
+    // one of sixteen queues is due: the tick finds it by the index
     "modify /z, later /z, later /a, later /b, later /c, later /d, later /e, later /f, later /g, \
      later /h, later /i, later /j, later /k, later /l, later /m, later /n, later /o; tick",
 ];

@@ -136,19 +136,19 @@ HasLater due fronts queues =
 abbrev pub HasDue : Due → FrontSet → Queues → Type 0
 HasDue due fronts queues = (t : ℕ) (p : PathValue) → is_due_at due t ≡ true → has fronts t p ≡ is_front queues t p
 
--- a front comes once what is due is gone
+-- a later front: of what is not due of a queue whose front is due
 abbrev pub is_later_front : Due → Queues → ℕ → PathValue → Bool
 is_later_front due queues t p = is_due_front due (queue_at queues p) && is_time (front_after due (queue_at queues p)) t
 
--- the pairs are the fronts that come
+-- the pairs are the later fronts
 abbrev pub AreLater : Due → Queues → List (ℕ × PathValue) → Type 0
 AreLater due queues pairs = (t : ℕ) (p : PathValue) → has_pair pairs t p ≡ is_later_front due queues t p
 
--- the fronts that come were put in
+-- the later fronts were put in
 abbrev pub IsWithLater : Due → Queues → FrontSet → FrontSet → Type 0
 IsWithLater due queues old new = (t : ℕ) (p : PathValue) → has new t p ≡ (is_later_front due queues t p || has old t p)
 
--- .. with that of the path
+-- the pairs, with that of the path's later front
 abbrev pub AddsLater : Due → Queues → PathValue → List (ℕ × PathValue) → List (ℕ × PathValue) → Type 0
 AddsLater due queues path old new =
     (t : ℕ) (p : PathValue)

@@ -8,7 +8,7 @@
 //!
 //! ```text
 //! put_new(&mut map, &mut fronts, path, time, queue)?;
-//! if is_any_due(&fronts, due) {
+//! if is_any_due(&map, &fronts, due) {
 //!     let opened = trim(&mut map, &mut fronts, rt.alloc(), due)?;
 //! }
 //! ```

@@ -82,7 +82,7 @@ fn add_later<A: Allocator + Copy>(
     Ok(())
 }
 
-/// The pairs that come once what is due is gone: the rest of each queue that is due in part has another
+/// The later fronts, by the pairs that are due: the rest of each queue that is due in part has another
 /// front.
 fn later_fronts<A: Allocator + Copy>(
     map: &QueueMap<A>,
@@ -119,7 +119,7 @@ fn add_fronts<A: Allocator + Copy>(
     Ok(())
 }
 
-/// Puts the fronts that come once what is due is gone into the index. If an allocation fails, it may
+/// Puts the later fronts into the index, by the way that takes less time. If an allocation fails, it may
 /// have some of them.
 fn insert_later_fronts<A: Allocator + Copy>(
     fronts: &mut Fronts<A>,
@@ -146,8 +146,8 @@ fn tidy<A: Allocator>(map: &QueueMap<A>, fronts: &mut Fronts<A>)
     fronts.retain(|front| is_front(map, &front.1, front.0));
 }
 
-/// Drops the due beginning of each queue. The index has the fronts that come already. Returns how many
-/// queues had a front that was due.
+/// Drops the due beginning of each queue, by the way that takes less time. The index has the later
+/// fronts already. Returns how many queues had a front that was due.
 fn trim_queues<A: Allocator>(map: &mut QueueMap<A>, fronts: &mut Fronts<A>, due: Due) -> usize
     requires later { HasLater due fronts.old map.old.entries }
     requires now { HasDue due fronts.old map.old.entries }

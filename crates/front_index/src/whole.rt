@@ -1,7 +1,6 @@
 //! A tick at which many queues are due: it goes over all queues in the order of their paths, and needs no
 //! search.
-ghost use Rattle.std.specs.Prelude.{◌≡◌, ◌==◌, ◌++◌, ◌+◌, ◌-◌, ◌^◌, ◌<◌, ◌≤◌, ℕ, [], OnOk, OnErr, IfOk, false, length, vec_len, vec_capacity};
-ghost use Rattle.notify_paths.specs.Path.{PathValue};
+ghost use Rattle.std.specs.Prelude.{◌≡◌, ◌==◌, ◌++◌, ◌+◌, ◌-◌, ◌^◌, ◌<◌, ◌≤◌, [], OnOk, length, vec_len, vec_capacity};
 ghost use Rattle.notify_types.specs.Borrowed.{borrowed};
 ghost use Rattle.debounce_model.specs.Due.{due_fronts, expired_beginning, last_of_kind, place_list, rest_after, rests, waits};
 ghost use Rattle.event_queue.specs.Due.{is_due};
@@ -125,15 +124,7 @@ fn insert_front<A: Allocator + Copy>(
     Ok(())
 }
 
-/// One more, if a queue counts.
-fn counted(counts: bool, count: usize) -> usize
-    requires { count < 2 ^ 64 - 1 }
-    ensures { result ≡ count_of counts count }
-{
-    if counts { count + 1 } else { count }
-}
-
-/// Puts the front of what is not due of the queue into the index, if the queue's front is due.
+/// Puts the queue's later front into the index: that of what is not due, if the queue's front is due.
 fn insert_later<A: Allocator + Copy>(
     fronts: &mut Fronts<A>,
     path: &PathBuf<A>,
@@ -149,8 +140,8 @@ fn insert_later<A: Allocator + Copy>(
     insert_front(fronts, queue.time_after(due), path)
 }
 
-/// Puts the fronts that come once what is due is gone into the index. If an allocation fails, it may
-/// have some of them.
+/// Puts the later fronts into the index, by a look at each queue. If an allocation fails, it may have
+/// some of them.
 pub(crate) fn insert_all_later<A: Allocator + Copy>(
     fronts: &mut Fronts<A>,
     map: &QueueMap<A>,
@@ -165,6 +156,14 @@ pub(crate) fn insert_all_later<A: Allocator + Copy>(
         insert_later(fronts, path, queue, due)?;
     }
     Ok(())
+}
+
+/// One more, if a queue counts.
+fn counted(counts: bool, count: usize) -> usize
+    requires { count < 2 ^ 64 - 1 }
+    ensures { result ≡ count_of counts count }
+{
+    if counts { count + 1 } else { count }
 }
 
 /// How many queues have a front that is due.
@@ -196,8 +195,8 @@ impl<A: Allocator> Change<Queue<A>> for Trim {
     }
 }
 
-/// Drops the due beginning of each queue. The index has the fronts that come already. Returns how many
-/// queues had a front that was due.
+/// Drops the due beginning of each queue, and from the index each pair that is due; the later fronts are
+/// in it already. Returns how many queues had a front that was due.
 pub(crate) fn trim_all<A: Allocator>(
     map: &mut QueueMap<A>,
     fronts: &mut Fronts<A>,
