@@ -1,10 +1,10 @@
 //! The joined rename at its two paths, in the map of the queues.
-ghost use Rattle.std.specs.Prelude.{◌≡◌, OnOk, OnErr, option_copied};
+ghost use Rattle.std.specs.Prelude.{◌≡◌, [], OnOk, OnErr, option_copied, unwrap_or};
 ghost use Rattle.std.specs.List.Sorted.{IsStrictlySortedBy};
 ghost use Rattle.std.specs.Map.{keys_of};
 ghost use Rattle.notify_paths.specs.Path.{path_cmp};
-ghost use Rattle.debounce_model.specs.Queues.{queue_at, with_queue, events_at};
-ghost use Rattle.debounce_model.specs.Rename.{first_both, without_both, staying, moving};
+ghost use Rattle.debounce_model.specs.Queues.{with_queue, events_at};
+ghost use Rattle.debounce_model.specs.Rename.{first_both, without_last, without_both, staying, moving};
 ghost use Rattle.debounce_model.specs.MapSteps.{before_half, left_at};
 ghost use Rattle.debounce_model.specs.WellFormed.{IsBothInFront};
 ghost use Rattle.event_queue.specs.Renames.{halves_by, source_path};
@@ -18,17 +18,24 @@ use notify_paths::path::PathBuf;
 use notify_types::event::DebouncedEvent;
 use std::alloc::{AllocError, Allocator};
 
-/// What waits at the path.
-fn events_at<'a, A: Allocator>(
-    queues: &'a QueueMap<A>,
-    path: &PathBuf<A>,
-) -> &'a [DebouncedEvent<A>]
-    ensures { result.now ≡ events_at queues.now.entries path.now }
+/// The events of the queue, if there is one.
+fn events_in<A: Allocator>(queue: Option<&Queue<A>>) -> &[DebouncedEvent<A>]
+    ensures { result.now ≡ unwrap_or (option_copied queue.entry) [] }
 {
-    match queues.get(path) {
+    match queue {
         None => &[],
         Some(queue) => queue.events(),
     }
+}
+
+/// What waits at the source of a rename, of which this is the queue. The rename's first half came last there.
+pub(crate) fn source_in<A: Allocator>(queue: Option<&Queue<A>>) -> Source<'_, A>
+    requires { IsBothInFront (unwrap_or (option_copied queue) []) }
+    ensures earlier { option_copied result.earlier ≡ first_both (without_last (unwrap_or (option_copied queue.entry) [])) }
+    ensures stays { option_copied result.stays ≡ staying (without_both (without_last (unwrap_or (option_copied queue.entry) []))) }
+    ensures moving { result.moving.now ≡ moving (without_both (without_last (unwrap_or (option_copied queue.entry) []))) }
+{
+    source_of(without_last(events_in(queue)))
 }
 
 /// What waits at the source of a rename whose first half came last there.
@@ -41,14 +48,14 @@ pub(crate) fn source_at<'a, A: Allocator>(
     ensures stays { option_copied result.stays ≡ staying (without_both (before_half queues.now.entries from.now)) }
     ensures moving { result.moving.now ≡ moving (without_both (before_half queues.now.entries from.now)) }
 {
-    source_of(without_last(events_at(queues, from)))
+    source_in(queues.get(from))
 }
 
-/// What a rename finds at the path, if it is no rename to its own path.
-pub(crate) fn target_at<A: Allocator>(queues: &QueueMap<A>, path: &PathBuf<A>) -> Target
-    ensures { result ≡ target_of (queue_at queues.now.entries path.now) }
+/// What a rename finds at its target, of which this is the queue. It is no rename to its own path.
+pub(crate) fn target_in<A: Allocator>(queue: Option<&Queue<A>>) -> Target
+    ensures { result ≡ target_of (option_copied queue.entry) }
 {
-    match queues.get(path) {
+    match queue {
         None => Target::Free,
         Some(queue) => as_target(queue),
     }
@@ -66,7 +73,7 @@ fn target<A: Allocator>(
     if *from == *to {
         return source.as_target();
     }
-    target_at(queues, to)
+    target_in(queues.get(to))
 }
 
 /// Puts a queue in the place of what waits at the path.

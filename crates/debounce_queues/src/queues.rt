@@ -1,8 +1,8 @@
 //! The queues of all paths.
-ghost use Rattle.std.specs.Prelude.{◌≡◌, ◌==◌, ◌++◌, ◌+◌, ◌∷◌, ◌<◌, ◌≤◌, ◌^◌, [], OnOk, OnErr, IfOk, false, length, vec_len, vec_capacity};
+ghost use Rattle.std.specs.Prelude.{◌≡◌, ◌==◌, ◌++◌, ◌+◌, ◌∷◌, ◌<◌, ◌≤◌, ◌^◌, [], OnOk, OnErr, IfOk, false, length, option_copied, vec_len, vec_capacity};
 ghost use Rattle.notify_types.specs.Borrowed.{borrowed};
 ghost use Rattle.notify_types.specs.Event.{first_of};
-ghost use Rattle.front_index.specs.Fronts.{IsIndexed};
+ghost use Rattle.front_index.specs.Fronts.{IsIndexed, front_of};
 ghost use Rattle.debounce_queues.specs.Replaced.{replaced};
 ghost use Rattle.debounce_model.specs.Due.{place_list, rests, is_any_due, due_fronts};
 ghost use Rattle.debounce_model.specs.Memory.{skips_it, cancels};
@@ -18,14 +18,15 @@ use event_queue::due::Due;
 use event_queue::queue::Queue;
 use event_queue::rename::{FirstHalf, Rename};
 use front_index::below::{drop_below, remove as take_out};
-use front_index::fronts::{Fronts, QueueMap, is_any_due};
+use front_index::fronts::{Fronts, QueueMap, front_of, is_any_due};
 use front_index::places::lend_places;
 use front_index::put::{put, put_new};
 use front_index::tick::trim;
 use front_index::whole::{is_all_due, take_places};
-use notify_paths::below::count_below;
+use notify_paths::below::{Found, find};
 use notify_paths::path::PathBuf;
 use notify_types::event::{DebouncedEvent, Event};
+use notify_types::time::Moment;
 use std::alloc::{AllocError, Allocator, Global};
 use std::collections::{BTreeMap, BTreeSet};
 use std::marker::Model;
@@ -252,11 +253,11 @@ fn push<A: Allocator + Copy>(
     put_new(queues, fronts, key, time, single(alloc, event)?)
 }
 
-/// Whether a queue waits at the path that was created.
-fn was_created_at<A: Allocator>(queues: &QueueMap<A>, path: &PathBuf<A>) -> bool
-    ensures { result ≡ was_created_at (queue_at queues.now.entries path.now) }
+/// Whether there is a queue, and it was created.
+fn was_created<A: Allocator>(queue: Option<&Queue<A>>) -> bool
+    ensures { result ≡ was_created_at (option_copied queue.entry) }
 {
-    match queues.get(path) {
+    match queue {
         Some(queue) => queue.was_created(),
         None => false,
     }
@@ -277,16 +278,19 @@ fn drop_at<A: Allocator + Copy>(
     take_out(queues, fronts, path);
 }
 
-/// Puts the event alone in the place of what waits at its first path.
+/// Puts the event alone in the place of what waits at its first path, where the front, if there was one,
+/// was of this time.
 fn put_alone<A: Allocator + Copy>(
     queues: &mut QueueMap<A>,
     fronts: &mut Fronts<A>,
     spare: &mut PathBuf<A>,
     alloc: A,
+    was: Option<Moment>,
     event: DebouncedEvent<A>,
 ) -> Result<(), AllocError>
     requires path { 0 < length event.event.paths }
     requires indexed { IsIndexed fronts.old queues.old.entries }
+    requires was { was ≡ front_of (queue_at queues.old.entries (first_of event.event.paths)) }
     ensures ok { OnOk result (queues.new.entries ≡ with_queue queues.old.entries (first_of event.event.paths) (event ∷ [])) }
     ensures err { OnErr result (queues.new.entries ≡ queues.old.entries) }
     ensures indexed { IsIndexed fronts.new queues.new.entries }
@@ -294,31 +298,30 @@ fn put_alone<A: Allocator + Copy>(
     let path = first_path(&event);
     let time = event.time();
     let key = new_key(spare, path)?;
-    put(queues, fronts, key, time, single(alloc, event)?)
+    put(queues, fronts, key, was, time, single(alloc, event)?)
 }
 
-/// Drops what waits below the event's first path, and puts the event in the place of what waits there.
+/// Drops what waits below the event's first path, and puts the event in the place of what waits there,
+/// where the front, if there was one, was of this time.
 fn replace<A: Allocator + Copy>(
     queues: &mut QueueMap<A>,
     fronts: &mut Fronts<A>,
     spare: &mut PathBuf<A>,
     alloc: A,
+    was: Option<Moment>,
     event: DebouncedEvent<A>,
 ) -> Result<(), AllocError>
     requires path { 0 < length event.event.paths }
     requires indexed { IsIndexed fronts.old queues.old.entries }
+    requires was { was ≡ front_of (queue_at queues.old.entries (first_of event.event.paths)) }
     ensures ok { OnOk result (queues.new.entries ≡ replaced queues.old.entries (first_of event.event.paths) event) }
     ensures err { OnErr result (queues.new.entries ≡ queues.old.entries) }
     ensures indexed { IsIndexed fronts.new queues.new.entries }
 {
     // The proof reads here that the paths ascend.
     let _len = queues.len();
-    let path = first_path(&event);
-    if count_below(queues, path) == 0 {
-        return put_alone(queues, fronts, spare, alloc, event);
-    }
-    let folder = path.clone()?;
-    put_alone(queues, fronts, spare, alloc, event)?;
+    let folder = first_path(&event).clone()?;
+    put_alone(queues, fronts, spare, alloc, was, event)?;
     drop_below(queues, fronts, &folder, spare);
     Ok(())
 }
@@ -338,9 +341,17 @@ fn remove<A: Allocator + Copy>(
     ensures indexed { IsIndexed fronts.new queues.new.entries }
 {
     let path = first_path(&event);
-    if was_created_at(queues, path) {
+    let Found {
+        value: queue,
+        has_below,
+    } = find(queues, path);
+    if was_created(queue) {
         drop_at(queues, fronts, spare, path);
         return Ok(());
     }
-    replace(queues, fronts, spare, alloc, event)
+    let was = front_of(queue);
+    if has_below {
+        return replace(queues, fronts, spare, alloc, was, event);
+    }
+    put_alone(queues, fronts, spare, alloc, was, event)
 }

@@ -4,24 +4,24 @@ ghost use Rattle.std.specs.List.Sorted.{IsStrictlySortedBy};
 ghost use Rattle.std.specs.Map.{keys_of};
 ghost use Rattle.notify_paths.specs.Path.{path_cmp};
 ghost use Rattle.debounce_model.specs.Moved.{below_of, are_apart};
-ghost use Rattle.debounce_model.specs.Queues.{with_queue, without_queue};
+ghost use Rattle.debounce_model.specs.Queues.{queue_at, with_queue, without_queue};
 ghost use Rattle.debounce_model.specs.WellFormed.{AreQueues, IsQueueMap};
 ghost use Rattle.event_queue.specs.Front.{front_time};
 ghost use Rattle.event_queue.specs.Renames.{halves_by, joined_by};
-ghost use Rattle.front_index.specs.Fronts.{IsIndexed};
+ghost use Rattle.front_index.specs.Fronts.{IsIndexed, front_of};
 ghost use Rattle.front_index.specs.Steps.{DifferAt, IsKept, IsWith, pairs_of};
 ghost use Rattle.debounce_queues.specs.Touched.{moved_pair, moved_pairs, fronts_after, fronts_of_two, fronts_of_all, touches_two};
 
-use crate::halves::{join_halves, source_at, target_at};
+use crate::halves::{join_halves, source_at, source_in, target_in};
 use crate::joined::{are_apart, join};
 use crate::map::new_key;
 use event_queue::queue::Queue;
 use event_queue::rename::{Rename, Source, arrived};
 use front_index::below::remove as take_out;
-use front_index::fronts::{Fronts, QueueMap};
+use front_index::fronts::{Fronts, QueueMap, front_of};
 use front_index::put::put;
 use front_index::settle::{Pairs, add_front_at, add_pair, insert_copies, settle};
-use notify_paths::below::count_below;
+use notify_paths::below::{count_below, find};
 use notify_paths::path::PathBuf;
 use notify_types::time::Moment;
 use std::alloc::{AllocError, Allocator};
@@ -186,16 +186,19 @@ fn join_by_pairs<A: Allocator + Copy>(
     joined
 }
 
-/// Puts a queue at a path, and takes out what waits at another.
+/// Puts a queue at a path, at which the front, if there was one, was of this time, and takes out what waits
+/// at another.
 fn put_and_take<A: Allocator + Copy>(
     queues: &mut QueueMap<A>,
     fronts: &mut Fronts<A>,
     from: &PathBuf<A>,
     to: PathBuf<A>,
+    was: Option<Moment>,
     queue: Queue<A>,
 ) -> Result<(), AllocError>
     requires filled { is_some (front_time queue) ≡ true }
     requires indexed { IsIndexed fronts.old queues.old.entries }
+    requires was { was ≡ front_of (queue_at queues.old.entries to) }
     ensures ok { OnOk result (queues.new.entries ≡ without_queue (with_queue queues.old.entries to queue) from.now) }
     ensures err { OnErr result (queues.new.entries ≡ queues.old.entries) }
     ensures indexed { IsIndexed fronts.new queues.new.entries }
@@ -203,37 +206,9 @@ fn put_and_take<A: Allocator + Copy>(
     let Some(time) = queue.front_time() else {
         return Err(AllocError);
     };
-    put(queues, fronts, to, time, queue)?;
+    put(queues, fronts, to, was, time, queue)?;
     take_out(queues, fronts, from);
     Ok(())
-}
-
-/// The joined rename at its two paths. Mostly nothing stays at the source, and then it just goes, once the
-/// target has its queue.
-fn join_two<A: Allocator + Copy>(
-    queues: &mut QueueMap<A>,
-    fronts: &mut Fronts<A>,
-    spare: &mut PathBuf<A>,
-    alloc: A,
-    rename: Rename<'_, A>,
-) -> Result<(), AllocError>
-    requires map { IsQueueMap queues.old.entries }
-    requires indexed { IsIndexed fronts.old queues.old.entries }
-    ensures ok { OnOk result (queues.new.entries ≡ halves_by queues.old.entries rename.entry) }
-    ensures err { OnErr result (queues.new.entries ≡ queues.old.entries) }
-    ensures indexed { IsIndexed fronts.new queues.new.entries }
-{
-    if *rename.from == *rename.to {
-        return join_by_pairs(queues, fronts, spare, alloc, rename);
-    }
-    let source = source_at(queues, rename.from);
-    if source.staying_time().is_some() {
-        return join_by_pairs(queues, fronts, spare, alloc, rename);
-    }
-    let from = rename.from;
-    let to = new_key(spare, rename.to)?;
-    let queue = arrived(alloc, &source, target_at(queues, rename.to), rename)?;
-    put_and_take(queues, fronts, from, to, queue)
 }
 
 /// The joined rename with what goes along, after the index got these pairs.
@@ -280,7 +255,7 @@ fn join_all<A: Allocator + Copy>(
 
 /// The joined rename whose first half is what came last at its source. If nothing waits below its two
 /// paths, or one of them lies at or below the other, only the queues at these two change.
-pub(crate) fn join_indexed<A: Allocator + Copy>(
+fn join_by_index<A: Allocator + Copy>(
     queues: &mut QueueMap<A>,
     fronts: &mut Fronts<A>,
     spare: &mut PathBuf<A>,
@@ -294,7 +269,40 @@ pub(crate) fn join_indexed<A: Allocator + Copy>(
     ensures indexed { IsIndexed fronts.new queues.new.entries }
 {
     if touches_two(queues, rename.from, rename.to) {
-        return join_two(queues, fronts, spare, alloc, rename);
+        return join_by_pairs(queues, fronts, spare, alloc, rename);
     }
     join_all(queues, fronts, spare, alloc, rename)
+}
+
+/// The joined rename whose first half is what came last at its source. Mostly nothing waits below its two
+/// paths and nothing stays at the source; then the target gets its queue, and the source goes.
+pub(crate) fn join_indexed<A: Allocator + Copy>(
+    queues: &mut QueueMap<A>,
+    fronts: &mut Fronts<A>,
+    spare: &mut PathBuf<A>,
+    alloc: A,
+    rename: Rename<'_, A>,
+) -> Result<(), AllocError>
+    requires map { IsQueueMap queues.old.entries }
+    requires indexed { IsIndexed fronts.old queues.old.entries }
+    ensures ok { OnOk result (queues.new.entries ≡ joined_by queues.old.entries rename.entry) }
+    ensures err { OnErr result (queues.new.entries ≡ queues.old.entries) }
+    ensures indexed { IsIndexed fronts.new queues.new.entries }
+{
+    let from = rename.from;
+    let leaving = find(queues, from);
+    let replaced = find(queues, rename.to);
+    let source = source_in(leaving.value);
+    if *from == *rename.to
+        || leaving.has_below
+        || replaced.has_below
+        || source.staying_time().is_some()
+    {
+        return join_by_index(queues, fronts, spare, alloc, rename);
+    }
+    let target = target_in(replaced.value);
+    let was = front_of(replaced.value);
+    let to = new_key(spare, rename.to)?;
+    let queue = arrived(alloc, &source, target, rename)?;
+    put_and_take(queues, fronts, from, to, was, queue)
 }

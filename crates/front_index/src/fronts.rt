@@ -1,5 +1,5 @@
 //! The index, and what it says of what is due.
-ghost use Rattle.std.specs.Prelude.{◌≡◌, ◌<◌, IfSome, IfNone, true, false, length};
+ghost use Rattle.std.specs.Prelude.{◌≡◌, ◌<◌, IfSome, IfNone, true, false, length, option_copied};
 ghost use Rattle.debounce_model.specs.Due.{is_any_due};
 ghost use Rattle.debounce_model.specs.Queues.{queue_at};
 ghost use Rattle.event_queue.specs.Due.{is_due, is_due_at};
@@ -19,11 +19,11 @@ pub type QueueMap<A> = BTreeMap<PathBuf<A>, Queue<A>, A>;
 /// The index: pairs of the time of a queue's front, in nanoseconds, and the queue's path.
 pub type Fronts<A> = BTreeSet<(Moment, PathBuf<A>), A>;
 
-/// Returns the time of the front of what waits at the path.
-pub(crate) fn front_at<A: Allocator>(map: &QueueMap<A>, path: &PathBuf<A>) -> Option<Moment>
-    ensures { result ≡ front_of (queue_at map.now.entries path.now) }
+/// Returns the time of the front of the queue, if there is one.
+pub fn front_of<A: Allocator>(queue: Option<&Queue<A>>) -> Option<Moment>
+    ensures { result ≡ front_of (option_copied queue.entry) }
 {
-    match map.get(path) {
+    match queue {
         None => None,
         Some(queue) => queue.front_time(),
     }
@@ -33,7 +33,7 @@ pub(crate) fn front_at<A: Allocator>(map: &QueueMap<A>, path: &PathBuf<A>) -> Op
 pub(crate) fn is_front<A: Allocator>(map: &QueueMap<A>, path: &PathBuf<A>, time: Moment) -> bool
     ensures { result ≡ is_front map.now.entries time path.now }
 {
-    match front_at(map, path) {
+    match front_of(map.get(path)) {
         None => false,
         Some(front) => front == time,
     }

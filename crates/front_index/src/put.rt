@@ -1,13 +1,10 @@
 //! A queue is put at a path, and its front into the index.
 ghost use Rattle.std.specs.Prelude.{◌≡◌, ◌≢◌, Some, None, true, is_some, OnOk, OnErr};
-ghost use Rattle.std.specs.List.Sorted.{IsStrictlySortedBy};
-ghost use Rattle.std.specs.Map.{keys_of};
-ghost use Rattle.notify_paths.specs.Path.{path_cmp};
 ghost use Rattle.debounce_model.specs.Queues.{queue_at, with_queue};
 ghost use Rattle.event_queue.specs.Front.{front_time};
 ghost use Rattle.front_index.specs.Fronts.{IsIndexed, front_of};
 
-use crate::fronts::{Fronts, QueueMap, front_at};
+use crate::fronts::{Fronts, QueueMap};
 use event_queue::queue::Queue;
 use notify_paths::path::PathBuf;
 use notify_types::time::Moment;
@@ -73,25 +70,24 @@ fn put_over<A: Allocator + Copy>(
     Ok(())
 }
 
-/// Puts a queue in the place of what waits at the path; its front is of this time. If an allocation
-/// fails, nothing has changed.
+/// Puts a queue in the place of what waits at the path, whose front, if it has one, was of the one time;
+/// the queue's own is of the other. If an allocation fails, nothing has changed.
 pub fn put<A: Allocator + Copy>(
     map: &mut QueueMap<A>,
     fronts: &mut Fronts<A>,
     path: PathBuf<A>,
+    was: Option<Moment>,
     time: Moment,
     queue: Queue<A>,
 ) -> Result<(), AllocError>
     requires indexed { IsIndexed fronts.old map.old.entries }
+    requires was { was ≡ front_of (queue_at map.old.entries path) }
     requires front { front_time queue ≡ Some time }
     ensures ok { OnOk result (map.new.entries ≡ with_queue map.old.entries path queue) }
     ensures err { OnErr result (map.new.entries ≡ map.old.entries) }
     ensures indexed { IsIndexed fronts.new map.new.entries }
-    ensures was_ordered { IsStrictlySortedBy path_cmp (keys_of map.old.entries) }
 {
-    // The proof reads here that the paths ascend.
-    let _len = map.len();
-    let Some(was) = front_at(map, &path) else {
+    let Some(was) = was else {
         return put_new(map, fronts, path, time, queue);
     };
     if was == time {

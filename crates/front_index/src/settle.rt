@@ -3,7 +3,7 @@
 ghost use Rattle.std.specs.Prelude.{◌≡◌, ◌++◌, OnOk, OnErr};
 ghost use Rattle.front_index.specs.Steps.{DifferAt, IsKept, IsSame, IsSettled, IsSettledPair, IsWith, IsWithPair, front_pair, pair_of};
 
-use crate::fronts::{Fronts, QueueMap, front_at, is_front};
+use crate::fronts::{Fronts, QueueMap, front_of, is_front};
 use notify_paths::path::PathBuf;
 use notify_types::time::Moment;
 use std::alloc::{AllocError, Allocator};
@@ -33,7 +33,7 @@ pub fn add_front_at<A: Allocator + Copy>(
 ) -> Result<(), AllocError>
     ensures { OnOk result (pairs.new.items ≡ pairs.old.items ++ front_pair map.now.entries path.now) }
 {
-    add_pair(pairs, front_at(map, path), path)
+    add_pair(pairs, front_of(map.get(path)), path)
 }
 
 /// Puts a copy of the pair into the index, unless it is there.

@@ -1,5 +1,6 @@
 pub mod Texts
 pub mod Prefixes
+pub mod Finds
 pub mod Removals
 pub mod Orders
 pub mod Begins

@@ -35,7 +35,7 @@ prefix_not_behind (x ∷ p) (y ∷ k) b g = by (part_cmp x y) refl (prefix_not_b
     by Equal q more = more (rw q at b) (rw q at g)
 
 -- behind p, what does not have p as a prefix stands behind all that does
-run_ends : (p a b : PathValue) → (path_cmp p a ≡ Greater → ⊥) → is_prefix p a ≡ false → path_cmp a b ≡ Less → is_prefix p b ≡ false
+pub run_ends : (p a b : PathValue) → (path_cmp p a ≡ Greater → ⊥) → is_prefix p a ≡ false → path_cmp a b ≡ Less → is_prefix p b ≡ false
 run_ends [] a b from none up = absurd (true≢false none)
 run_ends (x ∷ p) [] b from none up = absurd (from refl)
 run_ends (x ∷ p) (y ∷ a) [] from none up = cc
@@ -84,7 +84,7 @@ other_below p k n = by (path_cmp p k) refl
     by Greater q = below_by_order p k Greater q ∙ and_true (is_prefix p k)
 
 -- what stands in front of p does not have it as a prefix
-front_no_prefix : (p k : PathValue) → path_cmp p k ≡ Greater → is_prefix p k ≡ false
+pub front_no_prefix : (p k : PathValue) → path_cmp p k ≡ Greater → is_prefix p k ≡ false
 front_no_prefix p k g = by (is_prefix p k) refl
   where
     by : (b : Bool) → is_prefix p k ≡ b → b ≡ false
