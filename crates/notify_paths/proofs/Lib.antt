@@ -4,6 +4,7 @@ pub mod Finds
 pub mod Removals
 pub mod Orders
 pub mod Begins
+pub mod Digits
 pub mod Words
 pub mod Normals
 pub mod Joins

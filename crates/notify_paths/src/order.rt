@@ -1,6 +1,6 @@
 //! The order of paths, by their texts: eight bytes at a time, and only if a `.` or `..` may be where
 //! they differ, part by part.
-ghost use Rattle.std.specs.Prelude.{◌≡◌, ◌≢◌, ◌+◌, ◌*◌, ◌<◌, ◌≤◌, length, take, slice_index};
+ghost use Rattle.std.specs.Prelude.{◌≡◌, ◌≢◌, ◌+◌, ◌*◌, ◌%◌, ◌^◌, ◌<◌, ◌≤◌, length, take, slice_index};
 ghost use Rattle.std.specs.Int.{w64, from_le_bytes};
 ghost use Rattle.std.specs.Path.{IsWellFormedComponent};
 ghost use Rattle.notify_paths.specs.Path.{part_rank, part_bytes, path_cmp};
@@ -29,12 +29,23 @@ fn word_at(text: &[u8], i: usize) -> u64
     ])
 }
 
+/// How many bytes two words have in common, from the lowest on. The words differ.
+fn common_bytes(a: u64, b: u64) -> usize
+    requires { a ≢ b }
+    ensures within { result < 8 }
+    ensures same { a % 2 ^ (8 * result) ≡ b % 2 ^ (8 * result) }
+    ensures stop { a % 2 ^ (8 * result + 8) ≢ b % 2 ^ (8 * result + 8) }
+{
+    ((a ^ b).trailing_zeros() / 8) as usize
+}
+
 /// How many words of eight bytes, of the first `count`, two texts have in common at their front.
 fn common_words(a: &[u8], b: &[u8], count: usize) -> usize
     requires a { count * 8 ≤ length a.now }
     requires b { count * 8 ≤ length b.now }
     ensures within { result ≤ count }
     ensures same { take (result * 8) a.now ≡ take (result * 8) b.now }
+    ensures stop { result < count → from_le_bytes w64 (eight_bytes a.now (result * 8)) ≢ from_le_bytes w64 (eight_bytes b.now (result * 8)) }
 {
     for k in 0..count {
         if word_at(a, k * 8) != word_at(b, k * 8) {
@@ -52,7 +63,11 @@ fn common_len(a: &[u8], b: &[u8]) -> usize
     ensures stop { result < length a.now → result < length b.now → slice_index a.now result ≢ slice_index b.now result }
 {
     let both = a.len().min(b.len());
-    let mut i = common_words(a, b, both / 8) * 8;
+    let count = common_words(a, b, both / 8);
+    let mut i = count * 8;
+    if count < both / 8 {
+        return i + common_bytes(word_at(a, i), word_at(b, i));
+    }
     while i < both && a[i] == b[i] {
         i += 1;
     }

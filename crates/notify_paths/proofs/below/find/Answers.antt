@@ -1,7 +1,6 @@
 -- The first two entries from the path on say what stands at it, and whether something lies below.
 use Rattle.std.proofs.Common.{rules, ◌≡◌, ◌∙◌, ap, sym, true, false, [], ◌∷◌}
-use Rattle.std.specs.Prelude.{if◌then◌else◌}
-use Rattle.notify_paths.specs.Path.{path_eq, is_prefix}
+use Rattle.notify_paths.specs.Path.{path_eq}
 use Rattle.notify_paths.proofs.Finds.{entries_from, found, found_in_all, starts_within}
 use Rattle.notify_paths.proofs.below.find.Goals as goal
 use Rattle.notify_paths.proofs.below.find.Goals.{in-Some-next, in-None}
