@@ -28,7 +28,7 @@ fn events_in<A: Allocator>(queue: Option<&Queue<A>>) -> &[DebouncedEvent<A>]
     }
 }
 
-/// What waits at the source of a rename, of which this is the queue. The rename's first half came last there.
+/// What waits at the source of a rename, whose queue this is. The rename's first half came last in it.
 pub(crate) fn source_in<A: Allocator>(queue: Option<&Queue<A>>) -> Source<'_, A>
     requires { IsBothInFront (unwrap_or (option_copied queue) []) }
     ensures earlier { option_copied result.earlier ≡ first_both (without_last (unwrap_or (option_copied queue.entry) [])) }
@@ -51,7 +51,7 @@ pub(crate) fn source_at<'a, A: Allocator>(
     source_in(queues.get(from))
 }
 
-/// What a rename finds at its target, of which this is the queue. It is no rename to its own path.
+/// What a rename finds at its target, whose queue this is, if it is no rename to its own path.
 pub(crate) fn target_in<A: Allocator>(queue: Option<&Queue<A>>) -> Target
     ensures { result ≡ target_of (option_copied queue.entry) }
 {

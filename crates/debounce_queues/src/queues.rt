@@ -278,8 +278,8 @@ fn drop_at<A: Allocator + Copy>(
     take_out(queues, fronts, path);
 }
 
-/// Puts the event alone in the place of what waits at its first path, where the front, if there was one,
-/// was of this time.
+/// Puts the event alone in the place of what waits at its first path. `was` is the time of the front
+/// there, if there is one.
 fn put_alone<A: Allocator + Copy>(
     queues: &mut QueueMap<A>,
     fronts: &mut Fronts<A>,
@@ -301,8 +301,8 @@ fn put_alone<A: Allocator + Copy>(
     put(queues, fronts, key, was, time, single(alloc, event)?)
 }
 
-/// Drops what waits below the event's first path, and puts the event in the place of what waits there,
-/// where the front, if there was one, was of this time.
+/// Drops what waits below the event's first path, and puts the event in the place of what waits at it.
+/// `was` is the time of the front there, if there is one.
 fn replace<A: Allocator + Copy>(
     queues: &mut QueueMap<A>,
     fronts: &mut Fronts<A>,

@@ -186,8 +186,8 @@ fn join_by_pairs<A: Allocator + Copy>(
     joined
 }
 
-/// Puts a queue at a path, at which the front, if there was one, was of this time, and takes out what waits
-/// at another.
+/// Puts a queue at a path, and takes out what waits at another. `was` is the time of the front at the
+/// first, if there is one.
 fn put_and_take<A: Allocator + Copy>(
     queues: &mut QueueMap<A>,
     fronts: &mut Fronts<A>,

@@ -70,8 +70,8 @@ fn put_over<A: Allocator + Copy>(
     Ok(())
 }
 
-/// Puts a queue in the place of what waits at the path, whose front, if it has one, was of the one time;
-/// the queue's own is of the other. If an allocation fails, nothing has changed.
+/// Puts a queue in the place of what waits at the path. `was` is the time of the front there, if there is
+/// one, and `time` that of the queue's own front. If an allocation fails, nothing has changed.
 pub fn put<A: Allocator + Copy>(
     map: &mut QueueMap<A>,
     fronts: &mut Fronts<A>,

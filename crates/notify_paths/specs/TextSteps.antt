@@ -1,5 +1,6 @@
 -- Words of private contracts alone: what the code reads off the bytes of texts.
 use Rattle.std.specs.Prelude.{ℕ, Bool, true, not, ◌&&◌, ◌||◌, ◌+◌, ◌==◌, List, [], ◌∷◌, ◌++◌, length, drop, Option, None, Some, slice_index, slice_index_or, nat_eq, if◌then◌else◌}
+use Rattle.std.specs.Int.{w64, from_le_bytes}
 use Rattle.std.specs.List.{starts_with}
 use Rattle.std.specs.Path.{slash, dot}
 use Rattle.std.specs.Ordering.{nat_cmp}
@@ -12,6 +13,10 @@ abbrev pub eight_bytes : List ℕ → ℕ → List ℕ
 eight_bytes text i =
     slice_index text i ∷ slice_index text (i + 1) ∷ slice_index text (i + 2) ∷ slice_index text (i + 3)
     ∷ slice_index text (i + 4) ∷ slice_index text (i + 5) ∷ slice_index text (i + 6) ∷ slice_index text (i + 7) ∷ []
+
+-- .. as a number
+abbrev pub word_in : List ℕ → ℕ → ℕ
+word_in text i = from_le_bytes w64 (eight_bytes text i)
 
 -- the text begins with `.` or `..`, and a slash or the end follows
 abbrev pub is_dots : List ℕ → Bool

@@ -1,12 +1,11 @@
 //! The order of paths, by their texts: eight bytes at a time, and only if a `.` or `..` may be where
 //! they differ, part by part.
 ghost use Rattle.std.specs.Prelude.{◌≡◌, ◌≢◌, ◌+◌, ◌*◌, ◌%◌, ◌^◌, ◌<◌, ◌≤◌, length, take, slice_index};
-ghost use Rattle.std.specs.Int.{w64, from_le_bytes};
 ghost use Rattle.std.specs.Path.{IsWellFormedComponent};
 ghost use Rattle.notify_paths.specs.Path.{part_rank, part_bytes, path_cmp};
 ghost use Rattle.notify_paths.specs.PathText.{parts_of, IsNormal};
 ghost use Rattle.notify_paths.specs.PathView.{component_part};
-ghost use Rattle.notify_paths.specs.TextSteps.{order_text, is_dots, text_rank, eight_bytes};
+ghost use Rattle.notify_paths.specs.TextSteps.{order_text, is_dots, text_rank, word_in};
 
 use crate::text::byte_or_slash;
 use std::cmp::Ordering;
@@ -15,7 +14,7 @@ use std::path::{Component, Path};
 /// The eight bytes from `i` on as a number.
 fn word_at(text: &[u8], i: usize) -> u64
     requires { i + 8 ≤ length text.now }
-    ensures { result ≡ from_le_bytes w64 (eight_bytes text.now i) }
+    ensures { result ≡ word_in text.now i }
 {
     u64::from_le_bytes([
         text[i],
@@ -45,7 +44,7 @@ fn common_words(a: &[u8], b: &[u8], count: usize) -> usize
     requires b { count * 8 ≤ length b.now }
     ensures within { result ≤ count }
     ensures same { take (result * 8) a.now ≡ take (result * 8) b.now }
-    ensures stop { result < count → from_le_bytes w64 (eight_bytes a.now (result * 8)) ≢ from_le_bytes w64 (eight_bytes b.now (result * 8)) }
+    ensures stop { result < count → word_in a.now (result * 8) ≢ word_in b.now (result * 8) }
 {
     for k in 0..count {
         if word_at(a, k * 8) != word_at(b, k * 8) {
