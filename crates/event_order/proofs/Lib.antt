@@ -1,4 +1,5 @@
 mod GroupLemmas
 mod MergeLemmas
 pub mod PlaceLemmas
+pub mod PutLemmas
 mod RankLemmas
