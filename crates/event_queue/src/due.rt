@@ -39,8 +39,8 @@ impl Due {
     }
 }
 
-/// Returns how many of the first events are due.
-pub fn expired_count<A: Allocator>(events: &[DebouncedEvent<A>], due: Due) -> usize
+/// How many of the first events are due.
+pub(crate) fn expired_count<A: Allocator>(events: &[DebouncedEvent<A>], due: Due) -> usize
     ensures bound { result ≤ length events.now }
     ensures front { take result events.now ≡ expired_beginning (is_due due) events.now }
     ensures back { drop result events.now ≡ rest_after (is_due due) events.now }
@@ -64,7 +64,7 @@ fn has_kind<A: Allocator>(events: &[DebouncedEvent<A>], kind: EventKind) -> bool
 
 /// Adds references to the events of which no later one has the same kind. If an allocation fails, `out`
 /// may hold some of them.
-pub fn lend_last_of_kind<'a, A: Allocator>(
+pub(crate) fn lend_last_of_kind<'a, A: Allocator>(
     out: &mut Vec<&'a DebouncedEvent<A>, A>,
     events: &'a [DebouncedEvent<A>],
 ) -> Result<(), AllocError>

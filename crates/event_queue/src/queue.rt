@@ -2,6 +2,7 @@
 ghost use Rattle.std.specs.Prelude.{◌≡◌, ◌↔◌, ◌++◌, ◌+◌, ◌≤◌, OnOk, OnErr, IfOk, IfErr, IsTrue, false, not, is_some, length, vec_len, vec_capacity};
 ghost use Rattle.std.specs.Cmp.{partial_equiv_from_equiv};
 ghost use Rattle.notify_paths.specs.Errors.{out_of_memory};
+ghost use Rattle.notify_types.specs.Borrowed.{borrowed};
 ghost use Rattle.debounce_model.specs.Equality.{events_eq};
 ghost use Rattle.debounce_model.specs.EqualityLaws.{events_eq_equiv};
 ghost use Rattle.debounce_model.specs.Queues.{was_created, was_removed, appended, skips, creates, removes};
@@ -11,7 +12,7 @@ ghost use Rattle.debounce_model.specs.MapSteps.{one_or_none};
 ghost use Rattle.event_queue.specs.Due.{is_due};
 ghost use Rattle.event_queue.specs.Front.{front_time};
 
-use crate::due::{Due, expired_count, move_last_of_kind};
+use crate::due::{Due, expired_count, lend_last_of_kind, move_last_of_kind};
 use notify_paths::error::Error;
 use notify_types::event::{DebouncedEvent, clone_events};
 use notify_types::kind::{EventKind, ModifyKind, RenameMode};
@@ -219,6 +220,20 @@ impl<A: Allocator> Queue<A> {
         let events = self.events.as_slice();
         let count = expired_count(events, due);
         events[count..].is_empty()
+    }
+
+    /// Adds references to what is due: of the due beginning the last event of each kind. If an allocation
+    /// fails, `places` may hold some of them.
+    pub fn lend_due<'a>(
+        &'a self,
+        due: Due,
+        places: &mut Vec<&'a DebouncedEvent<A>, A>,
+    ) -> Result<(), AllocError>
+        ensures { OnOk result (borrowed places.new.items ≡ borrowed places.old.items ++ last_of_kind (expired_beginning (is_due due) self.now)) }
+    {
+        let events = self.events.as_slice();
+        let count = expired_count(events, due);
+        lend_last_of_kind(places, &events[..count])
     }
 
     /// Moves what is due out of the queue: of its due beginning the last event of each kind goes to the

@@ -11,7 +11,7 @@ ghost use Rattle.front_index.specs.Fronts.{IsIndexed};
 ghost use Rattle.front_index.specs.Steps.{AreDuePaths, emitted_of, is_due_front};
 
 use crate::fronts::{Fronts, QueueMap};
-use crate::whole::{are_many_due, lend_all_places, lend_due};
+use crate::whole::{are_many_due, lend_all_places};
 use event_queue::due::Due;
 use notify_paths::path::PathBuf;
 use notify_types::event::DebouncedEvent;
@@ -50,7 +50,7 @@ fn lend_at<'a, A: Allocator>(
 {
     match map.get(path) {
         None => Ok(()),
-        Some(queue) => lend_due(places, queue, due),
+        Some(queue) => queue.lend_due(due, places),
     }
 }
 

@@ -2,7 +2,7 @@
 //! search.
 ghost use Rattle.std.specs.Prelude.{◌≡◌, ◌==◌, ◌++◌, ◌+◌, ◌-◌, ◌^◌, ◌<◌, ◌≤◌, [], OnOk, length, vec_len, vec_capacity};
 ghost use Rattle.notify_types.specs.Borrowed.{borrowed};
-ghost use Rattle.debounce_model.specs.Due.{due_fronts, expired_beginning, last_of_kind, place_list, rest_after, rests, waits};
+ghost use Rattle.debounce_model.specs.Due.{due_fronts, place_list, rest_after, rests, waits};
 ghost use Rattle.event_queue.specs.Due.{is_due};
 ghost use Rattle.debounce_model.proofs.DueCounts.{count_of};
 ghost use Rattle.front_index.specs.Fronts.{IsIndexed};
@@ -10,7 +10,7 @@ ghost use Rattle.front_index.specs.Steps.{HasLater, IsKept, IsWith, IsWithLater,
 
 use crate::change::{Change, change_values};
 use crate::fronts::{Fronts, QueueMap};
-use event_queue::due::{Due, expired_count, lend_last_of_kind};
+use event_queue::due::Due;
 use event_queue::queue::Queue;
 use notify_paths::path::PathBuf;
 use notify_types::event::DebouncedEvent;
@@ -26,19 +26,6 @@ pub(crate) fn are_many_due<A: Allocator>(fronts: &Fronts<A>, due: Due) -> bool {
     fronts.iter().take(many).all(|front| due.is_due_at(front.0))
 }
 
-/// Adds references to what is due of the queue.
-pub(crate) fn lend_due<'a, A: Allocator>(
-    places: &mut Vec<&'a DebouncedEvent<A>, A>,
-    queue: &'a Queue<A>,
-    due: Due,
-) -> Result<(), AllocError>
-    ensures { OnOk result (borrowed places.new.items ≡ borrowed places.old.items ++ last_of_kind (expired_beginning (is_due due) queue.now)) }
-{
-    let events = queue.events();
-    let count = expired_count(events, due);
-    lend_last_of_kind(places, &events[..count])
-}
-
 /// Adds references to what is due, in the order of the paths.
 pub(crate) fn lend_all_places<'a, A: Allocator>(
     places: &mut Vec<&'a DebouncedEvent<A>, A>,
@@ -48,7 +35,7 @@ pub(crate) fn lend_all_places<'a, A: Allocator>(
     ensures { OnOk result (borrowed places.new.items ≡ borrowed places.old.items ++ place_list (is_due due) map.now.entries) }
 {
     for (_path, queue) in map {
-        lend_due(places, queue, due)?;
+        queue.lend_due(due, places)?;
     }
     Ok(())
 }
