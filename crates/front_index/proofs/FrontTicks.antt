@@ -420,7 +420,7 @@ trim_none due m n path e h p = ap (λ z. is_due_front due (queue_at z p)) e ∙ 
     by true q = ap (is_due_front due) (ap (queue_at m) (sym (tied_path path p q)) ∙ h)
 
 -- what a look-up finds where a value is set
-set_found : (m : Queues) (path : PathValue) (q w : List Timed) → IsStrictlySortedBy path_cmp (keys_of m) → queue_at m path ≡ Some q → (p : PathValue) → queue_at (set_value (is_at (path_cmp path)) m w) p ≡ cond (is_at (path_cmp path) p) (Some w) (queue_at m p)
+pub set_found : (m : Queues) (path : PathValue) (q w : List Timed) → IsStrictlySortedBy path_cmp (keys_of m) → queue_at m path ≡ Some q → (p : PathValue) → queue_at (set_value (is_at (path_cmp path)) m w) p ≡ cond (is_at (path_cmp path) p) (Some w) (queue_at m p)
 set_found m path q w s h p = ap (λ z. queue_at z p) (sym (insert_over path_cmp_total m path q w s h)) ∙ queue_at-with m path w p
 
 -- .. where one is taken out

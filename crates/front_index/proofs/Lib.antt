@@ -3,4 +3,5 @@ pub mod FrontMoves
 pub mod FrontPlaces
 pub mod FrontSettle
 pub mod FrontTicks
+mod FrontTrims
 pub mod FrontWhole

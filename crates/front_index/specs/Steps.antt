@@ -6,8 +6,8 @@ use Rattle.std.specs.BTreeMap.{is_at}
 use Rattle.std.specs.BTreeSet.{BTreeSet, contains}
 use Rattle.notify_types.specs.Event.{Timed}
 use Rattle.notify_paths.specs.Path.{PathValue, path_cmp}
-use Rattle.debounce_model.specs.Due.{is_front_due, rest_after, rests, due_fronts, last_of_kind, expired_beginning}
-use Rattle.debounce_model.specs.Queues.{Queues, queue_at}
+use Rattle.debounce_model.specs.Due.{is_front_due, rest_after, rests, due_fronts, last_of_kind, expired_beginning, waits}
+use Rattle.debounce_model.specs.Queues.{Queues, queue_at, with_queue, without_queue}
 use Rattle.debounce_model.specs.WellFormed.{IsNonempty}
 use Rattle.event_queue.specs.declared.due.Due.{Due}
 use Rattle.event_queue.specs.Due.{is_due, is_due_at}
@@ -186,3 +186,14 @@ abbrev pub IsOneFewer : Due → PathValue → Queues → Queues → Type 0
 IsOneFewer due path queues after =
     is_due_front due (queue_at queues path) ≡ true
     → due_fronts (is_due due) queues ≡ due_fronts (is_due due) after + 1
+
+-- the queues, with this one of the path trimmed, or gone if nothing is left of it
+abbrev pub trimmed_by : Due → Queues → PathValue → Option (List Timed) → Queues
+trimmed_by due queues path None = queues
+trimmed_by due queues path (Some events) =
+    let rest = rest_after (is_due due) events in
+    if waits rest then with_queue queues path rest else without_queue queues path
+
+-- .. with what it has
+abbrev pub trimmed_at : Due → Queues → PathValue → Queues
+trimmed_at due queues path = trimmed_by due queues path (queue_at queues path)

@@ -1,11 +1,13 @@
 //! What a tick leaves. If few queues are due, it finds them by the index.
-ghost use Rattle.std.specs.Prelude.{◌≡◌, ℕ, OnOk, OnErr, IfOk, true};
-ghost use Rattle.notify_paths.specs.Path.{PathValue};
+ghost use Rattle.std.specs.Prelude.{◌≡◌, ℕ, OnOk, OnErr, IfOk, is_some, true};
+ghost use Rattle.std.specs.List.Sorted.{IsStrictlySortedBy};
+ghost use Rattle.std.specs.Map.{keys_of};
+ghost use Rattle.notify_paths.specs.Path.{PathValue, path_cmp};
 ghost use Rattle.debounce_model.specs.Due.{rests, due_fronts};
 ghost use Rattle.debounce_model.specs.Queues.{queue_at};
 ghost use Rattle.event_queue.specs.Due.{is_due};
 ghost use Rattle.front_index.specs.Fronts.{IsIndexed, has, is_front};
-ghost use Rattle.front_index.specs.Steps.{AddsLater, AreFilled, AreLater, HasDue, HasLater, IsKept, IsOneFewer, IsTrimmed, IsWith, IsWithLater, OthersStay, front_after};
+ghost use Rattle.front_index.specs.Steps.{AddsLater, AreFilled, AreLater, HasDue, HasLater, IsKept, IsOneFewer, IsTrimmed, IsWith, IsWithLater, OthersStay, front_after, trimmed_at};
 
 use crate::fronts::{Fronts, QueueMap, is_front, pop_due};
 use crate::settle::Pairs;
@@ -14,27 +16,31 @@ use event_queue::due::Due;
 use notify_paths::path::PathBuf;
 use notify_types::time::Moment;
 use std::alloc::{AllocError, Allocator};
+use std::collections::btree_map::Entry;
 
-/// Drops the due beginning of what waits at the path.
-fn trim_at<A: Allocator>(map: &mut QueueMap<A>, path: &PathBuf<A>, due: Due)
-    ensures rests { rests (is_due due) map.new.entries ≡ rests (is_due due) map.old.entries }
-    ensures trimmed { IsTrimmed due path.now map.old.entries map.new.entries }
-    ensures others { OthersStay path.now map.old.entries map.new.entries }
-    ensures filled { AreFilled map.old.entries → AreFilled map.new.entries }
-    ensures counted { IsOneFewer due path.now map.old.entries map.new.entries }
+/// Drops the due beginning of what waits at the path, by one search.
+fn trim_at<A: Allocator + Copy>(map: &mut QueueMap<A>, path: PathBuf<A>, due: Due)
+    requires { is_some (queue_at map.old.entries path) ≡ true }
+    ensures trimmed { map.new.entries ≡ trimmed_at due map.old.entries path }
+    ensures was_ordered { IsStrictlySortedBy path_cmp (keys_of map.old.entries) }
 {
-    let stays = match map.get_mut(path) {
-        None => return,
-        Some(queue) => queue.trim(due),
-    };
-    if !stays {
-        map.remove(path);
+    match map.entry(path) {
+        Err(_refused) => {}
+        Ok(entry) => match entry {
+            Entry::Vacant(_vacant) => {}
+            Entry::Occupied(mut entry) => {
+                let stays = entry.get_mut().trim(due);
+                if !stays {
+                    entry.remove();
+                }
+            }
+        },
     }
 }
 
 /// Drops the due beginnings of all queues whose fronts are due by the index, which has the later
 /// fronts already. Returns how many queues these are.
-fn trim_due<A: Allocator>(map: &mut QueueMap<A>, fronts: &mut Fronts<A>, due: Due) -> usize
+fn trim_due<A: Allocator + Copy>(map: &mut QueueMap<A>, fronts: &mut Fronts<A>, due: Due) -> usize
     requires later { HasLater due fronts.old map.old.entries }
     requires now { HasDue due fronts.old map.old.entries }
     requires filled { AreFilled map.old.entries }
@@ -46,7 +52,7 @@ fn trim_due<A: Allocator>(map: &mut QueueMap<A>, fronts: &mut Fronts<A>, due: Du
     let _most = map.len();
     let mut count = 0;
     while let Some(front) = pop_due(fronts, due) {
-        trim_at(map, &front.1, due);
+        trim_at(map, front.1, due);
         count += 1;
     }
     // The proof reads here that the paths ascend.
@@ -148,7 +154,11 @@ fn tidy<A: Allocator>(map: &QueueMap<A>, fronts: &mut Fronts<A>)
 
 /// Drops the due beginning of each queue, by the way that takes less time. The index has the later
 /// fronts already. Returns how many queues had a front that was due.
-fn trim_queues<A: Allocator>(map: &mut QueueMap<A>, fronts: &mut Fronts<A>, due: Due) -> usize
+fn trim_queues<A: Allocator + Copy>(
+    map: &mut QueueMap<A>,
+    fronts: &mut Fronts<A>,
+    due: Due,
+) -> usize
     requires later { HasLater due fronts.old map.old.entries }
     requires now { HasDue due fronts.old map.old.entries }
     requires filled { AreFilled map.old.entries }
