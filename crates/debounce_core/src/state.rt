@@ -16,7 +16,7 @@ ghost use Rattle.debounce_model.specs.declared.case.Case.TheVariants.{Rescan, Cr
 ghost use Rattle.event_queue.specs.Due.{is_due};
 ghost use Rattle.event_queue.specs.Renames.{half_value};
 
-use crate::emit::{copy_due, emit};
+use crate::emit::{copies_of_due, emit};
 use crate::rename_slot::{RenameSlot, first_half, set_slot};
 use crate::rescan_slot::{held, is_slot_due};
 use crate::roots::{add_root, mode_in, remove_root};
@@ -333,7 +333,7 @@ impl<A: Allocator + Copy> State<A> {
         ensures only { IfOk result (λ batch. IsOnlyOrder (places (is_due due) self.now) batch.items) }
         ensures err { IfErr result (λ e. e ≡ out_of_memory) }
     {
-        match copy_due(&self.queues, &self.rescan_slot, self.alloc, due) {
+        match copies_of_due(&self.queues, &self.rescan_slot, self.alloc, due) {
             Ok(batch) => Ok(batch),
             Err(_) => Err(Error::out_of_memory(self.alloc)),
         }

@@ -2,15 +2,17 @@
 //!
 //! [`queues::Queues`] is a map that nobody else changes. An event is pushed, or it removes what is at
 //! its path, or it is the second half of a rename, which takes along what waits at its old path and
-//! below. A tick opens the queues whose first event is due: it lends what is due of them and then drops
-//! it, or moves it out, if all that waits is due.
+//! below. A tick opens the queues whose first event is due: it lends what is due of them and then moves
+//! it out, or drops it. How it comes to them a plan says.
 //!
 //! ```text
 //! let mut queues = Queues::new(rt.alloc());
 //! queues.push(event)?;
 //! let mut places = Vec::new(rt.alloc());
-//! queues.lend_places(&mut places, Due::Expired(50, 60))?;
-//! let opened = queues.trim(Due::Expired(50, 60))?;
+//! let due = Due::Expired(50, 60);
+//! let mut plan = queues.plan(due)?;
+//! queues.lend_places(&mut plan, &mut places, due)?;
+//! let opened = queues.trim(due)?;
 //! ```
 #![tactic(auto)]
 

@@ -1,8 +1,9 @@
 //! The queues of all paths.
-ghost use Rattle.std.specs.Prelude.{◌≡◌, ◌==◌, ◌++◌, ◌+◌, ◌∷◌, ◌<◌, ◌≤◌, ◌^◌, [], OnOk, OnErr, IfOk, false, length, option_copied, vec_len, vec_capacity};
+ghost use Rattle.std.specs.Prelude.{◌≡◌, ◌++◌, ◌+◌, ◌∷◌, ◌<◌, ◌≤◌, ◌^◌, [], OnOk, OnErr, IfOk, false, true, length, option_copied, vec_len, vec_capacity};
 ghost use Rattle.notify_types.specs.Borrowed.{borrowed};
 ghost use Rattle.notify_types.specs.Event.{first_of};
 ghost use Rattle.front_index.specs.Fronts.{IsIndexed, front_of};
+ghost use Rattle.front_index.specs.Plan.{IsLent, IsPlan, moves};
 ghost use Rattle.debounce_queues.specs.Replaced.{replaced};
 ghost use Rattle.debounce_model.specs.Due.{place_list, rests, is_any_due, due_fronts};
 ghost use Rattle.debounce_model.specs.Memory.{skips_it, cancels};
@@ -19,10 +20,9 @@ use event_queue::queue::Queue;
 use event_queue::rename::{FirstHalf, Rename};
 use front_index::below::{drop_below, remove as take_out};
 use front_index::fronts::{Fronts, QueueMap, front_of, is_any_due};
-use front_index::places::lend_places;
+use front_index::plan::Plan;
 use front_index::put::{put, put_new};
-use front_index::tick::trim;
-use front_index::whole::{is_all_due, take_places};
+use front_index::whole::trim;
 use notify_paths::below::{Found, find};
 use notify_paths::path::PathBuf;
 use notify_types::event::{DebouncedEvent, Event};
@@ -159,46 +159,60 @@ impl<A: Allocator + Copy> Queues<A> {
         is_any_due(&self.map, &self.fronts, due)
     }
 
+    /// Returns how a tick comes to the queues that are due. A plan is for these queues as they are; the
+    /// three calls below take it.
+    pub fn plan(&self, due: Due) -> Result<Plan<A>, AllocError>
+        ensures { IfOk result (λ plan. IsPlan due self.now plan) }
+    {
+        Plan::new(&self.map, &self.fronts, self.alloc, due)
+    }
+
     /// Adds references to what is due, in the order of the paths: of each queue's due beginning the
     /// last of each kind. If an allocation fails, `places` may hold some of them.
     pub fn lend_places<'a>(
         &'a self,
+        plan: &mut Plan<A>,
         places: &mut Vec<&'a DebouncedEvent<A>, A>,
         due: Due,
     ) -> Result<(), AllocError>
-        ensures { OnOk result (borrowed places.new.items ≡ borrowed places.old.items ++ place_list (is_due due) self.now) }
+        requires { IsPlan due self.now plan.old }
+        ensures places { OnOk result (borrowed places.new.items ≡ borrowed places.old.items ++ place_list (is_due due) self.now) }
+        ensures lent { OnOk result (IsLent due self.now plan.new) }
+        ensures same { moves plan.new ≡ moves plan.old }
     {
-        lend_places(places, &self.map, &self.fronts, due)
+        plan.lend(places, &self.map, due)
     }
 
-    /// Whether all that waits is due.
-    pub fn is_all_due(&self, due: Due) -> bool
-        ensures { result ≡ (length (rests (is_due due) self.now) == 0) }
-    {
-        is_all_due(&self.map, due)
-    }
-
-    /// Moves what is due to the end of `out`, which has room for it, in the order of the paths: all that
-    /// waits is due, and no queue is left. Returns how many queues there were. It needs no memory.
-    pub fn take_places(&mut self, due: Due, out: &mut Vec<DebouncedEvent<A>, A>) -> usize
-        requires all { rests (is_due due) self.old ≡ [] }
+    /// Moves what is due to the end of `out`, which has room for it, in the order of the paths, and
+    /// returns how many queues had something. The plan is one that moves, and it has lent. If an
+    /// allocation fails, nothing has changed.
+    pub fn take_places(
+        &mut self,
+        plan: Plan<A>,
+        due: Due,
+        out: &mut Vec<DebouncedEvent<A>, A>,
+    ) -> Result<usize, AllocError>
+        requires lent { IsLent due self.old plan }
+        requires moves { moves plan ≡ true }
         requires room { vec_len out.old + length (place_list (is_due due) self.old) ≤ vec_capacity out.old }
-        ensures moved { out.new.items ≡ out.old.items ++ place_list (is_due due) self.old }
+        ensures moved { OnOk result (out.new.items ≡ out.old.items ++ place_list (is_due due) self.old) }
         ensures capacity { vec_capacity out.new ≡ vec_capacity out.old }
-        ensures count { result ≡ due_fronts (is_due due) self.old }
-        ensures left { self.new ≡ rests (is_due due) self.old }
+        ensures count { IfOk result (λ count. count ≡ due_fronts (is_due due) self.old) }
+        ensures left { OnOk result (self.new ≡ rests (is_due due) self.old) }
+        ensures err { OnErr result (self.new ≡ self.old) }
+        ensures kept { OnErr result (out.new.items ≡ out.old.items) }
     {
-        take_places(&mut self.map, &mut self.fronts, self.alloc, due, out)
+        plan.take(&mut self.map, &mut self.fronts, self.alloc, due, out)
     }
 
-    /// Drops the due beginning of each queue, and returns how many queues had one. If an allocation
-    /// fails, nothing has changed.
+    /// Drops the due beginning of each queue, and returns how many queues had one. It goes over all
+    /// queues. If an allocation fails, nothing has changed.
     pub fn trim(&mut self, due: Due) -> Result<usize, AllocError>
         ensures count { IfOk result (λ count. count ≡ due_fronts (is_due due) self.old) }
         ensures ok { OnOk result (self.new ≡ rests (is_due due) self.old) }
         ensures err { OnErr result (self.new ≡ self.old) }
     {
-        trim(&mut self.map, &mut self.fronts, self.alloc, due)
+        trim(&mut self.map, &mut self.fronts, due)
     }
 
     /// Returns how many events wait.

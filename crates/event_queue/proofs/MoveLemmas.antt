@@ -1,8 +1,8 @@
 -- The events of a queue, moved from the back of the reversed list.
-use Rattle.std.proofs.Common.{◌≡◌, ℕ, Bool, true, false, cond, ◌||◌, List, [], ◌∷◌, ◌++◌, refl, ap, sym, ◌∙◌, length, take, drop, append_assoc}
+use Rattle.std.proofs.Common.{◌≡◌, ℕ, ◌+◌, arith, Bool, true, false, cond, ◌||◌, List, [], ◌∷◌, ◌++◌, refl, ap, sym, ◌∙◌, length, take, drop, append_assoc}
 use Rattle.std.specs.Prelude.{reverse}
 use Rattle.std.specs.List.{list_any}
-use Rattle.std.proofs.lemmas.List.{append-nil, reverse-append, reverse-reverse}
+use Rattle.std.proofs.lemmas.List.{append-nil, drop_at, length-drop, length-reverse, reverse-append, reverse-reverse, take_at, take-append-drop}
 use Rattle.std.proofs.lemmas.List.Folds.{list_any-append}
 use Rattle.notify_types.specs.Event.{Timed}
 use Rattle.notify_types.specs.KindNumbers.{kind_eq}
@@ -21,20 +21,21 @@ module _ {X : Type 0} where
       swap false true = refl
       swap false false = refl
 
-  -- the whole of a list that was changed in place
-  pub whole : (n : ℕ) (xs r : List X) → length r ≡ length xs → n ≡ length xs → take n (r ++ drop (length r) xs) ≡ r
-  whole n xs r l k =
-      let none : drop (length r) xs ≡ [] = rw l (drop_all xs) in
-      let all : n ≡ length r = k ∙ sym l in
-      rw (none, append-nil, all) (take_all r)
-    where
-      drop_all : (xs : List X) → drop (length xs) xs ≡ []
-      drop_all [] = refl
-      drop_all (x ∷ xs) = drop_all xs
+  module _ (xs : List X) (count left : ℕ) (size : left + count ≡ length xs) where
+    -- a list that is turned round, by its two parts
+    turned : reverse xs ≡ reverse (drop count xs) ++ reverse (take count xs)
+    turned = ap reverse (sym (take-append-drop count xs)) ∙ reverse-append (take count xs) (drop count xs)
 
-      take_all : (xs : List X) → take (length xs) xs ≡ xs
-      take_all [] = refl
-      take_all (x ∷ xs) = ap (λ l. x ∷ l) (take_all xs)
+    rest_long : length (reverse (drop count xs)) ≡ left
+    rest_long = omega (arith, length-reverse (drop count xs), length-drop count xs, size)
+
+    -- its end is the beginning, turned round
+    pub end_turned : reverse (drop left (reverse xs)) ≡ take count xs
+    end_turned = ap (λ l. reverse (drop left l)) turned ∙ ap reverse (drop_at (reverse (drop count xs)) (reverse (take count xs)) left rest_long) ∙ reverse-reverse (take count xs)
+
+    -- .. and its beginning the end
+    pub front_turned : reverse (take left (reverse xs)) ≡ drop count xs
+    front_turned = ap (λ l. reverse (take left l)) turned ∙ ap reverse (take_at (reverse (drop count xs)) (reverse (take count xs)) left rest_long) ∙ reverse-reverse (drop count xs)
 
 -- the last events of a kind, the first by itself
 first_of_kind : (x : Timed) (xs : List Timed) → last_of_kind (x ∷ xs) ≡ unless_later x xs ++ last_of_kind xs

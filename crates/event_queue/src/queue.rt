@@ -12,7 +12,7 @@ ghost use Rattle.debounce_model.specs.MapSteps.{one_or_none};
 ghost use Rattle.event_queue.specs.Due.{is_due};
 ghost use Rattle.event_queue.specs.Front.{front_time};
 
-use crate::due::{Due, expired_count, lend_last_of_kind, move_last_of_kind};
+use crate::due::{Due, expired_count, lend_last_of_kind, move_last_of_kind, turn};
 use notify_paths::error::Error;
 use notify_types::event::{DebouncedEvent, clone_events};
 use notify_types::kind::{EventKind, ModifyKind, RenameMode};
@@ -236,17 +236,21 @@ impl<A: Allocator> Queue<A> {
         lend_last_of_kind(places, &events[..count])
     }
 
-    /// Moves what is due out of the queue: of its due beginning the last event of each kind goes to the
-    /// end of `out`, which has room for them. All else is dropped.
-    pub fn give_due(self, due: Due, out: &mut Vec<DebouncedEvent<A>, A>)
-        requires { vec_len out.old + length (last_of_kind (expired_beginning (is_due due) self)) ≤ vec_capacity out.old }
-        ensures moved { out.new.items ≡ out.old.items ++ last_of_kind (expired_beginning (is_due due) self) }
+    /// Takes the due beginning out of the queue, and returns whether something still waits. The last
+    /// event of each kind of it goes to the end of `out`, which has room for them; the others are dropped.
+    pub fn take_due(&mut self, due: Due, out: &mut Vec<DebouncedEvent<A>, A>) -> bool
+        requires { vec_len out.old + length (last_of_kind (expired_beginning (is_due due) self.old)) ≤ vec_capacity out.old }
+        ensures moved { out.new.items ≡ out.old.items ++ last_of_kind (expired_beginning (is_due due) self.old) }
         ensures capacity { vec_capacity out.new ≡ vec_capacity out.old }
+        ensures rest { self.new ≡ rest_after (is_due due) self.old }
+        ensures waits { result ≡ waits (rest_after (is_due due) self.old) }
     {
-        let mut events = self.events;
-        let count = expired_count(events.as_slice(), due);
-        events.truncate(count);
-        move_last_of_kind(out, events);
+        let count = expired_count(self.events.as_slice(), due);
+        let left = self.events.len() - count;
+        turn(&mut self.events);
+        move_last_of_kind(out, &mut self.events, left);
+        turn(&mut self.events);
+        self.waits()
     }
 
     /// Drops the due beginning, and returns whether something still waits.

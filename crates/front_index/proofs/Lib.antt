@@ -2,6 +2,7 @@ pub mod FrontLemmas
 pub mod FrontMoves
 pub mod FrontPlaces
 pub mod FrontSettle
+mod FrontTaken
 pub mod FrontTicks
 mod FrontTrims
 pub mod FrontWhole

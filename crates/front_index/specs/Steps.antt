@@ -1,12 +1,12 @@
 -- How the code keeps the index: words for the contracts of its functions. No definition of what a debouncer does cites
 -- them.
-use Rattle.std.specs.Prelude.{◌≡◌, ℕ, ◌+◌, Bool, true, false, not, ◌&&◌, ◌||◌, List, [], ◌∷◌, Option, Some, None, slice_get, if◌then◌else◌}
+use Rattle.std.specs.Prelude.{◌≡◌, ⊤, ℕ, Bool, true, false, not, ◌&&◌, ◌||◌, List, [], ◌∷◌, ◌++◌, Option, Some, None, is_some, slice_get, if◌then◌else◌}
 use Rattle.std.specs.List.{AllByRecursion, flat_map, list_any}
 use Rattle.std.specs.BTreeMap.{is_at}
 use Rattle.std.specs.BTreeSet.{BTreeSet, contains}
 use Rattle.notify_types.specs.Event.{Timed}
 use Rattle.notify_paths.specs.Path.{PathValue, path_cmp}
-use Rattle.debounce_model.specs.Due.{is_front_due, rest_after, rests, due_fronts, last_of_kind, expired_beginning, waits}
+use Rattle.debounce_model.specs.Due.{is_front_due, rest_after, rests, last_of_kind, expired_beginning, waits}
 use Rattle.debounce_model.specs.Queues.{Queues, queue_at, with_queue, without_queue}
 use Rattle.debounce_model.specs.WellFormed.{IsNonempty}
 use Rattle.event_queue.specs.declared.due.Due.{Due}
@@ -23,11 +23,6 @@ is_due_front due (Some events) = is_front_due (is_due due) events
 abbrev pub front_after : Due → Option (List Timed) → Option ℕ
 front_after due None = None
 front_after due (Some events) = front_time (rest_after (is_due due) events)
-
--- the pair is due, and of its queue the pair of t and p is left
-abbrev pub is_later : Due → Queues → ℕ → PathValue → ℕ × PathValue → Bool
-is_later due queues t p k =
-    is_due_at due k.0 && (is_at (path_cmp p) k.1 && is_time (front_after due (queue_at queues k.1)) t)
 
 -- the pair is due, and of this path
 abbrev pub is_due_pair : Due → PathValue → ℕ × PathValue → Bool
@@ -132,10 +127,6 @@ abbrev pub HasLater : Due → FrontSet → Queues → Type 0
 HasLater due fronts queues =
     (t : ℕ) (p : PathValue) → is_due_at due t ≡ false → has fronts t p ≡ is_front (rests (is_due due) queues) t p
 
--- its pairs that are due are fronts
-abbrev pub HasDue : Due → FrontSet → Queues → Type 0
-HasDue due fronts queues = (t : ℕ) (p : PathValue) → is_due_at due t ≡ true → has fronts t p ≡ is_front queues t p
-
 -- a later front: of what is not due of a queue whose front is due
 abbrev pub is_later_front : Due → Queues → ℕ → PathValue → Bool
 is_later_front due queues t p = is_due_front due (queue_at queues p) && is_time (front_after due (queue_at queues p)) t
@@ -148,18 +139,19 @@ AreLater due queues pairs = (t : ℕ) (p : PathValue) → has_pair pairs t p ≡
 abbrev pub IsWithLater : Due → Queues → FrontSet → FrontSet → Type 0
 IsWithLater due queues old new = (t : ℕ) (p : PathValue) → has new t p ≡ (is_later_front due queues t p || has old t p)
 
--- the pairs, with that of the path's later front
-abbrev pub AddsLater : Due → Queues → PathValue → List (ℕ × PathValue) → List (ℕ × PathValue) → Type 0
-AddsLater due queues path old new =
-    (t : ℕ) (p : PathValue)
-    → has_pair new t p
-    ≡ (has_pair old t p || (is_at (path_cmp p) path && is_time (front_after due (queue_at queues path)) t))
-
 -- the paths are those of the pairs that are due
 abbrev pub AreDuePaths : Due → FrontSet → BTreeSet PathValue → Type 0
 AreDuePaths due fronts paths = (p : PathValue) → contains path_cmp paths p ≡ list_any (is_due_pair due p) fronts.keys
 
--- ---- the queues, after one of them is trimmed or taken out
+-- the paths are those of the queues that are due
+abbrev pub ArePathsDue : Due → Queues → BTreeSet PathValue → Type 0
+ArePathsDue due queues paths = (p : PathValue) → contains path_cmp paths p ≡ is_due_front due (queue_at queues p)
+
+-- the pairs that are due were taken out
+abbrev pub IsUndue : Due → FrontSet → FrontSet → Type 0
+IsUndue due old new = (t : ℕ) (p : PathValue) → has new t p ≡ (not (is_due_at due t) && has old t p)
+
+-- ---- the queues, after some of them are trimmed or taken out
 
 -- no queue is empty
 abbrev pub AreFilled : Queues → Type 0
@@ -169,23 +161,6 @@ AreFilled queues = AllByRecursion (λ e. IsNonempty e.1) queues
 abbrev pub IsGone : PathValue → Queues → Queues → Type 0
 IsGone path queues after =
     (p : PathValue) → queue_at after p ≡ (if is_at (path_cmp path) p then None else queue_at queues p)
-
--- that of the path is not due any more
-abbrev pub IsTrimmed : Due → PathValue → Queues → Queues → Type 0
-IsTrimmed due path queues after =
-    (p : PathValue)
-    → is_due_front due (queue_at after p)
-    ≡ (if is_at (path_cmp path) p then false else is_due_front due (queue_at queues p))
-
--- the others are as they were
-abbrev pub OthersStay : PathValue → Queues → Queues → Type 0
-OthersStay path queues after = (p : PathValue) → is_at (path_cmp path) p ≡ false → queue_at after p ≡ queue_at queues p
-
--- one fewer is due, if that of the path was
-abbrev pub IsOneFewer : Due → PathValue → Queues → Queues → Type 0
-IsOneFewer due path queues after =
-    is_due_front due (queue_at queues path) ≡ true
-    → due_fronts (is_due due) queues ≡ due_fronts (is_due due) after + 1
 
 -- the queues, with this one of the path trimmed, or gone if nothing is left of it
 abbrev pub trimmed_by : Due → Queues → PathValue → Option (List Timed) → Queues
@@ -197,3 +172,20 @@ trimmed_by due queues path (Some events) =
 -- .. with what it has
 abbrev pub trimmed_at : Due → Queues → PathValue → Queues
 trimmed_at due queues path = trimmed_by due queues path (queue_at queues path)
+
+-- .. one after the other, at these paths
+abbrev pub taken_at : Due → Queues → List PathValue → Queues
+taken_at due queues [] = queues
+taken_at due queues (path ∷ paths) = taken_at due (trimmed_at due queues path) paths
+
+-- what is emitted of them meanwhile
+abbrev pub given_at : Due → Queues → List PathValue → List Timed
+given_at due queues [] = []
+given_at due queues (path ∷ paths) =
+    emitted_of due (queue_at queues path) ++ given_at due (trimmed_at due queues path) paths
+
+-- each of them is there when its turn comes
+abbrev pub AreThere : Due → Queues → List PathValue → Type 0
+AreThere due queues [] = ⊤
+AreThere due queues (path ∷ paths) =
+    (is_some (queue_at queues path) ≡ true) × AreThere due (trimmed_at due queues path) paths

@@ -1,6 +1,8 @@
 //! A change of several queues at once: first the index gets each front that may come, then the queues
 //! are changed, and then the index loses what is no front.
-ghost use Rattle.std.specs.Prelude.{◌≡◌, ◌++◌, OnOk, OnErr};
+ghost use Rattle.std.specs.Prelude.{◌≡◌, ◌++◌, ℕ, OnOk, OnErr, true};
+ghost use Rattle.notify_paths.specs.Path.{PathValue};
+ghost use Rattle.front_index.specs.Fronts.{has, is_front};
 ghost use Rattle.front_index.specs.Steps.{DifferAt, IsKept, IsSame, IsSettled, IsSettledPair, IsWith, IsWithPair, front_pair, pair_of};
 
 use crate::fronts::{Fronts, QueueMap, front_of, is_front};
@@ -51,6 +53,20 @@ fn insert_copy<A: Allocator + Copy>(
     Ok(())
 }
 
+/// Puts these pairs into the index. If an allocation fails, it may have some of them.
+pub(crate) fn insert_pairs<A: Allocator + Copy>(
+    fronts: &mut Fronts<A>,
+    pairs: Pairs<A>,
+) -> Result<(), AllocError>
+    ensures ok { OnOk result (IsWith pairs.items fronts.old fronts.new) }
+    ensures grown { IsKept fronts.old fronts.new }
+{
+    for front in pairs {
+        fronts.insert(front)?;
+    }
+    Ok(())
+}
+
 /// Puts copies of these pairs into the index. If an allocation fails, it may have some of them.
 pub fn insert_copies<A: Allocator + Copy>(
     fronts: &mut Fronts<A>,
@@ -86,4 +102,12 @@ pub fn settle<A: Allocator>(
     for pair in pairs {
         settle_one(map, fronts, pair);
     }
+}
+
+/// Takes out of the index whatever is no front.
+pub(crate) fn tidy<A: Allocator>(map: &QueueMap<A>, fronts: &mut Fronts<A>)
+    requires covered { (t : ℕ) (p : PathValue) → is_front map.now.entries t p ≡ true → has fronts.old t p ≡ true }
+    ensures { (t : ℕ) (p : PathValue) → has fronts.new t p ≡ is_front map.now.entries t p }
+{
+    fronts.retain(|front| is_front(map, &front.1, front.0));
 }

@@ -1,6 +1,6 @@
 //! A tick at which many queues are due: it goes over all queues in the order of their paths, and needs no
 //! search.
-ghost use Rattle.std.specs.Prelude.{◌≡◌, ◌==◌, ◌++◌, ◌+◌, ◌-◌, ◌^◌, ◌<◌, ◌≤◌, [], OnOk, length, vec_len, vec_capacity};
+ghost use Rattle.std.specs.Prelude.{◌≡◌, ◌==◌, ◌++◌, ◌+◌, ◌-◌, ◌^◌, ◌<◌, ◌≤◌, [], IfOk, OnErr, OnOk, length, vec_len, vec_capacity};
 ghost use Rattle.notify_types.specs.Borrowed.{borrowed};
 ghost use Rattle.debounce_model.specs.Due.{due_fronts, place_list, rest_after, rests, waits};
 ghost use Rattle.event_queue.specs.Due.{is_due};
@@ -10,6 +10,7 @@ ghost use Rattle.front_index.specs.Steps.{HasLater, IsKept, IsWith, IsWithLater,
 
 use crate::change::{Change, change_values};
 use crate::fronts::{Fronts, QueueMap};
+use crate::settle::tidy;
 use event_queue::due::Due;
 use event_queue::queue::Queue;
 use notify_paths::path::PathBuf;
@@ -41,7 +42,7 @@ pub(crate) fn lend_all_places<'a, A: Allocator>(
 }
 
 /// Whether all that waits is due.
-pub fn is_all_due<A: Allocator>(map: &QueueMap<A>, due: Due) -> bool
+pub(crate) fn is_all_due<A: Allocator>(map: &QueueMap<A>, due: Due) -> bool
     ensures { result ≡ (length (rests (is_due due) map.now.entries) == 0) }
 {
     for (_path, queue) in map {
@@ -67,16 +68,16 @@ fn give_places<A: Allocator>(
     // The proof reads here that the queues can be counted.
     let _len = map.len();
     let mut count = 0;
-    for (_path, queue) in map {
+    for (_path, mut queue) in map {
         count = counted(queue.is_front_due(due), count);
-        queue.give_due(due, out);
+        queue.take_due(due, out);
     }
     count
 }
 
 /// Moves what is due to the end of `out`, which has room for it, in the order of the paths, and leaves no
 /// queue. All that waits is due. Returns how many queues there were. It needs no memory.
-pub fn take_places<A: Allocator + Copy>(
+pub(crate) fn take_all<A: Allocator + Copy>(
     map: &mut QueueMap<A>,
     fronts: &mut Fronts<A>,
     alloc: A,
@@ -129,7 +130,7 @@ fn insert_later<A: Allocator + Copy>(
 
 /// Puts the later fronts into the index, by a look at each queue. If an allocation fails, it may have
 /// some of them.
-pub(crate) fn insert_all_later<A: Allocator + Copy>(
+fn insert_all_later<A: Allocator + Copy>(
     fronts: &mut Fronts<A>,
     map: &QueueMap<A>,
     due: Due,
@@ -168,11 +169,11 @@ fn count_due<A: Allocator>(map: &QueueMap<A>, due: Due) -> usize
 
 /// Drops the due beginning of a queue.
 #[derive(Drop)]
-struct Trim {
+struct DueTrim {
     due: Due,
 }
 
-impl<A: Allocator> Change<Queue<A>> for Trim {
+impl<A: Allocator> Change<Queue<A>> for DueTrim {
     ghost changed = { λ t events. rest_after (is_due t.due) events };
 
     ghost stays = { λ t events. waits (rest_after (is_due t.due) events) };
@@ -184,18 +185,36 @@ impl<A: Allocator> Change<Queue<A>> for Trim {
 
 /// Drops the due beginning of each queue, and from the index each pair that is due; the later fronts are
 /// in it already. Returns how many queues had a front that was due.
-pub(crate) fn trim_all<A: Allocator>(
-    map: &mut QueueMap<A>,
-    fronts: &mut Fronts<A>,
-    due: Due,
-) -> usize
+fn trim_all<A: Allocator>(map: &mut QueueMap<A>, fronts: &mut Fronts<A>, due: Due) -> usize
     requires { HasLater due fronts.old map.old.entries }
     ensures rests { map.new.entries ≡ rests (is_due due) map.old.entries }
     ensures indexed { IsIndexed fronts.new map.new.entries }
     ensures count { result ≡ due_fronts (is_due due) map.old.entries }
 {
     let count = count_due(map, due);
-    change_values(map, &Trim { due });
+    change_values(map, &DueTrim { due });
     fronts.retain(|front| !due.is_due_at(front.0));
     count
+}
+
+/// Drops the due beginning of each queue, and returns how many queues had one. The later fronts go
+/// into the index first, by what alone can fail; if that is refused, nothing has changed.
+pub fn trim<A: Allocator + Copy>(
+    map: &mut QueueMap<A>,
+    fronts: &mut Fronts<A>,
+    due: Due,
+) -> Result<usize, AllocError>
+    requires { IsIndexed fronts.old map.old.entries }
+    ensures count { IfOk result (λ count. count ≡ due_fronts (is_due due) map.old.entries) }
+    ensures ok { OnOk result (map.new.entries ≡ rests (is_due due) map.old.entries) }
+    ensures err { OnErr result (map.new.entries ≡ map.old.entries) }
+    ensures indexed { IsIndexed fronts.new map.new.entries }
+{
+    // The proof reads here that the paths ascend.
+    let _len = map.len();
+    if let Err(refused) = insert_all_later(fronts, map, due) {
+        tidy(map, fronts);
+        return Err(refused);
+    }
+    Ok(trim_all(map, fronts, due))
 }

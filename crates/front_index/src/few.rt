@@ -1,0 +1,170 @@
+//! A tick at which few queues are due: it searches for each, by the paths that the index has.
+ghost use Rattle.std.specs.Prelude.{◌≡◌, ◌++◌, ◌+◌, ◌≤◌, [], IfOk, OnErr, OnOk, is_some, length, true, vec_capacity, vec_len};
+ghost use Rattle.notify_types.specs.Borrowed.{borrowed};
+ghost use Rattle.debounce_model.specs.Due.{due_fronts, place_list, rests};
+ghost use Rattle.debounce_model.specs.Queues.{queue_at};
+ghost use Rattle.event_queue.specs.Due.{is_due};
+ghost use Rattle.front_index.specs.Fronts.{IsIndexed};
+ghost use Rattle.front_index.specs.Steps.{AreDuePaths, AreLater, ArePathsDue, AreThere, IsUndue, emitted_of, front_after, given_at, pair_of, taken_at, trimmed_at};
+
+use crate::fronts::{Fronts, QueueMap, pop_due};
+use crate::settle::{Pairs, add_pair, insert_pairs, tidy};
+use event_queue::due::Due;
+use notify_paths::path::PathBuf;
+use notify_types::event::DebouncedEvent;
+use std::alloc::{AllocError, Allocator};
+use std::collections::BTreeSet;
+use std::collections::btree_map::Entry;
+
+/// Paths, in their order.
+pub(crate) type Paths<A> = BTreeSet<PathBuf<A>, A>;
+
+/// The paths of the pairs that are due.
+pub(crate) fn due_paths<A: Allocator + Copy>(
+    fronts: &Fronts<A>,
+    alloc: A,
+    due: Due,
+) -> Result<Paths<A>, AllocError>
+    ensures { IfOk result (λ paths. AreDuePaths due fronts.now paths) }
+{
+    // The proof reads here that the pairs ascend.
+    let _len = fronts.len();
+    let mut paths = BTreeSet::new(alloc);
+    for front in fronts {
+        if !due.is_due_at(front.0) {
+            return Ok(paths);
+        }
+        let key = front.1.clone()?;
+        paths.insert(key)?;
+    }
+    Ok(paths)
+}
+
+/// Adds references to what is due at the path, and the pair of what stays there.
+fn lend_at<'a, A: Allocator + Copy>(
+    places: &mut Vec<&'a DebouncedEvent<A>, A>,
+    later: &mut Pairs<A>,
+    map: &'a QueueMap<A>,
+    path: &PathBuf<A>,
+    due: Due,
+) -> Result<(), AllocError>
+    ensures places { OnOk result (borrowed places.new.items ≡ borrowed places.old.items ++ emitted_of due (queue_at map.now.entries path.now)) }
+    ensures later { OnOk result (later.new.items ≡ later.old.items ++ pair_of (front_after due (queue_at map.now.entries path.now)) path.now) }
+{
+    let Some(queue) = map.get(path) else {
+        return Ok(());
+    };
+    add_pair(later, queue.time_after(due), path)?;
+    queue.lend_due(due, places)
+}
+
+/// Adds references to what is due at these paths, in their order, and returns the later fronts: the
+/// pairs of what stays there.
+pub(crate) fn lend_few<'a, A: Allocator + Copy>(
+    places: &mut Vec<&'a DebouncedEvent<A>, A>,
+    map: &'a QueueMap<A>,
+    paths: &Paths<A>,
+    due: Due,
+) -> Result<Pairs<A>, AllocError>
+    requires { ArePathsDue due map.now.entries paths.now }
+    ensures places { OnOk result (borrowed places.new.items ≡ borrowed places.old.items ++ place_list (is_due due) map.now.entries) }
+    ensures later { IfOk result (λ later. AreLater due map.now.entries later.items) }
+{
+    // The proof reads here that the paths ascend, in the map and in the set.
+    let _len = map.len();
+    let _paths = paths.len();
+    let mut later = Vec::new(*places.allocator());
+    for path in paths.iter() {
+        lend_at(places, &mut later, map, path, due)?;
+    }
+    Ok(later)
+}
+
+/// Takes what is due out of the queue of the path, by one search, and moves it to the end of `out`, which
+/// has room for it.
+fn give_at<A: Allocator + Copy>(
+    map: &mut QueueMap<A>,
+    path: PathBuf<A>,
+    due: Due,
+    out: &mut Vec<DebouncedEvent<A>, A>,
+)
+    requires there { is_some (queue_at map.old.entries path) ≡ true }
+    requires room { vec_len out.old + length (emitted_of due (queue_at map.old.entries path)) ≤ vec_capacity out.old }
+    ensures moved { out.new.items ≡ out.old.items ++ emitted_of due (queue_at map.old.entries path) }
+    ensures capacity { vec_capacity out.new ≡ vec_capacity out.old }
+    ensures taken { map.new.entries ≡ trimmed_at due map.old.entries path }
+{
+    match map.entry(path) {
+        Err(_refused) => {}
+        Ok(entry) => match entry {
+            Entry::Vacant(_vacant) => {}
+            Entry::Occupied(mut entry) => {
+                let stays = entry.get_mut().take_due(due, out);
+                if !stays {
+                    entry.remove();
+                }
+            }
+        },
+    }
+}
+
+/// Takes what is due out of the queues of these paths, one after the other, and moves it to the end of
+/// `out`, which has room for it.
+fn give_few<A: Allocator + Copy>(
+    map: &mut QueueMap<A>,
+    paths: Paths<A>,
+    due: Due,
+    out: &mut Vec<DebouncedEvent<A>, A>,
+)
+    requires there { AreThere due map.old.entries paths.keys }
+    requires room { vec_len out.old + length (given_at due map.old.entries paths.keys) ≤ vec_capacity out.old }
+    ensures moved { out.new.items ≡ out.old.items ++ given_at due map.old.entries paths.keys }
+    ensures capacity { vec_capacity out.new ≡ vec_capacity out.old }
+    ensures taken { map.new.entries ≡ taken_at due map.old.entries paths.keys }
+{
+    for path in paths {
+        give_at(map, path, due, out);
+    }
+}
+
+/// Takes the pairs that are due out of the index.
+fn drop_due<A: Allocator>(fronts: &mut Fronts<A>, due: Due)
+    ensures { IsUndue due fronts.old fronts.new }
+{
+    while let Some(_front) = pop_due(fronts, due) {}
+}
+
+/// Moves what is due at these paths to the end of `out`, which has room for it, in their order, and
+/// returns how many queues had something. The later fronts go into the index first, by what alone can
+/// fail; if that is refused, nothing has changed.
+pub(crate) fn take_few<A: Allocator + Copy>(
+    map: &mut QueueMap<A>,
+    fronts: &mut Fronts<A>,
+    paths: Paths<A>,
+    later: Pairs<A>,
+    due: Due,
+    out: &mut Vec<DebouncedEvent<A>, A>,
+) -> Result<usize, AllocError>
+    requires indexed { IsIndexed fronts.old map.old.entries }
+    requires paths { ArePathsDue due map.old.entries paths }
+    requires later { AreLater due map.old.entries later.items }
+    requires room { vec_len out.old + length (place_list (is_due due) map.old.entries) ≤ vec_capacity out.old }
+    ensures moved { OnOk result (out.new.items ≡ out.old.items ++ place_list (is_due due) map.old.entries) }
+    ensures capacity { vec_capacity out.new ≡ vec_capacity out.old }
+    ensures count { IfOk result (λ count. count ≡ due_fronts (is_due due) map.old.entries) }
+    ensures left { OnOk result (map.new.entries ≡ rests (is_due due) map.old.entries) }
+    ensures err { OnErr result (map.new.entries ≡ map.old.entries) }
+    ensures kept { OnErr result (out.new.items ≡ out.old.items) }
+    ensures indexed { IsIndexed fronts.new map.new.entries }
+{
+    // The proof reads here that the paths ascend, in the map and in the set.
+    let _len = map.len();
+    let count = paths.len();
+    if let Err(refused) = insert_pairs(fronts, later) {
+        tidy(map, fronts);
+        return Err(refused);
+    }
+    give_few(map, paths, due, out);
+    drop_due(fronts, due);
+    Ok(count)
+}
