@@ -74,7 +74,7 @@ pub(crate) fn lend_few<'a, A: Allocator + Copy>(
     let _len = map.len();
     let _paths = paths.len();
     let mut later = Vec::new(*places.allocator());
-    for path in paths.iter() {
+    for path in paths {
         lend_at(places, &mut later, map, path, due)?;
     }
     Ok(later)
