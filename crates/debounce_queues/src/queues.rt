@@ -159,8 +159,7 @@ impl<A: Allocator + Copy> Queues<A> {
         is_any_due(&self.map, &self.fronts, due)
     }
 
-    /// Returns how a tick comes to the queues that are due. A plan is for these queues as they are; the
-    /// three calls below take it.
+    /// Returns how a tick comes to the queues that are due. The plan is for the queues as they are now.
     pub fn plan(&self, due: Due) -> Result<Plan<A>, AllocError>
         ensures { IfOk result (λ plan. IsPlan due self.now plan) }
     {

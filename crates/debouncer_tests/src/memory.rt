@@ -76,9 +76,25 @@ fn check_cancelled(rt: &impl Abort, core: &mut Core, heap: Heap, texts: &str) {
 }
 
 /// How many requests for memory the tick makes that emits this event.
-fn requests_of_tick(rt: &impl Abort, heap: Heap, event: Event<Heap>) -> u64 {
+/// What comes after the event that is due, at fifteen other paths.
+const LATER: [&str; 15] = [
+    "later /b", "later /c", "later /d", "later /e", "later /f", "later /g", "later /h", "later /i",
+    "later /j", "later /k", "later /l", "later /m", "later /n", "later /o", "later /p",
+];
+
+/// How many requests for memory the tick makes that emits this event, and leaves the others.
+fn requests_of_tick(
+    rt: &impl Abort,
+    heap: Heap,
+    event: Event<Heap>,
+    others: &[&'static str],
+) -> u64 {
     let mut core = DebounceDataInner::new(heap, NoCache::new(), 50);
     core.add_event(event, 0, true).expect(rt, "memory");
+    for other in others {
+        let taken = take_step(rt, &mut core, heap, other, 0);
+        assert!(rt; taken, "{other}");
+    }
     heap.refuse(MANY);
     let batch = core.debounced_events(100).expect(rt, "memory");
     let requests = MANY.saturating_sub(heap.left());
@@ -86,15 +102,18 @@ fn requests_of_tick(rt: &impl Abort, heap: Heap, event: Event<Heap>) -> u64 {
     requests
 }
 
-/// A copy of an event would ask for memory for each of its paths.
+/// A copy of an event would ask for memory for each of its paths. The tick empties all queues, or the
+/// one of sixteen that is due.
 #[test]
 fn a_tick_moves_what_it_emits(rt: HostRuntime) {
     let heap = new_heap(&rt);
-    let of_one = requests_of_tick(&rt, heap, event(&rt, heap, CREATE, "/a"));
-    let other = PathBuf::parse(heap, "/b").expect(&rt, "memory");
-    let both = event(&rt, heap, CREATE, "/a").add_path(other);
-    let of_two = requests_of_tick(&rt, heap, both.expect(&rt, "memory"));
-    assert_eq!(rt; of_one, of_two);
+    for others in [&LATER[..0], &LATER[..]] {
+        let of_one = requests_of_tick(&rt, heap, event(&rt, heap, CREATE, "/a"), others);
+        let other = PathBuf::parse(heap, "/b").expect(&rt, "memory");
+        let both = event(&rt, heap, CREATE, "/a").add_path(other);
+        let of_two = requests_of_tick(&rt, heap, both.expect(&rt, "memory"), others);
+        assert_eq!(rt; of_one, of_two);
+    }
 }
 
 /// What comes first, and the step of which each request for memory is refused in turn.
