@@ -1,5 +1,5 @@
 -- Queues that are trimmed one after the other, at the paths that are due.
-use Rattle.std.proofs.Common.{◌≡◌, ℕ, ◌+◌, Bool, true, false, cond, not, ◌&&◌, ◌||◌, refl, ap, sym, ◌∙◌, arith, Option, Some, None, List, [], ◌∷◌, ◌++◌, is_some, length, true≢false}
+use Rattle.std.proofs.Common.{◌≡◌, ℕ, Bool, true, false, not, ◌&&◌, ◌||◌, refl, ap, sym, ◌∙◌, arith, List, [], ◌∷◌, ◌++◌, is_some, length}
 use Rattle.std.specs.Prelude.{if◌then◌else◌}
 use Rattle.std.specs.Ordering.{is_eq, ordering_reverse}
 use Rattle.std.specs.declared.cmp.Ordering.{Ordering}
@@ -12,7 +12,6 @@ use Rattle.std.specs.Map.{keys_of}
 use Rattle.std.proofs.lemmas.Cmp.{tied_itself}
 use Rattle.notify_paths.specs.Path.{PathValue, path_cmp}
 use Rattle.notify_paths.specs.PathLaws.{path_cmp_total}
-use Rattle.notify_types.specs.Event.{Timed}
 use Rattle.debounce_model.specs.Queues.{Queues, queue_at}
 use Rattle.debounce_model.specs.Due.{due_fronts, is_any_due, place_list, rests}
 use Rattle.debounce_model.proofs.DueCounts.{count_none}

@@ -1,7 +1,6 @@
 //! The index, and what it says of what is due.
 ghost use Rattle.std.specs.Prelude.{◌≡◌, ◌<◌, IfSome, IfNone, true, false, length, option_copied};
 ghost use Rattle.debounce_model.specs.Due.{is_any_due};
-ghost use Rattle.debounce_model.specs.Queues.{queue_at};
 ghost use Rattle.event_queue.specs.Due.{is_due, is_due_at};
 ghost use Rattle.front_index.specs.Fronts.{IsIndexed, front_of, has, is_front};
 ghost use Rattle.front_index.specs.Steps.{HasFirstDue, HasNoneDue, IsPopped, IsSame};
