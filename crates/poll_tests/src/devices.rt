@@ -24,10 +24,9 @@ const ALL_CREATED: &str =
 /// A look at each entry, and the names of each folder.
 const CALLS: u64 = 9;
 
-fn failing(
-    rt: &(impl Abort + AllocGlobal),
-    call: u64,
-) -> FailingFolders<std::alloc::Global, TreeFolders<std::alloc::Global>> {
+type Failing = FailingFolders<std::alloc::Global, TreeFolders<std::alloc::Global>>;
+
+fn failing(rt: &(impl Abort + AllocGlobal), call: u64) -> Failing {
     FailingFolders::new(rt.alloc(), tree(rt, rt.alloc(), SIX), call)
 }
 
@@ -57,35 +56,25 @@ fn a_failed_round_reports_its_error_and_nothing_else(rt: HostRuntime) {
 
 /// The first round fails at this call, and the second one reports everything.
 fn check_failed_round(rt: &(impl Abort + AllocGlobal), call: u64) {
-    let roots = root(rt, rt.alloc(), "/");
     let mut folders = failing(rt, call);
     let mut last = Listing::new(rt.alloc());
+    check_round(rt, &mut folders, &mut last, (false, 0, "error Io"), call);
+    check_round(rt, &mut folders, &mut last, (true, 6, ALL_CREATED), call);
+}
+
+/// Checks whether the round succeeds, how many entries its listing has, and what it reports.
+fn check_round(
+    rt: &(impl Abort + AllocGlobal),
+    folders: &mut Failing,
+    last: &mut Listing,
+    wanted: (bool, usize, &str),
+    call: u64,
+) {
+    let roots = root(rt, rt.alloc(), "/");
     let mut notes = Notes::new(rt);
-    let first = poll_round(
-        rt.alloc(),
-        &mut folders,
-        roots.as_slice(),
-        &mut last,
-        &mut notes,
-    );
-    let left = last.len();
-    assert_eq!(rt;
-        (first, left, notes.take().as_str()),
-        (false, 0, "error Io"),
-        "{call}"
-    );
-    let second = poll_round(
-        rt.alloc(),
-        &mut folders,
-        roots.as_slice(),
-        &mut last,
-        &mut notes,
-    );
-    assert_eq!(rt;
-        (second, last.len(), notes.take().as_str()),
-        (true, 6, ALL_CREATED),
-        "{call}"
-    );
+    let polled = poll_round(rt.alloc(), folders, roots.as_slice(), last, &mut notes);
+    let text = notes.take();
+    assert_eq!(rt; (polled, last.len(), text.as_str()), wanted, "{call}");
 }
 
 /// Folders of which one goes missing after it was looked at.

@@ -1,18 +1,16 @@
 //! The README's example of a debouncer that runs. The gate compares the lines with the README's.
+use crate::real::new_folder;
 use notify_debouncer_full::{
     DebounceEventResult, Debouncer, PathBuf, RecommendedCache, RecommendedWatcher, RecursiveMode,
     new_debouncer,
 };
 use std::test::Fail;
 use std::time::Duration;
-use std::{env, fs, process, thread};
+use std::{fs, thread};
 
 #[test]
 fn the_example_runs(rt: HostRuntime) -> Result<(), Fail> {
-    let base = env::temp_dir(&rt)?;
-    let number = process::id(rt.process());
-    let folder = format!(in rt.alloc(); "{}/poll_tests_{number}_readme", base.as_str())?;
-    fs::create_dir(&rt, folder.as_str())?;
+    let folder = new_folder(rt, "readme")?;
     let print = move |outcome: DebounceEventResult| {
         if let Ok(batch) = outcome {
             for event in &batch {

@@ -70,10 +70,7 @@ fn tick(rt: &(impl Abort + AllocGlobal), feeds: &mut Feeds, now: u128) -> Vec<De
 
 /// The paths that a reader has once it has also played what still waits.
 fn paths_after(rt: &(impl Abort + AllocGlobal), reader: &PathSet, feeds: &Feeds) -> Vec<PathBuf> {
-    let mut after = PathSet::new(rt.alloc());
-    for place in reader.to_list().expect(rt, "memory") {
-        after.insert(place).expect(rt, "memory");
-    }
+    let mut after = reader.try_clone().expect(rt, "memory");
     let outlook = feeds.core.outlook().expect(rt, "memory");
     after.play(outlook.as_slice()).expect(rt, "memory");
     after.to_list().expect(rt, "memory")
@@ -98,17 +95,16 @@ fn a_reader_ends_with_the_paths_of_the_last_listing(rt: HostRuntime) {
         poll(&rt, &mut last, &mut feeds, text, now);
         let batch = tick(&rt, &mut feeds, now.saturating_add(30));
         reader.play(batch.as_slice()).expect(&rt, "memory");
-        check_paths(&rt, paths_after(&rt, &reader, &feeds), text);
+        check_paths(&rt, paths_after(&rt, &reader, &feeds).as_slice(), text);
         now = now.saturating_add(40);
     }
 }
 
 /// Checks that these are the paths of the tree's text.
-fn check_paths(rt: &(impl Abort + AllocGlobal), paths: Vec<PathBuf>, text: &str) {
+fn check_paths(rt: &(impl Abort + AllocGlobal), paths: &[PathBuf], text: &str) {
     for entry in text.split(", ") {
         let (place, _) = entry.split_once(' ').expect(rt, entry);
-        let place = path(rt, rt.alloc(), place);
-        assert!(rt; paths.contains(&place), "{text}");
+        assert!(rt; paths.contains(&path(rt, rt.alloc(), place)), "{text}");
     }
     assert_eq!(rt; paths.len(), text.split(", ").count(), "{text}");
 }
@@ -151,5 +147,5 @@ fn a_folder_becomes_a_file(rt: HostRuntime) {
     }
     reader.play(batch.as_slice()).expect(&rt, "memory");
     let paths = reader.to_list().expect(&rt, "memory");
-    check_paths(&rt, paths, "/ folder, /d file 5");
+    check_paths(&rt, paths.as_slice(), "/ folder, /d file 5");
 }
