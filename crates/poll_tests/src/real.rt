@@ -41,7 +41,8 @@ fn change_at(rt: HostRuntime, word: &str, place: &str, text: &str) -> Result<(),
     Ok(done?)
 }
 
-/// How many entries a listing of the folder has below it, and how many calls failed, unless the listing fails.
+/// How many entries a listing of the folder has below it, and how many calls failed. None if the
+/// listing is refused.
 fn count_below(rt: HostRuntime, top: &str, mode: RecursiveMode) -> Option<(usize, u64)> {
     let place = PathBuf::parse(rt.alloc(), top).ok()?;
     let above = place.folders().count();
