@@ -2,35 +2,11 @@
 use crate::build::created;
 use notify_debouncer_full::{
     Book, DebounceEventHandler, DebounceEventResult, DebouncedEvent, Error, ErrorKind, Event, Gate,
-    Moment, NoCache, Ticked, feed_one, feed_step, tick_step, turn,
+    Moment, NoCache, Ticked, feed_step, tick_step, turn,
 };
 use std::alloc::Global;
 use std::mem::replace;
 use std::process::Abort;
-
-/// A gate over a book of its own.
-#[derive(Drop)]
-struct OpenGate {
-    book: Book<NoCache>,
-}
-
-impl Gate<Event, Error, Vec<DebouncedEvent>, Vec<Error>> for OpenGate {
-    ghost feeds = { λ _ _ _ _ _ _. Unit {0} };
-
-    ghost ticks = { λ _ _ _ _ _. Unit {0} };
-
-    fn feed(&mut self, item: Result<Event, Error>, now: Moment, exists: bool) -> Result<(), Error>
-        ensures { Unit {0} }
-    {
-        feed_step(&mut self.book, item, now, exists)
-    }
-
-    fn tick(&mut self, now: Moment) -> Ticked<Global>
-        ensures { Unit {0} }
-    {
-        tick_step(&mut self.book, now)
-    }
-}
 
 /// A gate that emits what it was loaded with, once, and then nothing.
 #[derive(Drop)]
@@ -123,24 +99,6 @@ fn a_turn_emits_the_batch_and_then_the_errors(rt: HostRuntime) {
 fn a_refused_tick_keeps_no_errors_back(rt: HostRuntime) {
     let mut gate = loaded(&rt, Err(Error::out_of_memory(rt.alloc())), 1);
     assert!(rt; turn_calls(&rt, &mut gate, "errors 1 "));
-}
-
-#[test]
-fn what_was_fed_is_emitted(rt: HostRuntime) {
-    let alloc = rt.alloc();
-    let mut gate = OpenGate {
-        book: Book::new(alloc, NoCache::new(), 50),
-    };
-    feed_one(&mut gate, Ok(created(&rt, alloc, "/a")), 0, true).expect(&rt, "memory");
-    let error = Error::new(alloc, ErrorKind::PathNotFound);
-    feed_one(&mut gate, Err(error), 1, false).expect(&rt, "memory");
-    let mut handler = Recorder {
-        calls: String::new(alloc),
-    };
-    turn(&mut gate, 49, &mut handler).expect(&rt, "memory");
-    turn(&mut gate, 50, &mut handler).expect(&rt, "memory");
-    turn(&mut gate, 100, &mut handler).expect(&rt, "memory");
-    assert_eq!(rt; handler.calls.as_str(), "errors 1 batch 1 ");
 }
 
 #[test]

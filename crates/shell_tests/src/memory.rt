@@ -1,5 +1,5 @@
 //! Each request for memory refused in turn.
-use crate::build::{Heap, created, new_heap, path};
+use crate::build::{Heap, Host, created, new_heap, path};
 use crate::watchers::Starved;
 use notify_debouncer_full::{
     Book, Command, Config, DebounceEventHandler, DebounceEventResult, Debouncer, Entry, Error,
@@ -171,7 +171,7 @@ impl DebounceEventHandler<DebounceEventResult<Heap>> for Silent {
     {}
 }
 
-type Hungry = Debouncer<Starved<HostRuntime>, NoCache, HostRuntime, Heap>;
+type Hungry<R> = Debouncer<Starved<R>, NoCache, R, Heap>;
 
 #[test]
 fn each_refused_event_is_missed(rt: HostRuntime) {
@@ -180,7 +180,7 @@ fn each_refused_event_is_missed(rt: HostRuntime) {
     let timeout = Duration::from_secs(60);
     let cache = NoCache::new();
     let config = Config::default();
-    let debouncer: Result<Hungry, Error<Heap>> = new_journaled_debouncer(
+    let debouncer: Result<Hungry<HostRuntime>, Error<Heap>> = new_journaled_debouncer(
         rt,
         heap,
         timeout,
@@ -208,22 +208,49 @@ fn each_refused_event_is_missed(rt: HostRuntime) {
     assert!(rt; missed > 0 && missed < 49, "{missed}");
 }
 
-#[test]
-fn a_refused_copy_of_the_journal_is_reported(rt: HostRuntime) {
-    let heap = new_heap(&rt);
+/// A debouncer that keeps a journal, and was fed one half of a rename for each of these paths.
+fn fed<R: Host>(rt: R, heap: Heap, places: &[&str]) -> Hungry<R> {
     let (timeout, config) = (Duration::from_millis(4), Config::default());
     let cache = NoCache::new();
-    let debouncer: Result<Hungry, Error<Heap>> = new_journaled_debouncer(
+    let debouncer: Result<Hungry<R>, Error<Heap>> = new_journaled_debouncer(
         rt, heap, timeout, None, Silent, cache, config,
     );
     let mut debouncer = debouncer.expect(&rt, "a debouncer");
+    for place in places {
+        debouncer
+            .watch(&path(&rt, heap, place), RecursiveMode::Recursive)
+            .expect(&rt, "memory");
+    }
     debouncer
-        .watch(&path(&rt, heap, "/a"), RecursiveMode::Recursive)
-        .expect(&rt, "memory");
-    heap.refuse(u64::MAX);
-    let refusal = debouncer.stop_journal().err().expect(&rt, "a refusal");
+}
+
+/// Stops a debouncer while the nth request for memory is refused. Answers whether the copy of its
+/// journal was refused, and whether that many requests came: the worker's last turn makes some too.
+fn stop_refused<R: Host>(rt: R, heap: Heap, n: u64) -> (bool, bool) {
+    let debouncer = fed(rt, heap, &["/a"]);
+    heap.refuse(n);
+    let answer = debouncer.stop_journal();
+    let came = heap.left() == 0;
     heap.refuse(0);
-    assert!(rt; refusal == Error::new(heap, ErrorKind::Memory));
+    let refusal = answer.err();
+    let refused = refusal == Some(Error::new(heap, ErrorKind::Memory));
+    assert!(rt; refused || refusal.is_none(), "{n}");
+    (refused, came)
+}
+
+#[test]
+fn each_refused_copy_of_the_journal_is_reported(rt: HostRuntime) {
+    let heap = new_heap(&rt);
+    let mut count = 0u64;
+    for n in 1..200u64 {
+        let (refused, came) = stop_refused(rt, heap, n);
+        assert!(rt; came || !refused, "{n}");
+        if !came {
+            break;
+        }
+        count = count.saturating_add(u64::from(refused));
+    }
+    assert!(rt; 3 < count && count < 199, "{count}");
 }
 
 /// Whether the first path of each event existed when it was fed.
@@ -241,17 +268,7 @@ fn existing(rt: &(impl Abort + AllocGlobal), journal: &[Entry<Heap>]) -> String 
 #[test]
 fn a_feed_sees_whether_the_path_of_a_half_exists(rt: HostRuntime) {
     let heap = new_heap(&rt);
-    let (timeout, config) = (Duration::from_millis(4), Config::default());
-    let cache = NoCache::new();
-    let debouncer: Result<Hungry, Error<Heap>> = new_journaled_debouncer(
-        rt, heap, timeout, None, Silent, cache, config,
-    );
-    let mut debouncer = debouncer.expect(&rt, "a debouncer");
-    for place in ["/", "/nothing has this name"] {
-        debouncer
-            .watch(&path(&rt, heap, place), RecursiveMode::Recursive)
-            .expect(&rt, "memory");
-    }
+    let debouncer = fed(rt, heap, &["/", "/nothing has this name"]);
     let (_, journal) = debouncer.stop_journal().expect(&rt, "memory");
     assert_eq!(rt; existing(&rt, &journal).as_str(), "yes no ");
 }
