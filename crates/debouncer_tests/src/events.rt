@@ -4,7 +4,7 @@ ghost use Rattle.std.specs.Prelude.{◌≡◌, length};
 use crate::build::{CREATE, event, path, timed};
 use notify_debouncer_full::{
     DebouncedEvent, Error, ErrorKind, Event, EventAttributes, EventKind, Flag, ModifyKind,
-    RenameMode, age, sort_events,
+    RenameMode, sort_events,
 };
 use std::io;
 use std::process::Abort;
@@ -14,13 +14,6 @@ fn full_event(rt: &(impl Abort + AllocGlobal)) -> Event {
     let info = String::from_str(rt.alloc(), "words").expect(rt, "memory");
     let plain = event(rt, kind, "/a");
     plain.set_tracker(7).set_info(info).set_flag(Flag::Rescan)
-}
-
-#[test]
-fn events_are_built(rt: HostRuntime) {
-    let built = full_event(&rt);
-    assert_eq!(rt; (built.tracker(), built.info()), (Some(7), Some("words")));
-    assert!(rt; built.need_rescan());
 }
 
 #[test]
@@ -44,33 +37,6 @@ fn debounced_events_differ_by_their_time(rt: HostRuntime) {
     let copy = first.try_clone().expect(&rt, "memory");
     let later = timed(&rt, CREATE, "/a", 4);
     assert!(rt; first == copy && first != later);
-}
-
-#[test]
-fn a_clock_that_went_back_gives_no_age(rt: HostRuntime) {
-    assert_eq!(rt; [age(5, 3), age(3, 5)], [2, 0]);
-}
-
-#[test]
-fn group_keeps_its_order(rt: HostRuntime) {
-    let events = vec![in rt.alloc();
-        timed(&rt, EventKind::Any, "/a", 5),
-        timed(&rt, EventKind::Any, "/a", 3),
-        timed(&rt, EventKind::Any, "/a", 7),
-        timed(&rt, EventKind::Any, "/b", 4),
-    ]
-    .expect(&rt, "memory");
-    let sorted = sort_events(rt.alloc(), events).expect(&rt, "memory");
-    check_times(&rt, sorted.as_slice());
-}
-
-fn check_times(rt: &impl Abort, sorted: &[DebouncedEvent]) {
-    assert_eq!(rt; sorted.len(), 4);
-    assert_eq!(rt; times_of_four(sorted), [4, 5, 3, 7]);
-    check_first_path(rt, &sorted[0], "/b");
-    for event in &sorted[1..] {
-        check_first_path(rt, event, "/a");
-    }
 }
 
 fn times_of_four(events: &[DebouncedEvent]) -> [u128; 4]

@@ -1,6 +1,6 @@
 //! A reader's set of paths.
 use crate::build::{CREATE, REMOVE, path, timed};
-use notify_debouncer_full::{DebouncedEvent, Event, PathBuf};
+use notify_debouncer_full::{DebouncedEvent, Event};
 use notify_mirror::PathSet;
 use std::process::Abort;
 
@@ -19,20 +19,6 @@ fn play_batch(rt: &(impl Abort + AllocGlobal), set: &mut PathSet) {
     let nameless = DebouncedEvent::new(Event::new(rt.alloc(), CREATE), 2);
     let events = vec![in rt.alloc(); removed, created, nameless].expect(rt, "memory");
     set.play(events.as_slice()).expect(rt, "memory");
-}
-
-#[test]
-fn a_reader_plays_a_batch(rt: HostRuntime) {
-    let mut set = reader_paths(&rt);
-    play_batch(&rt, &mut set);
-    let places = set.to_list().expect(&rt, "memory");
-    check_texts(&rt, places.as_slice());
-}
-
-fn check_texts(rt: &impl Abort, places: &[PathBuf]) {
-    assert_eq!(rt; places.len(), 3);
-    let texts = [places[0].as_str(), places[1].as_str(), places[2].as_str()];
-    assert_eq!(rt; texts, ["/", "/e", "/f"]);
 }
 
 #[test]
