@@ -33,7 +33,7 @@ impl<'a> Case<'a> {
         })
     }
 
-    /// Runs the script, prints the case's name and `ok`, and returns true; or prints the name and both
+    /// Runs the script, and returns true if it prints what it should; or prints the case's name and both
     /// texts, and returns false.
     pub fn check<O: Write, E: Write>(
         self,
@@ -61,9 +61,7 @@ impl<'a> Case<'a> {
         out: &mut O,
     ) -> io::Result<bool> {
         let met = is_met(status, wanted, printed);
-        if met {
-            writeln!(out, "{} ok", self.name)?;
-        } else {
+        if !met {
             writeln!(out, "{} ends with status {status}. Wanted:", self.name)?;
             out.write_all(wanted.as_bytes())?;
             writeln!(out, "Printed:")?;

@@ -1,52 +1,114 @@
-//! The program `worked_cases`: it runs each case of a document, and says which of them print what the
-//! document says. `worked_cases DOCUMENT`. It ends with status 1 if a case differs or no document is
-//! named, and with 2 if the document can't be read or the output fails.
+//! The program `worked_cases`: it runs each script of some documents, and says which of them print what
+//! their document says; and it runs each again and again, while one request for memory, read, write or
+//! flush after the other goes wrong. `worked_cases DOCUMENT..`.
+//!
+//! For each script it prints `ok` and which of its commands, counted from 1, ask a debouncer without a
+//! cache for no memory; to each script it adds `errors` and a `tick` at the greatest moment. Otherwise it
+//! prints what differs. It ends with status 1 if a case differs, a failure isn't told or no document is
+//! named, and with 2 if a document can't be read, memory is out or the output fails.
 #![tactic(auto)]
 
+mod calls;
 mod case;
+mod devices;
+mod numbers;
+mod printed;
+mod subject;
+mod sweep;
 
+use calls::CALLS;
 use case::Case;
+use refusing_allocator::Refusing;
 use std::alloc::Global;
 use std::io::Write;
 use std::process::ExitCode;
 use std::{env, fs, io};
+use subject::Heap;
 
-/// Checks the cases of the document in turn, and returns whether each printed what it should.
-fn check_cases<O: Write, E: Write>(
+/// The name and the script of a section of a document: its first line, and its first fenced block.
+fn story_of(section: &str) -> Option<(&str, &str)> {
+    let (name, text) = section.split_once('\n')?;
+    let (_before, text) = text.split_once("```\n")?;
+    let (script, _after) = text.split_once("```\n")?;
+    Some((name, script))
+}
+
+/// Checks the case that the section holds, if it holds one, and then its script with each request
+/// refused in turn. Prints a line, and returns whether all was as it should be.
+fn check_section<O: Write, E: Write>(
+    heap: Heap<'_>,
+    alloc: Global,
+    section: &str,
+    out: &mut O,
+    err: &mut E,
+) -> io::Result<bool> {
+    let Some((name, script)) = story_of(section) else {
+        return Ok(true);
+    };
+    if let Some(case) = Case::read(section) {
+        if !case.check(alloc, out, err)? {
+            return Ok(false);
+        }
+    }
+    let mut note = String::new(alloc);
+    if sweep::note(heap, alloc, script, &mut note)? {
+        printed::note(heap, alloc, script, &mut note)?;
+        writeln!(out, "{name} ok{note}")?;
+    }
+    Ok(true)
+}
+
+/// Checks the sections of a document in turn, and returns whether all was as it should be.
+fn check_sections<O: Write, E: Write>(
+    heap: Heap<'_>,
     alloc: Global,
     document: &str,
     out: &mut O,
     err: &mut E,
 ) -> io::Result<bool> {
-    let mut count = 0u64;
     let mut all_met = true;
     for section in document.split("\n## ") {
-        if let Some(case) = Case::read(section) {
-            let met = case.check(alloc, out, err)?;
-            all_met = all_met && met;
-            count = count.saturating_add(1);
-        }
+        let met = check_section(heap, alloc, section, out, err)?;
+        all_met = all_met && met;
     }
-    writeln!(out, "{count} cases ran")?;
     Ok(all_met)
 }
 
-fn check_document(rt: &HostRuntime, name: &str) -> io::Result<bool> {
-    let document = fs::read_to_string(rt, name)?;
-    check_cases(
-        rt.alloc(),
-        document.as_str(),
-        &mut rt.stdout(),
-        &mut rt.stderr(),
-    )
+/// Refuses each request of the calls that are no commands, and returns whether each said so.
+fn check_calls<O: Write>(heap: Heap<'_>, out: &mut O) -> io::Result<bool> {
+    let mut all_met = true;
+    for call in CALLS {
+        let met = call.is_refused(heap)?;
+        let word = if met { "ok" } else { "differs" };
+        writeln!(out, "{} {word}", call.name())?;
+        all_met = all_met && met;
+    }
+    Ok(all_met)
+}
+
+fn check_documents(rt: &HostRuntime, names: &[String]) -> io::Result<bool> {
+    let heap = Refusing::new(rt.alloc());
+    let mut all_met = check_calls(&heap, &mut rt.stdout())?;
+    for name in names {
+        let document = fs::read_to_string(rt, name.as_str())?;
+        let met = check_sections(
+            &heap,
+            rt.alloc(),
+            document.as_str(),
+            &mut rt.stdout(),
+            &mut rt.stderr(),
+        )?;
+        all_met = all_met && met;
+    }
+    Ok(all_met)
 }
 
 fn run(rt: &HostRuntime) -> io::Result<bool> {
     let words: Vec<String> = env::args(rt)?.collect(rt.alloc())?;
     match words.as_slice() {
-        [_, name] => check_document(rt, name.as_str()),
+        [_, names @ ..] if !names.is_empty() => check_documents(rt, names),
         _ => {
-            rt.eprintln("usage: worked_cases DOCUMENT")?;
+            rt.eprintln("usage: worked_cases DOCUMENT..")?;
             Ok(false)
         }
     }
@@ -57,7 +119,9 @@ fn main(rt: HostRuntime) -> ExitCode {
         Ok(true) => ExitCode::SUCCESS,
         Ok(false) => ExitCode::from(1),
         Err(_) => {
-            let _ = rt.eprintln("worked_cases: the document can't be read, or the output fails");
+            let _ = rt.eprintln(
+                "worked_cases: a document can't be read, or the output or memory fails",
+            );
             ExitCode::from(2)
         }
     }

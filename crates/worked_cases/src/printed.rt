@@ -1,0 +1,205 @@
+//! A script that is run and printed, while one request for memory, read, write or flush after the other
+//! goes wrong.
+use crate::devices::{Narrow, PIECE, Torn};
+use crate::subject::Heap;
+use crate::sweep::MOST;
+use notify_mirror::{check_run, script_run};
+use std::alloc::{AllocError, Global};
+
+/// How a script is run.
+#[derive(Clone, Copy, Debug, PartialEq)]
+enum Form {
+    Run,
+    Check,
+}
+
+/// What goes wrong.
+#[derive(Clone, Copy, Debug, PartialEq)]
+enum Trouble {
+    Memory,
+    Read,
+    Write,
+    Flush,
+}
+
+const TROUBLES: [Trouble; 4] = [
+    Trouble::Memory,
+    Trouble::Read,
+    Trouble::Write,
+    Trouble::Flush,
+];
+
+impl Trouble {
+    /// Returns n if it is this kind of call that goes wrong, else 0.
+    fn at(self, kind: Trouble, n: u64) -> u64 {
+        if self == kind { n } else { 0 }
+    }
+}
+
+/// Writes down which call of a run of the script, in each form, isn't told if it goes wrong: each call
+/// is tried in turn.
+pub fn note(
+    heap: Heap<'_>,
+    alloc: Global,
+    script: &str,
+    note: &mut String,
+) -> Result<(), AllocError> {
+    for form in [Form::Run, Form::Check] {
+        let whole = Printed::of(form, heap, alloc, script, Trouble::Memory, 0);
+        for trouble in TROUBLES {
+            if let Some(n) = untold(form, heap, alloc, script, trouble, &whole)? {
+                write!(note, ", {form:?} hides {trouble:?} {n}")?;
+            }
+        }
+    }
+    Ok(())
+}
+
+/// Which such call isn't told, up to the first run that makes fewer; that one has to print the whole.
+fn untold(
+    form: Form,
+    heap: Heap<'_>,
+    alloc: Global,
+    script: &str,
+    trouble: Trouble,
+    whole: &Printed,
+) -> Result<Option<u64>, AllocError> {
+    for n in 1..MOST {
+        let printed = Printed::of(form, heap, alloc, script, trouble, n);
+        if !printed.came && 1 < n && printed.is_same(whole) {
+            return Ok(None);
+        }
+        if !printed.tells(trouble, n, whole) && !printed.leaves_out(form, heap, alloc, script)? {
+            return Ok(Some(n));
+        }
+    }
+    Ok(Some(MOST))
+}
+
+/// What a run wrote, its exit status, and whether the call came that was to go wrong.
+#[derive(Drop)]
+struct Printed {
+    status: u8,
+    out: Narrow,
+    err: Vec<u8>,
+    came: bool,
+}
+
+impl Printed {
+    /// Runs the script with this memory, while the nth call of a kind goes wrong, or none if n is 0.
+    fn of(
+        form: Form,
+        heap: Heap<'_>,
+        alloc: Global,
+        script: &str,
+        trouble: Trouble,
+        n: u64,
+    ) -> Printed {
+        let mut reader = Torn {
+            bytes: script.as_bytes(),
+            left: trouble.at(Trouble::Read, n),
+        };
+        let mut out = Narrow {
+            got: Vec::new(alloc),
+            writes: trouble.at(Trouble::Write, n),
+            flushes: trouble.at(Trouble::Flush, n),
+        };
+        let mut err = Vec::new(alloc);
+        heap.refuse(trouble.at(Trouble::Memory, n));
+        let status = match form {
+            Form::Run => script_run(heap, "s", &mut reader, &mut out, &mut err),
+            Form::Check => check_run(heap, "s", &mut reader, &mut out, &mut err),
+        };
+        let left = [heap.left(), reader.left, out.writes, out.flushes];
+        heap.refuse(0);
+        Printed {
+            status,
+            out,
+            err,
+            came: left == [0, 0, 0, 0],
+        }
+    }
+
+    fn out(&self) -> &[u8] {
+        self.out.got.as_slice()
+    }
+
+    /// Whether this wrote the same and ended with the same status.
+    fn is_same(&self, other: &Printed) -> bool {
+        self.status == other.status && self.out() == other.out() && self.err == other.err
+    }
+
+    /// Whether this ended with the status and the line on standard error.
+    fn ends(&self, status: u8, line: &str) -> bool {
+        self.status == status && self.err.as_slice() == line.as_bytes()
+    }
+
+    /// Whether the run ended as it should if its nth call of the kind goes wrong, and wrote what comes
+    /// before.
+    fn tells(&self, trouble: Trouble, n: u64, whole: &Printed) -> bool {
+        match trouble {
+            // std asks once more for less if it finds no memory for a buffer twice as long
+            Trouble::Memory => {
+                self.is_same(whole)
+                    || self.ends(4, "mirror: out of memory\n")
+                        && whole.out().starts_with(self.out())
+            }
+            Trouble::Read => self.ends(1, "mirror: cannot read s\n") && self.out().is_empty(),
+            Trouble::Write => {
+                let pieces = n.saturating_sub(1);
+                self.ends(6, "")
+                    && self.out().len() as u64 == pieces.saturating_mul(PIECE as u64)
+                    && whole.out().starts_with(self.out())
+            }
+            Trouble::Flush => self.ends(6, "") && self.out() == whole.out(),
+        }
+    }
+
+    /// Whether the run printed one line that says that a command was refused, and beside it what a run
+    /// prints of the script without some line.
+    fn leaves_out(
+        &self,
+        form: Form,
+        heap: Heap<'_>,
+        alloc: Global,
+        script: &str,
+    ) -> Result<bool, AllocError> {
+        let Some(rest) = self.without_refusal(alloc)? else {
+            return Ok(false);
+        };
+        for place in 0..script.split('\n').count() {
+            let shorter = without_line(alloc, script, place)?;
+            let printed = Printed::of(form, heap, alloc, shorter.as_str(), Trouble::Memory, 0);
+            if printed.out() == rest.as_bytes() {
+                return Ok(self.ends(0, ""));
+            }
+        }
+        Ok(false)
+    }
+
+    /// What was printed, without the one line of a command that found no memory.
+    fn without_refusal(&self, alloc: Global) -> Result<Option<String>, AllocError> {
+        let Ok(text) = str::from_utf8(self.out()) else {
+            return Ok(None);
+        };
+        let Some((before, after)) = text.split_once("refused Memory\n") else {
+            return Ok(None);
+        };
+        let mut rest = String::from_str(alloc, before)?;
+        rest.push_str(after)?;
+        Ok(Some(rest))
+    }
+}
+
+/// The script without the line at this place.
+fn without_line(alloc: Global, script: &str, place: usize) -> Result<String, AllocError> {
+    let mut shorter = String::new(alloc);
+    let mut left = place;
+    for line in script.split_inclusive('\n') {
+        if left != 0 {
+            shorter.push_str(line)?;
+        }
+        left = left.wrapping_sub(1);
+    }
+    Ok(shorter)
+}
