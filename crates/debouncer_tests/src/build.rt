@@ -1,12 +1,6 @@
 //! What several tests build. There is memory for it, so each call hands out what it is asked for.
-use notify_debouncer_full::{
-    CreateKind, DebounceDataInner, DebouncedEvent, Event, EventKind, NoCache, PathBuf, RemoveKind,
-};
+use notify_debouncer_full::{DebounceDataInner, Event, EventKind, NoCache, PathBuf};
 use std::process::Abort;
-
-pub const CREATE: EventKind = EventKind::Create(CreateKind::Any);
-
-pub const REMOVE: EventKind = EventKind::Remove(RemoveKind::Any);
 
 pub type Core = DebounceDataInner<NoCache>;
 
@@ -18,15 +12,6 @@ pub fn event(rt: &(impl Abort + AllocGlobal), kind: EventKind, text: &str) -> Ev
     Event::new(rt.alloc(), kind)
         .add_path(path(rt, text))
         .expect(rt, "memory")
-}
-
-pub fn timed(
-    rt: &(impl Abort + AllocGlobal),
-    kind: EventKind,
-    text: &str,
-    time: u128,
-) -> DebouncedEvent {
-    DebouncedEvent::new(event(rt, kind, text), time)
 }
 
 pub fn new_core(rt: &(impl Abort + AllocGlobal)) -> Core {

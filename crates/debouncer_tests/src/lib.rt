@@ -1,5 +1,6 @@
-//! Tests that cross the crates: faults in scripts, devices that fail, memory that ends, and one call of
-//! each public function at a concrete type. The worked cases stand in the crate `worked_cases`.
+//! Tests of what no clause says: how often memory is asked for, file numbers that a scan finds, folders in
+//! memory that fail, real folders, and a debouncer that polls. The worked cases stand in the crate
+//! `worked_cases`.
 #![tactic(auto)]
 
 #[cfg(test)]
@@ -7,20 +8,28 @@ mod build;
 #[cfg(test)]
 mod cache;
 #[cfg(test)]
-mod debouncer;
+mod comparing;
 #[cfg(test)]
 mod devices;
 #[cfg(test)]
-mod events;
+mod errors;
 #[cfg(test)]
 mod folders;
+#[cfg(test)]
+mod listings;
 #[cfg(test)]
 mod memory;
 #[cfg(test)]
 mod paths;
 #[cfg(test)]
-mod readers;
-#[cfg(test)]
 mod readme;
 #[cfg(test)]
-mod scripts;
+mod real;
+#[cfg(test)]
+mod roots;
+#[cfg(test)]
+mod rounds;
+#[cfg(test)]
+mod running;
+#[cfg(test)]
+mod trees;

@@ -30,23 +30,3 @@ fn check_reading(rt: &impl Abort, read: &PathBuf, printed: &str) {
     assert_eq!(rt; [text.as_str(), read.as_str()], [printed, printed]);
     assert!(rt; copy == *read);
 }
-
-#[test]
-fn a_folder_names_its_entries(rt: HostRuntime) {
-    let folder = path(&rt, "/a");
-    let child = folder
-        .child("x")
-        .expect(&rt, "memory")
-        .expect(&rt, "a name");
-    let parent = child.parent().expect(&rt, "memory");
-    assert_eq!(rt; (child.as_str(), child.file_name()), ("/a/x", Some("x")));
-    assert!(rt; parent == Some(folder));
-    check_other_texts(&rt, &child);
-}
-
-fn check_other_texts(rt: &impl Abort, folder: &PathBuf) {
-    for text in ["", ".", "..", "x/y"] {
-        let none = folder.child(text).expect(rt, "memory");
-        assert!(rt; none.is_none(), "{text}");
-    }
-}

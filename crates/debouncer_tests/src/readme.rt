@@ -1,9 +1,14 @@
-//! The README's example of the state machine. The gate compares the lines with the README's.
-
+//! The README's examples. The gate compares the lines with the README's.
+use crate::real::new_folder;
 use notify_debouncer_full::{
-    CreateKind, DebounceDataInner, DebouncedEvent, Error, Event, EventKind, NoCache, PathBuf,
+    CreateKind, DebounceDataInner, DebounceEventResult, DebouncedEvent, Debouncer, Error, Event,
+    EventKind, NoCache, PathBuf, RecommendedCache, RecommendedWatcher, RecursiveMode,
+    new_debouncer,
 };
 use std::alloc::Global;
+use std::test::Fail;
+use std::time::Duration;
+use std::{fs, thread};
 
 fn emitted(alloc: Global) -> Result<Vec<DebouncedEvent>, Error> {
     let mut core = DebounceDataInner::new(alloc, NoCache::new(), 50_000_000); // the timeout, in nanoseconds
@@ -18,4 +23,26 @@ fn emitted(alloc: Global) -> Result<Vec<DebouncedEvent>, Error> {
 fn the_example_emits_its_event(rt: HostRuntime) {
     let batch = emitted(rt.alloc()).expect(&rt, "memory");
     assert_eq!(rt; batch.len(), 1);
+}
+
+#[test]
+fn the_example_runs(rt: HostRuntime) -> Result<(), Fail> {
+    let folder = new_folder(rt, "readme")?;
+    let print = move |outcome: DebounceEventResult| {
+        if let Ok(batch) = outcome {
+            for event in &batch {
+                let _ = rt.println(event.event.kind.word());
+            }
+        }
+    };
+    let mut debouncer: Debouncer<RecommendedWatcher<HostRuntime>, RecommendedCache, HostRuntime> =
+        new_debouncer(rt, rt.alloc(), Duration::from_secs(2), None, print)?;
+    debouncer.watch(
+        &PathBuf::parse(rt.alloc(), folder.as_str())?,
+        RecursiveMode::Recursive,
+    )?;
+    thread::sleep(&rt, Duration::from_secs(1)); // the program goes on, and batches are printed
+    debouncer.stop();
+    fs::remove_dir_all(&rt, folder.as_str())?;
+    Ok(())
 }

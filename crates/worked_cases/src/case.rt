@@ -8,7 +8,7 @@ use std::io::Write;
 
 /// A case: its name, the script, what the script is to print, and the two lines that `--check` is to
 /// add. Without these lines the script isn't checked.
-#[derive(Clone, Copy, Debug)]
+#[derive(Clone, Copy)]
 pub struct Case<'a> {
     name: &'a str,
     script: &'a str,

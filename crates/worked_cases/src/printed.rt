@@ -47,7 +47,7 @@ pub fn note(
     for form in [Form::Run, Form::Check] {
         let whole = Printed::of(form, heap, alloc, script, Trouble::Memory, 0);
         for trouble in TROUBLES {
-            if let Some(n) = untold(form, heap, alloc, script, trouble, &whole)? {
+            if let Some(n) = untold(form, heap, alloc, script, trouble, &whole) {
                 write!(note, ", {form:?} hides {trouble:?} {n}")?;
             }
         }
@@ -63,17 +63,17 @@ fn untold(
     script: &str,
     trouble: Trouble,
     whole: &Printed,
-) -> Result<Option<u64>, AllocError> {
+) -> Option<u64> {
     for n in 1..MOST {
         let printed = Printed::of(form, heap, alloc, script, trouble, n);
         if !printed.came && 1 < n && printed.is_same(whole) {
-            return Ok(None);
+            return None;
         }
-        if !printed.tells(trouble, n, whole) && !printed.leaves_out(form, heap, alloc, script)? {
-            return Ok(Some(n));
+        if !printed.tells(trouble, n, whole) {
+            return Some(n);
         }
     }
-    Ok(Some(MOST))
+    Some(MOST)
 }
 
 /// What a run wrote, its exit status, and whether the call came that was to go wrong.
@@ -138,9 +138,8 @@ impl Printed {
     /// before.
     fn tells(&self, trouble: Trouble, n: u64, whole: &Printed) -> bool {
         match trouble {
-            // std asks once more for less if it finds no memory for a buffer twice as long
             Trouble::Memory => {
-                self.is_same(whole)
+                self.goes_on(whole)
                     || self.ends(4, "mirror: out of memory\n")
                         && whole.out().starts_with(self.out())
             }
@@ -155,51 +154,13 @@ impl Printed {
         }
     }
 
-    /// Whether the run printed one line that says that a command was refused, and beside it what a run
-    /// prints of the script without some line.
-    fn leaves_out(
-        &self,
-        form: Form,
-        heap: Heap<'_>,
-        alloc: Global,
-        script: &str,
-    ) -> Result<bool, AllocError> {
-        let Some(rest) = self.without_refusal(alloc)? else {
-            return Ok(false);
+    /// Whether the run went on to its end after a refusal: of one command, which it says, or of room that
+    /// std asks for, and can do without.
+    fn goes_on(&self, whole: &Printed) -> bool {
+        let refused = match str::from_utf8(self.out()) {
+            Ok(text) => text.split("refused Memory\n").count() == 2,
+            Err(_) => false,
         };
-        for place in 0..script.split('\n').count() {
-            let shorter = without_line(alloc, script, place)?;
-            let printed = Printed::of(form, heap, alloc, shorter.as_str(), Trouble::Memory, 0);
-            if printed.out() == rest.as_bytes() {
-                return Ok(self.ends(0, ""));
-            }
-        }
-        Ok(false)
+        self.is_same(whole) || refused && self.ends(0, "")
     }
-
-    /// What was printed, without the one line of a command that found no memory.
-    fn without_refusal(&self, alloc: Global) -> Result<Option<String>, AllocError> {
-        let Ok(text) = str::from_utf8(self.out()) else {
-            return Ok(None);
-        };
-        let Some((before, after)) = text.split_once("refused Memory\n") else {
-            return Ok(None);
-        };
-        let mut rest = String::from_str(alloc, before)?;
-        rest.push_str(after)?;
-        Ok(Some(rest))
-    }
-}
-
-/// The script without the line at this place.
-fn without_line(alloc: Global, script: &str, place: usize) -> Result<String, AllocError> {
-    let mut shorter = String::new(alloc);
-    let mut left = place;
-    for line in script.split_inclusive('\n') {
-        if left != 0 {
-            shorter.push_str(line)?;
-        }
-        left = left.wrapping_sub(1);
-    }
-    Ok(shorter)
 }

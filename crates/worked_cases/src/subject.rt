@@ -14,8 +14,8 @@ pub trait Subject<'h> {
     /// Carries out a command.
     fn step(&mut self, command: Command<Heap<'h>>) -> Reply<Heap<'h>>;
 
-    /// Writes what can be seen of it, asked for the paths and moments of these commands. What takes no
-    /// memory is asked while each request is refused.
+    /// Writes what can be seen of it, and the modes of these commands' paths. What takes no memory is asked
+    /// while each request is refused.
     fn show(
         &self,
         heap: Heap<'h>,
@@ -39,7 +39,7 @@ impl<'h, C: FileIdCache<Heap<'h>>> Subject<'h> for DebounceDataInner<C, Heap<'h>
         show_counts(self, text)?;
         show_modes(self, commands, text)?;
         heap.refuse(0);
-        show_batches(self, commands, text)
+        writeln!(text, "{:?}", self.outlook())
     }
 }
 
@@ -72,21 +72,6 @@ fn show_modes<'h, C>(
         };
         if let Some(path) = path {
             writeln!(text, "{:?}", core.recursive_mode(path))?;
-        }
-    }
-    Ok(())
-}
-
-/// Writes what waits, and what each of the ticks would emit.
-fn show_batches<'h, C>(
-    core: &DebounceDataInner<C, Heap<'h>>,
-    commands: &[Command<Heap<'h>>],
-    text: &mut String,
-) -> Result<(), AllocError> {
-    writeln!(text, "{:?}", core.outlook())?;
-    for command in commands {
-        if let Command::Tick(now) = command {
-            writeln!(text, "{:?}", core.batch_at(*now))?;
         }
     }
     Ok(())

@@ -1,11 +1,10 @@
 //! A story whose commands are carried out again and again, while one request for memory after the
 //! other is refused.
+use crate::calls::is_out_of_memory;
 use crate::numbers::Numbers;
 use crate::subject::{Heap, Held, Subject};
 use mirror_script::{Counts, Fault, Script, read_script};
-use notify_debouncer_full::{
-    Book, Command, DebounceDataInner, Error, FileIdMap, Moment, NoCache, Reply,
-};
+use notify_debouncer_full::{Book, Command, DebounceDataInner, FileIdMap, Moment, NoCache, Reply};
 use std::alloc::{AllocError, Global};
 
 /// More requests than a command makes.
@@ -38,7 +37,7 @@ const WAYS: [Way; 6] = [
 ];
 
 /// What came of a call of which one request for memory was to be refused.
-#[derive(Clone, Copy, Debug, PartialEq)]
+#[derive(Clone, Copy, PartialEq)]
 pub enum Ending {
     /// The request came, and the call says that memory is out.
     Refused,
@@ -155,18 +154,26 @@ impl Way {
         match self {
             Way::Core => tell_core(heap, script, place, n, text),
             Way::Cached => tell_cached(heap, script, place, n, text),
-            Way::Book | Way::Calls => {
-                let book = Book::new(heap, NoCache::new(), script.timeout);
-                let by_calls = self == Way::Calls;
-                tell(heap, &mut Held { book, by_calls }, script, place, n, text)
-            }
-            Way::Journal | Way::JournalCalls => {
-                let book = Book::journaled(heap, NoCache::new(), script.timeout);
-                let by_calls = self == Way::JournalCalls;
-                tell(heap, &mut Held { book, by_calls }, script, place, n, text)
-            }
+            _ => tell_book(self, heap, script, place, n, text),
         }
     }
+}
+
+fn tell_book<'h>(
+    way: Way,
+    heap: Heap<'h>,
+    script: &Script<Heap<'h>>,
+    place: usize,
+    n: u64,
+    text: &mut String,
+) -> Result<Ending, AllocError> {
+    let book = if way == Way::Journal || way == Way::JournalCalls {
+        Book::journaled(heap, NoCache::new(), script.timeout)
+    } else {
+        Book::new(heap, NoCache::new(), script.timeout)
+    };
+    let by_calls = way == Way::Calls || way == Way::JournalCalls;
+    tell(heap, &mut Held { book, by_calls }, script, place, n, text)
 }
 
 /// A core without a cache goes on from the script's counts.
@@ -230,9 +237,18 @@ fn carry_out<'h, S: Subject<'h>>(
     text: &mut String,
 ) -> Result<(), AllocError> {
     for command in commands {
-        writeln!(text, "{:?}", subject.step(command.clone()?))?;
+        step(subject, command.clone()?, text)?;
     }
     Ok(())
+}
+
+fn step<'h, S: Subject<'h>>(
+    subject: &mut S,
+    command: Command<Heap<'h>>,
+    text: &mut String,
+) -> Result<(), AllocError> {
+    let reply = subject.step(command);
+    writeln!(text, "{reply:?}")
 }
 
 /// Tries the first of the commands while its nth request is refused.
@@ -249,8 +265,16 @@ fn attempt<'h, S: Subject<'h>>(
             let reply = subject.step(copy);
             let came = heap.left() == 0;
             heap.refuse(0);
-            Ok(Ending::of(came, reply == Reply::Refused(Error::out_of_memory(heap))))
+            Ok(Ending::of(came, is_refused(&reply)))
         }
         _ => Ok(Ending::Refused),
+    }
+}
+
+/// Whether the reply says that memory is out.
+fn is_refused<'h>(reply: &Reply<Heap<'h>>) -> bool {
+    match reply {
+        Reply::Refused(error) => is_out_of_memory(error),
+        _ => false,
     }
 }

@@ -1,5 +1,5 @@
 //! Each request for memory refused in turn.
-use crate::build::{Heap, Notes, entries, listing, new_heap, path, root, tree};
+use crate::trees::{Heap, Notes, entries, listing, new_heap, path, root, tree};
 use fake_folders::tree::TreeFolders;
 use notify_debouncer_full::{Listing, PathBuf, Polled, RecursiveMode, compare, list, poll_round};
 use std::process::Abort;

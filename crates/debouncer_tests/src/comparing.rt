@@ -1,5 +1,5 @@
 //! Listings, and what changed between two of them.
-use crate::build::{entries, listing, path, text_of};
+use crate::trees::{entries, listing, path, text_of};
 use folder_listing::compare::compare;
 use folder_listing::listing::Listing;
 use notify_types::event::RecursiveMode;

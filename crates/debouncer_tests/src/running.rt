@@ -1,6 +1,6 @@
 //! A debouncer that polls, and its watcher.
-use crate::build::path;
 use crate::real::new_folder;
+use crate::trees::path;
 use crossbeam_channel::{Receiver, unbounded};
 use notify_debouncer_full::{
     Config, DebounceEventResult, Debouncer, Error, Event, EventHandler, PollTask, PollWatcher,

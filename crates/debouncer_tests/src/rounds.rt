@@ -1,5 +1,5 @@
 //! Rounds over trees in memory: polls, debouncer and reader together.
-use crate::build::{listing, path, root, tree};
+use crate::trees::{listing, path, root, tree};
 use notify_debouncer_full::{
     Command, DebounceDataInner, DebouncedEvent, Error, Event, EventHandler, Listing, NoCache,
     PathBuf, Reply, poll_round,

@@ -1,18 +1,7 @@
-//! A queue, and the roots of a debouncer.
-use crate::build::{CREATE, Core, REMOVE, new_core, path, timed};
-use notify_debouncer_full::{Queue, RecursiveMode};
+//! The roots of a debouncer.
+use crate::build::{Core, new_core, path};
+use notify_debouncer_full::RecursiveMode;
 use std::process::Abort;
-
-#[test]
-fn queues_look_at_their_front(rt: HostRuntime) {
-    let created = timed(&rt, CREATE, "/a", 0);
-    let removed = timed(&rt, REMOVE, "/a", 1);
-    let events = vec![in rt.alloc(); created, removed].expect(&rt, "memory");
-    let queue = Queue::new(events);
-    let copy = queue.try_clone().expect(&rt, "memory");
-    assert!(rt; copy == queue);
-    assert!(rt; queue.was_created() && !queue.was_removed());
-}
 
 fn add_root(rt: &(impl Abort + AllocGlobal), core: &mut Core, text: &str, mode: RecursiveMode) {
     core.add_root(&path(rt, text), mode).expect(rt, "memory");
