@@ -1,8 +1,6 @@
 //! Listings, and what changed between two of them.
-use crate::trees::{entries, listing, path, text_of};
+use crate::trees::{listing, path, text_of};
 use folder_listing::compare::compare;
-use folder_listing::listing::Listing;
-use notify_types::event::RecursiveMode;
 use std::process::Abort;
 
 /// An old listing, a new one, and the events between them.
@@ -34,41 +32,10 @@ fn check_comparison(rt: &(impl Abort + AllocGlobal), old: &str, new: &str, wante
     assert_eq!(rt; got.as_str(), wanted, "{old} | {new}");
 }
 
-/// Whether the entries of the text are a listing.
-fn is_listing(rt: &(impl Abort + AllocGlobal), text: &str) -> bool {
-    let given = entries(rt, rt.alloc(), text);
-    Listing::from_entries(rt.alloc(), given)
-        .expect(rt, "memory")
-        .is_some()
-}
-
-#[test]
-fn listings_have_their_folders(rt: HostRuntime) {
-    assert!(rt; is_listing(&rt, "/ folder, /d folder, /d/x file 3"));
-    assert!(rt; is_listing(&rt, "/d/x file 3, /d folder, / folder, /d/x file 4"));
-    assert!(rt; !is_listing(&rt, "/ folder, /d/x file 3"));
-    assert!(rt; !is_listing(&rt, " folder"));
-}
-
 #[test]
 fn the_last_entry_of_a_path_counts(rt: HostRuntime) {
     let made = listing(&rt, rt.alloc(), "/ folder, /f file 1, /f file 2");
     let copy = made.try_clone(rt.alloc()).expect(&rt, "memory");
     let found = copy.get(&path(&rt, rt.alloc(), "/f")).expect(&rt, "/f");
     assert_eq!(rt; (made.len(), found.length), (2, 2));
-}
-
-#[test]
-fn a_listing_keeps_what_a_root_shows(rt: HostRuntime) {
-    let mut made = listing(
-        &rt,
-        rt.alloc(),
-        "/ folder, /d folder, /d/x folder, /d/x/y file 1, /e file 2",
-    );
-    let place = path(&rt, rt.alloc(), "/d");
-    let roots = vec![in rt.alloc(); (place, RecursiveMode::NonRecursive)].expect(&rt, "memory");
-    made.keep_seen(roots.as_slice());
-    let left = listing(&rt, rt.alloc(), "/ folder, /d folder, /d/x folder");
-    let events = compare(rt.alloc(), &left, &made).expect(&rt, "memory");
-    assert_eq!(rt; (made.len(), events.len(), made.is_empty()), (3, 0, false));
 }
