@@ -1,5 +1,5 @@
-//! Listings, and what changed between two of them.
-use crate::trees::{listing, path, text_of};
+//! What changed between two listings.
+use crate::trees::{listing, text_of};
 use folder_listing::compare::compare;
 use std::process::Abort;
 
@@ -30,12 +30,4 @@ fn check_comparison(rt: &(impl Abort + AllocGlobal), old: &str, new: &str, wante
     let events = compare(rt.alloc(), &before, &after).expect(rt, "memory");
     let got = text_of(rt, events.as_slice());
     assert_eq!(rt; got.as_str(), wanted, "{old} | {new}");
-}
-
-#[test]
-fn the_last_entry_of_a_path_counts(rt: HostRuntime) {
-    let made = listing(&rt, rt.alloc(), "/ folder, /f file 1, /f file 2");
-    let copy = made.try_clone(rt.alloc()).expect(&rt, "memory");
-    let found = copy.get(&path(&rt, rt.alloc(), "/f")).expect(&rt, "/f");
-    assert_eq!(rt; (made.len(), found.length), (2, 2));
 }

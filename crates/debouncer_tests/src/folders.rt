@@ -35,7 +35,8 @@ fn count(
     top: &str,
     recursive: bool,
 ) -> usize {
-    scan.scan(&path(rt, top), recursive).expect(rt, "memory");
+    scan.scan(&path(rt, rt.alloc(), top), recursive)
+        .expect(rt, "memory");
     scan.found().len()
 }
 
@@ -46,7 +47,7 @@ fn number(
     top: &str,
     name: &str,
 ) -> Option<FileId> {
-    let wanted = path(rt, entry(rt, top, name).as_str());
+    let wanted = path(rt, rt.alloc(), entry(rt, top, name).as_str());
     for (found, number) in scan.found() {
         if *found == wanted {
             return Some(*number);

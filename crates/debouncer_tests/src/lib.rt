@@ -1,6 +1,6 @@
 //! Tests of what no clause says: how often memory is asked for, file numbers that a scan finds, folders in
-//! memory that fail, real folders, and a debouncer that polls. The worked cases stand in the crate
-//! `worked_cases`.
+//! memory that fail, and a watcher that polls. The worked cases that a script can say stand in the crate
+//! `worked_cases`, real folders that are watched in .ci/check_program.sh.
 #![tactic(auto)]
 
 #[cfg(test)]
@@ -12,19 +12,13 @@ mod comparing;
 #[cfg(test)]
 mod devices;
 #[cfg(test)]
-mod errors;
-#[cfg(test)]
 mod folders;
 #[cfg(test)]
 mod listings;
 #[cfg(test)]
 mod memory;
 #[cfg(test)]
-mod paths;
-#[cfg(test)]
 mod readme;
-#[cfg(test)]
-mod real;
 #[cfg(test)]
 mod roots;
 #[cfg(test)]

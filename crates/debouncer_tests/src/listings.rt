@@ -1,5 +1,6 @@
 //! Each request for memory refused in turn.
-use crate::trees::{Heap, Notes, entries, listing, new_heap, path, root, tree};
+use crate::build::{Heap, new_heap, path};
+use crate::trees::{Notes, entries, listing, root, tree};
 use fake_folders::tree::TreeFolders;
 use notify_debouncer_full::{Listing, PathBuf, Polled, RecursiveMode, compare, list, poll_round};
 use std::process::Abort;

@@ -1,5 +1,4 @@
 //! The README's examples. The gate compares the lines with the README's.
-use crate::real::new_folder;
 use notify_debouncer_full::{
     CreateKind, DebounceDataInner, DebounceEventResult, DebouncedEvent, Debouncer, Error, Event,
     EventKind, NoCache, PathBuf, RecommendedCache, RecommendedWatcher, RecursiveMode,
@@ -8,15 +7,16 @@ use notify_debouncer_full::{
 use std::alloc::Global;
 use std::test::Fail;
 use std::time::Duration;
-use std::{fs, thread};
+use std::{env, fs, process, thread};
+
+fn created(alloc: Global, path: &str) -> Result<Event, Error> {
+    Event::new(alloc, EventKind::Create(CreateKind::File)).add_path(PathBuf::parse(alloc, path)?)
+}
 
 fn emitted(alloc: Global) -> Result<Vec<DebouncedEvent>, Error> {
     let mut core = DebounceDataInner::new(alloc, NoCache::new(), 50_000_000); // the timeout, in nanoseconds
-    let path = PathBuf::parse(alloc, "/home/file.txt")?;
-    let event = Event::new(alloc, EventKind::Create(CreateKind::File)).add_path(path)?;
-    core.add_event(event, 0, true)?; // for each event of your watcher: when it came, and whether its path exists
-    let batch = core.debounced_events(50_000_000)?; // at each tick: what is due
-    Ok(batch)
+    core.add_event(created(alloc, "/home/file.txt")?, 0, true)?; // for each event of your watcher: when it came, and whether its path exists
+    core.debounced_events(50_000_000) // at each tick: what is due
 }
 
 #[test]
@@ -27,7 +27,10 @@ fn the_example_emits_its_event(rt: HostRuntime) {
 
 #[test]
 fn the_example_runs(rt: HostRuntime) -> Result<(), Fail> {
-    let folder = new_folder(rt, "readme")?;
+    let base = env::temp_dir(&rt)?;
+    let number = process::id(rt.process());
+    let folder = format!(in rt.alloc(); "{}/readme_{number}", base.as_str())?;
+    fs::create_dir(&rt, folder.as_str())?;
     let print = move |outcome: DebounceEventResult| {
         if let Ok(batch) = outcome {
             for event in &batch {

@@ -1,4 +1,5 @@
 //! What several tests build and print. There is memory for it, so each call gives what it is asked for.
+use crate::build::path;
 use fake_folders::tree::TreeFolders;
 use folder_listing::entry::EntryKind;
 use folder_listing::listing::Listing;
@@ -6,22 +7,10 @@ use notify_paths::error::{Error, ErrorKind};
 use notify_paths::path::PathBuf;
 use notify_types::event::{Event, RecursiveMode};
 use notify_watch::handler::EventHandler;
-use refusing_allocator::Refusing;
-use std::alloc::{AllocError, Allocator, Global};
+use std::alloc::{AllocError, Allocator};
 use std::fmt::Debug;
 use std::mem::replace;
 use std::process::Abort;
-
-pub type Heap = &'static Refusing<Global>;
-
-pub fn new_heap(rt: &(impl Abort + AllocGlobal)) -> Heap {
-    let heap = Box::new(rt.alloc(), Refusing::new(rt.alloc())).expect(rt, "memory");
-    Box::leak(heap)
-}
-
-pub fn path<A: Allocator + Copy + Debug>(rt: &impl Abort, alloc: A, text: &str) -> PathBuf<A> {
-    PathBuf::parse(alloc, text).expect(rt, "memory")
-}
 
 /// One root, which is watched with what is below it.
 pub fn root<A: Allocator + Copy + Debug>(

@@ -6,11 +6,7 @@
 #[cfg(test)]
 mod build;
 #[cfg(test)]
-mod gates;
-#[cfg(test)]
 mod memory;
-#[cfg(test)]
-mod mirrors;
 #[cfg(test)]
 mod running;
 #[cfg(test)]

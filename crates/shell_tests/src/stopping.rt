@@ -1,16 +1,18 @@
 //! Debouncers that are stopped, and watchers that refuse.
-use crate::build::{Heap, Host, new_heap, path};
+use crate::build::{Heap, Host, new_heap, path, start};
 use crate::memory::Silent;
 use crate::running::{Holder, Seen, wait_for, wait_for_any};
 use crate::watchers::{Replay, Stubborn};
 use notify_debouncer_full::{
-    Config, DebounceDataInner, Debouncer, Entry, Error, ErrorKind, Moment, NoCache, RecursiveMode,
-    new_debouncer_opt, new_journaled_debouncer,
+    Config, DebounceDataInner, Debouncer, Entry, Error, ErrorKind, Feed, NoCache, PathBuf,
+    RecursiveMode, Watcher, new_debouncer_opt,
 };
 use std::alloc::Global;
+use std::fs::Files;
 use std::process::Abort;
-use std::sync::Arc;
 use std::sync::atomic::Ordering;
+use std::sync::{Arc, Wait};
+use std::thread::Threads;
 use std::time::{Clock, Duration};
 
 type Replayed = Debouncer<Replay<HostRuntime, Global>, NoCache, HostRuntime>;
@@ -24,12 +26,6 @@ enum Ending {
     Drop,
 }
 
-/// Checks the answer of a debouncer that keeps no journal.
-fn check_empty(rt: &impl Abort, answer: Result<(Moment, Vec<Entry>), Error>) {
-    let (timeout, journal) = answer.expect(rt, "memory");
-    assert_eq!(rt; (timeout, journal.len()), (40_000_000, 0));
-}
-
 /// When a debouncer is stopped.
 #[derive(Clone, Copy, Debug)]
 enum Phase {
@@ -38,28 +34,6 @@ enum Phase {
     Asleep,
     /// While the handler holds the first batch.
     Held,
-}
-
-/// Waits until the debouncer is in this phase, and answers whether it was.
-fn is_reached(rt: &impl Clock, seen: &Seen, phase: Phase) -> bool {
-    match phase {
-        Phase::BeforeTheFirstTurn => true,
-        Phase::Asleep => wait_for_any(rt, &seen.errors),
-        Phase::Held => wait_for(rt, &seen.held),
-    }
-}
-
-/// Checks that the worker ends, and that its handler was called with one batch and one list of errors
-/// at most since it had been called so often.
-fn check_end(rt: &(impl Abort + Clock), seen: &Seen, before: [u64; 2], phase: Phase, way: Ending) {
-    assert!(rt; wait_for(rt, &seen.ended), "{phase:?} {way:?}");
-    let [batches, errors] = before;
-    let [all_batches, all_errors] = seen.calls();
-    let more = [
-        all_batches.saturating_sub(batches),
-        all_errors.saturating_sub(errors),
-    ];
-    assert!(rt; more[0] <= 1 && more[1] <= 1, "{phase:?} {way:?}");
 }
 
 /// Each phase, and each way to stop in it.
@@ -78,13 +52,62 @@ const STOPS: [(Phase, Ending); 12] = [
     (Phase::Held, Ending::Drop),
 ];
 
+/// Waits until the debouncer is in this phase, and answers whether it was.
+fn is_reached(rt: &impl Clock, seen: &Seen, phase: Phase) -> bool {
+    match phase {
+        Phase::BeforeTheFirstTurn => true,
+        Phase::Asleep => wait_for_any(rt, &seen.errors),
+        Phase::Held => wait_for(rt, &seen.held),
+    }
+}
+
+/// Whether the worker ends, and its handler was called with one batch and one list of errors at most
+/// since it had been called so often.
+fn is_ended(rt: &impl Clock, seen: &Seen, before: [u64; 2]) -> bool {
+    let ended = wait_for(rt, &seen.ended);
+    let [batches, errors] = before;
+    let [all_batches, all_errors] = seen.calls();
+    ended && all_batches.saturating_sub(batches) <= 1 && all_errors.saturating_sub(errors) <= 1
+}
+
+/// Stops the debouncer, which keeps no journal. Answers whether this gave an empty one, if it gave one,
+/// and whether the worker had ended, if this waits for it.
+fn stop<T, R>(debouncer: Debouncer<T, NoCache, R>, seen: &Seen, way: Ending) -> bool
+where
+    T: Watcher<Feed<NoCache, R>, R, Global> + Drop,
+    R: Threads + Wait + Clock + Files + Abort + Copy + Send + Sync + 'static,
+{
+    match way {
+        Ending::Join => debouncer.stop(),
+        Ending::Journal => match debouncer.stop_journal() {
+            Ok((timeout, journal)) if timeout == 40_000_000 && journal.is_empty() => {}
+            _ => return false,
+        },
+        Ending::Nonblocking => {
+            debouncer.stop_nonblocking();
+            return true;
+        }
+        Ending::Drop => {
+            drop(debouncer);
+            return true;
+        }
+    }
+    seen.ended.load(Ordering::SeqCst)
+}
+
+/// What a handler sees that holds its first batch in this phase. In the others no batch keeps the errors
+/// back.
+fn new_seen(rt: &(impl Abort + AllocGlobal), phase: Phase) -> Arc<Seen> {
+    let seen = Arc::new(rt.alloc(), Seen::new()).expect(rt, "memory");
+    let holds = matches!(phase, Phase::Held);
+    seen.answered.store(!holds, Ordering::SeqCst);
+    seen
+}
+
 #[test]
 fn a_stop_lets_one_turn_end_at_most(rt: HostRuntime) {
     for (phase, way) in STOPS {
-        let seen = Arc::new(rt.alloc(), Seen::new()).expect(&rt, "memory");
-        // In the other phases no batch keeps the errors back.
-        let holds = matches!(phase, Phase::Held);
-        seen.answered.store(!holds, Ordering::SeqCst);
+        let seen = new_seen(&rt, phase);
         let handler = Holder {
             rt,
             seen: Arc::try_clone(&seen).expect(&rt, "memory"),
@@ -104,20 +127,12 @@ fn a_stop_lets_one_turn_end_at_most(rt: HostRuntime) {
         debouncer
             .watch(&path(&rt, rt.alloc(), "/w"), RecursiveMode::Recursive)
             .expect(&rt, "a watch");
-        let reached = is_reached(&rt, &seen, phase);
-        assert_eq!(rt; (reached, debouncer.missed()), (true, 0), "{phase:?}");
+        let reached = is_reached(&rt, &seen, phase) && debouncer.missed() == 0;
         let before = seen.calls();
         seen.answered.store(true, Ordering::SeqCst);
-        match way {
-            Ending::Join => debouncer.stop(),
-            Ending::Nonblocking => debouncer.stop_nonblocking(),
-            Ending::Journal => check_empty(&rt, debouncer.stop_journal()),
-            Ending::Drop => drop(debouncer),
-        }
-        let waits = matches!(way, Ending::Join | Ending::Journal);
-        let ended = seen.ended.load(Ordering::SeqCst);
-        assert!(rt; !waits || ended, "{phase:?} {way:?}");
-        check_end(&rt, &seen, before, phase, way);
+        let stopped = stop(debouncer, &seen, way);
+        let ended = is_ended(&rt, &seen, before);
+        assert!(rt; reached && stopped && ended, "{phase:?} {way:?}");
     }
 }
 
@@ -130,37 +145,7 @@ fn replayed(heap: Heap, journal: Vec<Entry<Heap>, Heap>) -> DebounceDataInner<No
     core
 }
 
-/// In which modes the paths are watched, as far as the journal tells.
-fn modes_in(
-    rt: &impl Abort,
-    heap: Heap,
-    journal: Vec<Entry<Heap>, Heap>,
-    places: [&str; 3],
-) -> [RecursiveMode; 3] {
-    let core = replayed(heap, journal);
-    let [first, second, third] = places;
-    [
-        core.recursive_mode(&path(rt, heap, first)),
-        core.recursive_mode(&path(rt, heap, second)),
-        core.recursive_mode(&path(rt, heap, third)),
-    ]
-}
-
 type Refusing<R> = Debouncer<Stubborn<Heap>, NoCache, R, Heap>;
-
-fn stubborn<R: Host>(rt: R, heap: Heap) -> Refusing<R> {
-    let (timeout, config) = (Duration::from_millis(4), Config::default());
-    let debouncer: Result<Refusing<R>, Error<Heap>> = new_journaled_debouncer(
-        rt,
-        heap,
-        timeout,
-        None,
-        Silent,
-        NoCache::new(),
-        config,
-    );
-    debouncer.expect(&rt, "a debouncer")
-}
 
 /// Watches a path, and returns why it was refused, if it was.
 fn refusal_of<R: Host>(
@@ -180,8 +165,7 @@ fn refusal_of<R: Host>(
 #[test]
 fn a_refused_watch_adds_no_root_and_a_refused_unwatch_drops_none(rt: HostRuntime) {
     let heap = new_heap(&rt);
-    let mut debouncer = stubborn(rt, heap);
-    let places = ["/gone", "/starved", "/w"];
+    let mut debouncer: Refusing<HostRuntime> = start(rt, heap, Duration::from_millis(4), Silent);
     let gone = refusal_of(&rt, heap, &mut debouncer, "/gone");
     let starved = refusal_of(&rt, heap, &mut debouncer, "/starved");
     let watched = refusal_of(&rt, heap, &mut debouncer, "/w");
@@ -191,7 +175,16 @@ fn a_refused_watch_adds_no_root_and_a_refused_unwatch_drops_none(rt: HostRuntime
     assert!(rt; kept == Err(Error::new(heap, ErrorKind::WatchNotFound)));
     assert!(rt; debouncer.configure(Config::default()) == Ok(true));
     let (_, journal) = debouncer.stop_journal().expect(&rt, "memory");
-    let modes = modes_in(&rt, heap, journal, places);
-    let none = RecursiveMode::NonRecursive;
-    assert!(rt; modes == [none, none, RecursiveMode::Recursive]);
+    let core = replayed(heap, journal);
+    let roots = [
+        is_root(&core, &path(&rt, heap, "/gone")),
+        is_root(&core, &path(&rt, heap, "/starved")),
+        is_root(&core, &path(&rt, heap, "/w")),
+    ];
+    assert_eq!(rt; roots, [false, false, true]);
+}
+
+/// Whether the path is watched with what is below it.
+fn is_root(core: &DebounceDataInner<NoCache, Heap>, place: &PathBuf<Heap>) -> bool {
+    core.recursive_mode(place) == RecursiveMode::Recursive
 }

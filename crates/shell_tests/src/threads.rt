@@ -1,8 +1,12 @@
 //! Scripts in threads.
-use crate::build::{TURNS, created, new_heap, script, sleep_a_turn};
-use notify_debouncer_full::{Command, Entry, Error, ErrorKind, Meet, NoMeet, Reply, run_threads};
+use crate::build::{CREATED, Heap, TURNS, commands, new_heap, sleep_a_turn};
+use mirror_threads::threads_run;
+use notify_debouncer_full::{Entry, Error, ErrorKind, Meet, NoMeet, Reply, run_threads};
+use std::alloc::AllocError;
 use std::process::Abort;
+use std::sync::Wait;
 use std::sync::atomic::{AtomicBool, AtomicU64, Ordering};
+use std::thread::Threads;
 
 /// Raises its script's flag before the script's first step, and waits for the other's.
 #[derive(Drop)]
@@ -41,8 +45,11 @@ fn two_scripts_meet(rt: HostRuntime) {
         steps: [AtomicU64::new(0), AtomicU64::new(0)],
         alone: AtomicU64::new(0),
     };
-    let scripts = vec![in alloc; script(&rt, alloc, "/a"), script(&rt, alloc, "/b")];
-    let scripts = scripts.expect(&rt, "memory");
+    let mut scripts = Vec::new(alloc);
+    for _ in 0..2 {
+        let script = commands(&rt, alloc, CREATED);
+        scripts.push(script).expect(&rt, "memory");
+    }
     let journal = run_threads(&rt, alloc, 50, scripts, &flags).expect(&rt, "an answer");
     assert_eq!(rt; journal.len(), 4);
     let [first, second] = &flags.steps;
@@ -51,39 +58,46 @@ fn two_scripts_meet(rt: HostRuntime) {
 }
 
 #[test]
-fn no_script_gives_an_empty_journal(rt: HostRuntime) {
-    let scripts = Vec::new(rt.alloc());
-    let journal = run_threads(&rt, rt.alloc(), 50, scripts, &NoMeet).expect(&rt, "an answer");
-    assert_eq!(rt; journal.len(), 0);
-}
-
-#[test]
-fn one_script_runs_as_it_is_written(rt: HostRuntime) {
+fn no_script_and_one_script_give_their_journals(rt: HostRuntime) {
     let alloc = rt.alloc();
-    let commands = vec![in alloc;
-        Command::Event(created(&rt, alloc, "/a"), 0, true),
-        Command::Tick(49),
-        Command::Tick(50),
-    ];
-    let scripts = vec![in alloc; commands.expect(&rt, "memory")].expect(&rt, "memory");
+    let none = run_threads(&rt, alloc, 50, Vec::new(alloc), &NoMeet);
+    assert_eq!(rt; none.expect(&rt, "an answer").len(), 0);
+    let script = "timeout 50\nevent 0 Create(Any) - /a\ntick 49\ntick 50\n";
+    let mut scripts = Vec::new(alloc);
+    scripts
+        .push(commands(&rt, alloc, script))
+        .expect(&rt, "memory");
     let journal = run_threads(&rt, alloc, 50, scripts, &NoMeet).expect(&rt, "an answer");
-    let [taken, early, due] = journal.as_slice() else {
-        assert!(rt; false, "{} entries", journal.len());
-        return;
-    };
-    assert!(rt; taken.reply == Reply::Taken(None));
-    assert_eq!(rt; [taken.from, early.from, due.from], [0, 0, 0]);
-    assert_eq!(rt; [batch_len(early), batch_len(due)], [0, 1]);
-    let copy = due.try_clone(alloc).expect(&rt, "memory");
-    assert!(rt; copy == *due);
+    let seen = text_of(&rt, journal.as_slice());
+    assert_eq!(rt;
+        seen.as_str(),
+        "0 taken, 0 batch, 0 batch Create(Any) /a 0, "
+    );
 }
 
-/// How many events the entry's batch has.
-fn batch_len(entry: &Entry) -> usize {
-    match &entry.reply {
-        Reply::Batch(batch) => batch.len(),
-        _ => usize::MAX,
+/// What the entries say: the number of the script, and what it was replied.
+fn text_of(rt: &(impl Abort + AllocGlobal), journal: &[Entry]) -> String {
+    let mut text = String::new(rt.alloc());
+    for entry in journal {
+        add_entry(&mut text, entry).expect(rt, "memory");
     }
+    text
+}
+
+fn add_entry(text: &mut String, entry: &Entry) -> Result<(), AllocError> {
+    write!(text, "{} ", entry.from)?;
+    match &entry.reply {
+        Reply::Taken(None) => text.push_str("taken")?,
+        Reply::Batch(batch) => {
+            text.push_str("batch")?;
+            for event in batch {
+                let place = event.event.first_path().map_or("", |path| path.as_str());
+                write!(text, " {} {place} {}", event.kind().word(), event.time())?;
+            }
+        }
+        _ => text.push_str("another reply")?,
+    }
+    text.push_str(", ")
 }
 
 #[test]
@@ -91,19 +105,62 @@ fn a_run_is_refused_at_each_request(rt: HostRuntime) {
     let heap = new_heap(&rt);
     let mut refused = 0u64;
     for n in 1..200u64 {
-        let scripts = vec![in heap; script(&rt, heap, "/a")].expect(&rt, "memory");
+        heap.refuse(0);
+        let mut scripts = Vec::new(heap);
+        scripts
+            .push(commands(&rt, heap, CREATED))
+            .expect(&rt, "memory");
         heap.refuse(n);
         let answer = run_threads(&rt, heap, 50, scripts, &NoMeet);
-        let done = heap.left() != 0;
-        heap.refuse(0);
-        match answer {
-            Ok(journal) => assert_eq!(rt; (done, journal.len()), (true, 2), "{n}"),
-            Err(error) => assert!(rt; error == Error::new(heap, ErrorKind::Memory), "{n}"),
+        let came = heap.left() == 0;
+        let refusal = answer.err();
+        if !came {
+            assert!(rt; refusal.is_none());
+            break;
         }
-        if done {
+        assert!(rt; refusal == Some(Error::new(heap, ErrorKind::Memory)), "{n}");
+        refused = n;
+    }
+    assert!(rt; 5 < refused && refused < 199, "{refused}");
+}
+
+const SAME: &str = "entries 2\ntaken 1\nreplay same\n";
+
+const REFUSED: &str = "mirror: out of memory\n";
+
+/// Runs the script as `mirror --threads` does, while the nth request for memory is refused. Answers
+/// the status, and what was written to standard output and to standard error.
+fn run_refused<T: Threads + Wait + Sync + AllocGlobal>(
+    rt: &T,
+    heap: Heap,
+    names: &[String<Heap>],
+    n: u64,
+) -> (u8, Vec<u8>, Vec<u8>) {
+    let mut readers = [CREATED.as_bytes()];
+    let (mut out, mut err) = (Vec::new(rt.alloc()), Vec::new(rt.alloc()));
+    heap.refuse(n);
+    let status = threads_run(rt, heap, names, &mut readers, &mut out, &mut err);
+    (status, out, err)
+}
+
+#[test]
+fn threads_say_that_memory_is_out(rt: HostRuntime) {
+    let heap: Heap = new_heap(&rt);
+    let names = vec![in heap; String::new(heap)].expect(&rt, "memory");
+    let mut refused = 0u64;
+    for n in 1..300u64 {
+        let (status, out, err) = run_refused(&rt, heap, names.as_slice(), n);
+        // A reader may do with less memory than it asks for at first.
+        let whole = (status, out.as_slice(), err.as_slice())
+            == (0, SAME.as_bytes(), b"".as_slice());
+        let said = (status, out.as_slice(), err.as_slice())
+            == (4, b"".as_slice(), REFUSED.as_bytes());
+        assert!(rt; whole || said, "{n}");
+        if heap.left() != 0 {
+            assert!(rt; whole);
             break;
         }
         refused = n;
     }
-    assert!(rt; refused > 5, "{refused}");
+    assert!(rt; 5 < refused && refused < 299, "{refused}");
 }
