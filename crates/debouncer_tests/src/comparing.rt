@@ -26,7 +26,9 @@ fn listings_are_compared(rt: HostRuntime) {
 
 fn check_comparison(rt: &(impl Abort + AllocGlobal), old: &str, new: &str, wanted: &str) {
     let before = listing(rt, rt.alloc(), old);
-    let after = listing(rt, rt.alloc(), new);
+    let after = listing(rt, rt.alloc(), new)
+        .try_clone(rt.alloc())
+        .expect(rt, "memory");
     let events = compare(rt.alloc(), &before, &after).expect(rt, "memory");
     let got = text_of(rt, events.as_slice());
     assert_eq!(rt; got.as_str(), wanted, "{old} | {new}");

@@ -17,3 +17,5 @@ mod stopping;
 mod threads;
 #[cfg(test)]
 mod watchers;
+#[cfg(test)]
+mod watching;

@@ -1,0 +1,79 @@
+//! The program's form that watches a folder, over watchers of the tests' own.
+use crate::build::{Heap, new_heap};
+use crate::watchers::{Stubborn, Unmade};
+use notify_debouncer_full::{Feed, NoCache, Watcher};
+use notify_mirror::watch_run;
+use std::fs::Files;
+use std::io;
+use std::io::Write;
+use std::sync::Wait;
+use std::thread::Threads;
+use std::time::Clock;
+
+/// A device that takes nothing.
+#[derive(Drop)]
+struct Full;
+
+impl Write for Full {
+    fn write(&mut self, _buf: &[u8]) -> io::Result<usize> {
+        Err(io::Error::from(io::ErrorKind::StorageFull))
+    }
+
+    fn flush(&mut self) -> io::Result<()> {
+        Ok(())
+    }
+}
+
+/// Watches for one tick. Returns the status and what was written to standard error.
+fn watch<
+    T: Watcher<Feed<NoCache, R, Heap>, R, Heap>,
+    R: Threads + Wait + Clock + Files + AllocGlobal + Copy + Send + Sync + 'static,
+    O: Write,
+>(rt: R, heap: Heap, folder: &str, out: &mut O) -> (u8, Vec<u8>)
+    requires takes { (feed : _) → T.takes feed }
+{
+    let mut err = Vec::new(rt.alloc());
+    let status = watch_run::<T, R, Heap, O, _>(rt, heap, folder, 1, out, &mut err);
+    (status, err)
+}
+
+const OUT_OF_MEMORY: &str = "mirror: out of memory\n";
+
+#[test]
+fn a_watch_says_what_goes_wrong(rt: HostRuntime) {
+    let heap = new_heap(&rt);
+    let mut out = Vec::new(rt.alloc());
+    let (gone, line) = watch::<Stubborn<Heap>, _, _>(rt, heap, "/gone", &mut out);
+    assert_eq!(rt;
+        (gone, line.as_slice()),
+        (5, "mirror: cannot watch /gone\n".as_bytes())
+    );
+    let (unmade, line) = watch::<Unmade, _, _>(rt, heap, "/w", &mut out);
+    assert_eq!(rt;
+        (unmade, line.as_slice()),
+        (8, "mirror: cannot start a thread\n".as_bytes())
+    );
+    let (full, line) = watch::<Stubborn<Heap>, _, _>(rt, heap, "/w", &mut Full);
+    assert_eq!(rt; (full, line.len(), out.len()), (6, 0, 0));
+}
+
+#[test]
+fn a_watch_is_refused_at_each_request(rt: HostRuntime) {
+    let heap = new_heap(&rt);
+    let mut refused = 0u64;
+    for n in 1..100u64 {
+        let mut out = Vec::new(rt.alloc());
+        heap.refuse(n);
+        let (status, line) = watch::<Stubborn<Heap>, _, _>(rt, heap, "/w", &mut out);
+        let came = heap.left() == 0;
+        heap.refuse(0);
+        let said = (status, line.as_slice()) == (4, OUT_OF_MEMORY.as_bytes());
+        let whole = (status, out.as_slice()) == (0, "missed 0\n".as_bytes());
+        assert!(rt; said && came || whole, "{n}");
+        if !came {
+            break;
+        }
+        refused = n;
+    }
+    assert!(rt; 5 < refused && refused < 99, "{refused}");
+}
