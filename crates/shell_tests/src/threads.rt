@@ -1,8 +1,11 @@
 //! Scripts in threads.
 use crate::build::{CREATED, Heap, TURNS, commands, new_heap, sleep_a_turn};
+use crate::watching::Full;
 use mirror_threads::threads_run;
 use notify_debouncer_full::{Entry, Error, ErrorKind, Meet, NoMeet, Reply, run_threads};
 use std::alloc::AllocError;
+use std::io;
+use std::io::Read;
 use std::process::Abort;
 use std::sync::Wait;
 use std::sync::atomic::{AtomicBool, AtomicU64, Ordering};
@@ -163,4 +166,31 @@ fn threads_say_that_memory_is_out(rt: HostRuntime) {
         refused = n;
     }
     assert!(rt; 5 < refused && refused < 299, "{refused}");
+}
+
+/// A device that gives and takes nothing.
+#[derive(Drop)]
+struct Broken;
+
+impl Read for Broken {
+    fn read(&mut self, _buf: &mut [u8]) -> io::Result<usize> {
+        Err(io::Error::from(io::ErrorKind::ConnectionReset))
+    }
+}
+
+#[test]
+fn threads_say_that_a_device_fails(rt: HostRuntime) {
+    let alloc = rt.alloc();
+    let names = vec![in alloc; String::new(alloc)].expect(&rt, "memory");
+    let names = names.as_slice();
+    let (mut out, mut err) = (Vec::new(alloc), Vec::new(alloc));
+    let unread = threads_run(&rt, alloc, names, &mut [Broken], &mut out, &mut err);
+    assert_eq!(rt;
+        (unread, out.len(), err.as_slice()),
+        (1, 0, "mirror: cannot read \n".as_bytes())
+    );
+    err.clear();
+    let mut readers = [CREATED.as_bytes()];
+    let unwritten = threads_run(&rt, alloc, names, &mut readers, &mut Full, &mut err);
+    assert_eq!(rt; (unwritten, err.len()), (6, 0));
 }

@@ -12,7 +12,7 @@ use std::time::Clock;
 
 /// A device that takes nothing.
 #[derive(Drop)]
-struct Full;
+pub struct Full;
 
 impl Write for Full {
     fn write(&mut self, _buf: &[u8]) -> io::Result<usize> {
