@@ -49,9 +49,7 @@ fn a_tick_moves_what_it_emits(rt: HostRuntime) {
 fn requests_of_tick(rt: &impl Abort, heap: Heap, script: &str) -> u64 {
     heap.refuse(0);
     let mut core = DebounceDataInner::new(heap, NoCache::new(), 50);
-    for command in commands(rt, heap, script) {
-        core.step(command);
-    }
+    core.run(commands(rt, heap, script)).expect(rt, "memory");
     heap.refuse(MANY);
     let emitted = core.debounced_events(100).expect(rt, "memory").len();
     let requests = MANY.saturating_sub(heap.left());

@@ -1,5 +1,6 @@
 //! Listings one after the other, a debouncer that is given what changed, and a reader of its batches.
-use crate::trees::{entries, listing, text_of};
+use crate::cache::add_batch;
+use crate::trees::{entries, listing};
 use folder_listing::compare::compare;
 use notify_debouncer_full::{
     Command, DebounceDataInner, DebouncedEvent, Listing, NoCache, PathBuf,
@@ -97,15 +98,10 @@ fn a_folder_becomes_a_file(rt: HostRuntime) {
     walk.see(&rt, "/ folder, /d file 5", 10);
     let batch = walk.tick(&rt, 100);
     check_paths(&rt, walk.paths_after(&rt).as_slice(), "/ folder, /d file 5");
-    let mut times = Vec::new(rt.alloc());
-    let mut events = Vec::new(rt.alloc());
-    for emitted in batch {
-        times.push(emitted.time).expect(&rt, "memory");
-        events.push(emitted.event).expect(&rt, "memory");
-    }
-    assert_eq!(rt; times.as_slice(), [10, 10].as_slice());
+    let mut text = String::new(rt.alloc());
+    add_batch(&mut text, batch.as_slice()).expect(&rt, "memory");
     assert_eq!(rt;
-        text_of(&rt, events.as_slice()).as_str(),
-        "Remove(Folder) /d, Create(File) /d"
+        text.as_str(),
+        "[Remove(Folder) 10 /d, Create(File) 10 /d, ] "
     );
 }
