@@ -4,7 +4,7 @@ use crate::memory::Silent;
 use crate::running::{Holder, Seen, wait_for, wait_for_any};
 use crate::watchers::{Replay, Stubborn};
 use notify_debouncer_full::{
-    Config, DebounceDataInner, Debouncer, Entry, Error, ErrorKind, Feed, NoCache, PathBuf,
+    Config, DebounceDataInner, Debouncer, Entry, Error, ErrorKind, Feed, Moment, NoCache, PathBuf,
     RecursiveMode, Watcher, new_debouncer_opt,
 };
 use std::alloc::Global;
@@ -77,12 +77,12 @@ where
     T: Watcher<Feed<NoCache, R>, R, Global> + Drop,
     R: Threads + Wait + Clock + Files + Abort + Copy + Send + Sync + 'static,
 {
-    match way {
-        Ending::Join => debouncer.stop(),
-        Ending::Journal => match debouncer.stop_journal() {
-            Ok((timeout, journal)) if timeout == 40_000_000 && journal.is_empty() => {}
-            _ => return false,
-        },
+    let is_well = match way {
+        Ending::Join => {
+            debouncer.stop();
+            true
+        }
+        Ending::Journal => is_empty(debouncer.stop_journal()),
         Ending::Nonblocking => {
             debouncer.stop_nonblocking();
             return true;
@@ -91,8 +91,16 @@ where
             drop(debouncer);
             return true;
         }
-    }
-    seen.ended.load(Ordering::SeqCst)
+    };
+    is_well && seen.ended.load(Ordering::SeqCst)
+}
+
+/// Whether this is what a debouncer gives that keeps no journal.
+fn is_empty(answer: Result<(Moment, Vec<Entry>), Error>) -> bool {
+    let Ok((timeout, journal)) = answer else {
+        return false;
+    };
+    timeout == 40_000_000 && journal.is_empty()
 }
 
 /// What a handler sees that holds its first batch in this phase. In the others no batch keeps the errors

@@ -6,6 +6,7 @@ use notify_mirror::watch_run;
 use std::fs::Files;
 use std::io;
 use std::io::Write;
+use std::process::Abort;
 use std::sync::Wait;
 use std::thread::Threads;
 use std::time::Clock;
@@ -44,17 +45,29 @@ fn a_watch_says_what_goes_wrong(rt: HostRuntime) {
     let heap = new_heap(&rt);
     let mut out = Vec::new(rt.alloc());
     let (gone, line) = watch::<Stubborn<Heap>, _, _>(rt, heap, "/gone", &mut out);
-    assert_eq!(rt;
-        (gone, line.as_slice()),
-        (5, "mirror: cannot watch /gone\n".as_bytes())
+    check(
+        &rt,
+        gone,
+        line.as_slice(),
+        5,
+        "mirror: cannot watch /gone\n",
     );
     let (unmade, line) = watch::<Unmade, _, _>(rt, heap, "/w", &mut out);
-    assert_eq!(rt;
-        (unmade, line.as_slice()),
-        (8, "mirror: cannot start a thread\n".as_bytes())
+    check(
+        &rt,
+        unmade,
+        line.as_slice(),
+        8,
+        "mirror: cannot start a thread\n",
     );
     let (full, line) = watch::<Stubborn<Heap>, _, _>(rt, heap, "/w", &mut Full);
-    assert_eq!(rt; (full, line.len(), out.len()), (6, 0, 0));
+    check(&rt, full, line.as_slice(), 6, "");
+    assert_eq!(rt; out.len(), 0);
+}
+
+fn check(rt: &impl Abort, status: u8, line: &[u8], wanted: u8, wanted_line: &str) {
+    assert_eq!(rt; status, wanted);
+    assert!(rt; line == wanted_line.as_bytes(), "{wanted}");
 }
 
 #[test]
