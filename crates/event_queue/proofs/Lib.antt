@@ -1,2 +1,3 @@
 mod MoveLemmas
+mod StayingLemmas
 mod TargetLemmas
