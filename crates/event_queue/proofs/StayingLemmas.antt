@@ -1,8 +1,8 @@
 -- What a rename leaves at its source, of what is there once a joined rename in front is dropped.
-use Rattle.std.proofs.Common.{◌≡◌, Bool, true, false, cond, List, [], ◌∷◌, take, refl, ap}
-use Rattle.std.specs.Prelude.{is_some, Option, Some, None}
+use Rattle.std.proofs.Common.{◌≡◌, true, false, List, [], ◌∷◌, take, refl}
+use Rattle.std.specs.Prelude.{is_some, None}
 use Rattle.notify_types.specs.Event.{Timed}
-use Rattle.debounce_model.specs.Queues.{removes, was_removed}
+use Rattle.debounce_model.specs.Queues.{was_removed}
 use Rattle.debounce_model.specs.Rename.{staying}
 use Rattle.debounce_model.specs.MapSteps.{one_or_none}
 

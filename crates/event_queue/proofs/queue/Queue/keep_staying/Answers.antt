@@ -1,6 +1,6 @@
 -- What stays is a removal in front, of what is there once the last event and a joined rename in front are dropped.
-use Rattle.std.proofs.Common.{◌≡◌, ◌∙◌, ap, sym, true, false, List, [], take}
-use Rattle.std.specs.Prelude.{is_some, None}
+use Rattle.std.proofs.Common.{◌≡◌, ◌∙◌, ap, sym, true, false, [], take}
+use Rattle.std.specs.Prelude.{is_some}
 use Rattle.debounce_model.specs.MapSteps.{one_or_none}
 use Rattle.debounce_model.specs.Queues.{was_removed}
 use Rattle.debounce_model.specs.Rename.{staying, without_both, without_last}
