@@ -1,7 +1,7 @@
 -- The event is put in first, and what is below is dropped then.
-use Rattle.std.proofs.Common.{◌∙◌, ap, ◌∷◌, []}
+use Rattle.std.proofs.Common.{◌≡◌, ◌∙◌, ap, ◌∷◌, [], rules}
 use Rattle.notify_types.specs.Event.{first_of}
-use Rattle.debounce_model.specs.Queues.{Queues, without_below}
+use Rattle.debounce_model.specs.Queues.{Queues, with_queue, without_below}
 use Rattle.debounce_model.proofs.QueueLemmas.{put_before_drop}
 use Rattle.debounce_queues.proofs.queues.replace.Goals as goal
 
@@ -10,7 +10,9 @@ returns-clause-ok g c =
     let queues = c.args.queues.now.entries in
     let x = c.args.event in
     let path = first_of x.event.paths in
-    c.drop_below.ensures.left
-    ∙ ap (without_below c.put_alone.new.queues.entries) (c.in_ok-folder.ensures.cases ∙ c.first_path.ensures)
-    ∙ ap (λ (q : Queues). without_below q path) c.in_ok-put_alone.ensures.ok
-    ∙ put_before_drop queues path (x ∷ []) c.len-len.ensures.ordered
+    let put = c.put_alone.new.queues.entries in
+    let made : without_below put path ≡ with_queue (without_below queues path) path (x ∷ []) =
+    ap (λ (q : Queues). without_below q path) c.in_ok-put_alone.ensures.ok
+    ∙ put_before_drop queues path (x ∷ []) c.len-len.ensures.ordered in
+    let same = c.in_ok-folder.ensures.cases ∙ c.first_path.ensures in
+    rw (← made, ← same) (search rules depth 2)
