@@ -54,6 +54,9 @@ returns-in_default-clause-added g c =
     let found : IfSome told (λ tree. look ≡ entry_at tree (take n root)) = subst (λ p. IfSome told (λ tree. look ≡ entry_at tree p)) c.in_ok-path.ensures.ok seen in
     stops-missing told c.args.mode root c.args.listing.now n look c.loop-count.listing low high found c.in_default.is i.passed i.added
 
+pub returns-in_default-clause-err : goal.returns-in_default-clause-err
+returns-in_default-clause-err g c = tt
+
 pub returns-then-is_file-clause-added : goal.returns-then-is_file-clause-added
 returns-then-is_file-clause-added g c =
     let i = c.loop-count.invariant in
