@@ -1,5 +1,5 @@
 -- Steps of a book: its journal is one entry longer and stays legal, or nothing is written.
-use Rattle.std.proofs.Common.{◌≡◌, ◌∙◌, ℕ, List, [], ◌∷◌, ◌++◌, Bool, true, false, Option, Some, refl, sym, ap, subst, inl, inr}
+use Rattle.std.proofs.Common.{◌≡◌, ◌∙◌, ℕ, List, [], ◌∷◌, ◌++◌, Bool, true, false, Option, Some, Result, Ok, Err, OnOk, IfErr, refl, sym, ap, subst, inl, inr}
 use Rattle.notify_paths.specs.Errors.{ErrorValue, ErrorKindValue, FullKind, MemoryKind}
 use Rattle.notify_types.specs.Event.{EventValue}
 use Rattle.debounce_model.specs.declared.case.Case.{Case}
@@ -11,7 +11,7 @@ use Rattle.debounce_model.specs.Run.{Step}
 use Rattle.debounce_model.specs.State.{State, Core, empty_state}
 use Rattle.debounce_model.specs.Step.{IsRefusedFor}
 use Rattle.debounce_model.specs.Table.{case_of, taken_as, event_step, raised_event}
-use Rattle.debounce_book.specs.Book.{entry_of, full, IsFull, IsDone, IsNotDone, Steps}
+use Rattle.debounce_book.specs.Book.{Kept, entry_of, full, IsFull, IsDone, IsNotDone, Steps, fed_command, fed_reply}
 use Rattle.debounce_book.specs.Journal.{EntryValue, Accepts, Replays, IsLegal, IsJournal}
 use Rattle.debounce_book.specs.Written.{Foretells, IsDraft, IsNoDraft, is_refused, with_answer, entered}
 
@@ -141,6 +141,21 @@ module _ {C : Type 0} where
       by (EventCommand event now exists) at = (refl, (at, refl))
       by k at = absurd at
   IsNotDone-draft r s es c error (inr (is, below)) = inr (is, (λ none. cc), below, refl)
+
+  -- what is fed and not refused is done, and the reply has the cache's answer
+  pub fed_done : {T E : Type 0} (r : Rules C) (old new : Kept C) (item : Result EventValue ErrorValue) (now : ℕ) (exists : Bool) (y : ReplyValue) (res : Result T E) → Steps r old 0 (fed_command item now exists) y new → OnOk res (is_refused y ≡ false) → OnOk res (IsDone r old 0 (fed_command item now exists) (fed_reply item new.core.answer) new)
+  fed_done r old new item now exists y (Err e) s n = tt
+  fed_done r old new (Ok event) now exists (TakenReply answer) (Ok x) s n = subst (λ (a : Option FileId). IsDone r old 0 (EventCommand event now exists) (TakenReply a) new) s.0.1 s
+  fed_done r old new (Ok event) now exists (RefusedReply error) (Ok x) s n = cc
+  fed_done r old new (Ok event) now exists y (Ok x) s n = absurd s.0
+  fed_done r old new (Err error) now exists NotedReply (Ok x) s n = s
+  fed_done r old new (Err error) now exists (RefusedReply refusal) (Ok x) s n = cc
+  fed_done r old new (Err error) now exists y (Ok x) s n = absurd s.0
+
+  -- .. and what is refused is not done
+  pub fed_not_done : {T : Type 0} (r : Rules C) (old new : Kept C) (c : CommandValue) (y : ReplyValue) (res : Result T ErrorValue) → Steps r old 0 c y new → IfErr res (λ e. y ≡ RefusedReply e) → IfErr res (λ e. IsNotDone r old c e new)
+  fed_not_done r old new c y (Ok x) s h = tt
+  fed_not_done r old new c y (Err e) s h = rw h at s
 
 -- the empty journal is legal
 pub IsJournal-empty : (timeout : ℕ) → IsJournal timeout []
