@@ -1,7 +1,7 @@
 -- Loops over a journal and over scripts: one more entry, one more copy.
-use Rattle.std.proofs.Common.{◌≡◌, ◌≢◌, ◌∙◌, ℕ, ◌+◌, ◌<◌, ◌==◌, Bool, true, false, cond, ◌&&◌, Some, None, List, [], ◌∷◌, ◌++◌, map, length, take, drop, get_or, refl, sym, ap, subst, arith}
+use Rattle.std.proofs.Common.{◌≡◌, ◌≢◌, ◌∙◌, ℕ, ◌+◌, ◌-◌, ◌<◌, ◌≤◌, ◌==◌, Bool, true, false, cond, ◌&&◌, Some, None, List, [], ◌∷◌, ◌++◌, map, length, take, drop, get_or, refl, sym, ap, subst, arith}
 use Rattle.std.proofs.lemmas.Bool.Decides.{Decides-eqb}
-use Rattle.std.proofs.lemmas.List.{drop_more, map_push, take_more}
+use Rattle.std.proofs.lemmas.List.{drop_more, map_push, take_all, take_more}
 use Rattle.std.specs.Bool.{Decides}
 use Rattle.std.specs.Cmp.Lexicographic.{pointwise, pointwise_decides}
 use Rattle.std.specs.List.{AllByRecursion}
@@ -46,6 +46,14 @@ pointwise-unstripped c cs (d ∷ ds) h = by (command_eq c d) refl h
     by : (b : Bool) → command_eq c d ≡ b → cond b (Some ds) None ≡ None → (command_eq c d && pointwise command_eq cs ds) ≡ false
     by true e h = cc
     by false e h = rw e refl
+
+-- a command that is the first is stripped
+pub stripped-first : {X : Type 0} (f : X → CommandValue) (xs : List X) (x : X) (first : CommandValue) → 1 ≤ length xs → x ≡ get_or xs 0 x → command_eq first (f x) ≡ true → Some (map f (take (length xs - 1) (drop 1 xs))) ≡ stripped (map f xs) first
+stripped-first f [] x first l is e = absurd (omega (arith, l))
+stripped-first f (y ∷ xs) x first l is e =
+    let all : take (length (y ∷ xs) - 1) xs ≡ xs = take_all (length (y ∷ xs) - 1) xs (omega arith) in
+    let same : command_eq first (f y) ≡ true = ap (λ z. command_eq first (f z)) (sym is) ∙ e in
+    rw (all, same) refl
 
 -- no commands agree with those of a script that is used up
 pub pointwise-none : {X : Type 0} (f : X → CommandValue) (xs : List X) → pointwise command_eq [] (map f xs) ≡ (length xs == 0)
