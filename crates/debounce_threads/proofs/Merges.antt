@@ -55,6 +55,18 @@ stripped-first f (y ∷ xs) x first l is e =
     let same : command_eq first (f y) ≡ true = ap (λ z. command_eq first (f z)) (sym is) ∙ e in
     rw (all, same) refl
 
+-- .. and another isn't
+pub unstripped-first : {X : Type 0} (f : X → CommandValue) (xs : List X) (x : X) (first : CommandValue) → 1 ≤ length xs → x ≡ get_or xs 0 x → command_eq first (f x) ≡ false → None ≡ stripped (map f xs) first
+unstripped-first f [] x first l is e = absurd (omega (arith, l))
+unstripped-first f (y ∷ xs) x first l is e =
+    let other : command_eq first (f y) ≡ false = ap (λ z. command_eq first (f z)) (sym is) ∙ e in
+    rw other refl
+
+-- .. nor one of no commands
+pub stripped-none : {X : Type 0} (f : X → CommandValue) (xs : List X) (first : CommandValue) → length xs < 1 → None ≡ stripped (map f xs) first
+stripped-none f [] first l = refl
+stripped-none f (x ∷ xs) first l = absurd (omega (arith, l))
+
 -- no commands agree with those of a script that is used up
 pub pointwise-none : {X : Type 0} (f : X → CommandValue) (xs : List X) → pointwise command_eq [] (map f xs) ≡ (length xs == 0)
 pointwise-none f [] = refl
