@@ -87,3 +87,6 @@ returns-in_default-clause-sure g c = λ q.
     let some : is_due s c.args.now ≡ true = rw (← c.self.view_is, c.max-now.ensures) at (sym c.is_due.ensures ∙ c.if-not-is_due.false) in
     let none : is_due s c.args.now ≡ false = rw (← c.self.view_is) at q in
     absurd (true≢false (sym some ∙ none))
+
+pub returns-in_default-clause-err : goal.returns-in_default-clause-err
+returns-in_default-clause-err g c = (c.out_of_memory.ensures, rw (c.in_default.ensures.err, c.in_default.ensures.kept) c.self.view_is, refl)
