@@ -89,4 +89,5 @@ returns-in_default-clause-sure g c = λ q.
     absurd (true≢false (sym some ∙ none))
 
 pub returns-in_default-clause-err : goal.returns-in_default-clause-err
-returns-in_default-clause-err g c = (c.out_of_memory.ensures, rw (c.in_default.ensures.err, c.in_default.ensures.kept) c.self.view_is, refl)
+returns-in_default-clause-err g c =
+    (c.out_of_memory.ensures, rw (c.in_default.ensures.err, c.in_default.ensures.kept) c.self.view_is, refl)
