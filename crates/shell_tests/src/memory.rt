@@ -1,9 +1,9 @@
 //! Each request for memory refused in turn, and what a feed notes of an event.
-use crate::build::{Heap, commands, new_heap, path, start};
+use crate::build::{Heap, Host, commands, new_heap, path, start};
 use crate::watchers::Starved;
 use notify_debouncer_full::{
     Book, Command, Config, DebounceEventHandler, DebounceEventResult, Debouncer, Entry, Error,
-    ErrorKind, NoCache, RecursiveMode, command_step, tick_step,
+    ErrorKind, NoCache, PathBuf, RecursiveMode, command_step, tick_step,
 };
 use std::process::Abort;
 use std::time::Duration;
@@ -13,19 +13,33 @@ use std::time::Duration;
 const WAITING: &str =
     "timeout 50\nevent 0 Create(Any) - /b\nroot Recursive /r\nerror PathNotFound\nerror PathNotFound\nerror PathNotFound\nerror PathNotFound\ntick 0\ntick 0\n";
 
-/// Carries out the commands of [`WAITING`], and then ticks while the nth request for memory is refused.
-/// Checks what stands after that, and answers whether that many requests came.
-fn check_tick(rt: &impl Abort, heap: Heap, mut book: Book<NoCache, Heap>, n: u64) -> bool {
+/// Carries out the commands of [`WAITING`].
+fn fill(rt: &impl Abort, heap: Heap, book: &mut Book<NoCache, Heap>) {
     for command in commands(rt, heap, WAITING) {
-        command_step(&mut book, 0, command);
+        command_step(book, 0, command);
     }
-    let keeps = book.journal().is_ok_and(|kept| !kept.1.is_empty());
+}
+
+/// Ticks while the nth request for memory is refused, and then while none is. Answers how many events
+/// and how many errors came of each, and whether that many requests came.
+fn tick_twice(
+    heap: Heap,
+    book: &mut Book<NoCache, Heap>,
+    n: u64,
+) -> ([usize; 2], [usize; 2], bool) {
     heap.refuse(n);
-    let first = counts_of(&mut book);
+    let first = counts_of(book);
     let came = heap.left() == 0;
     heap.refuse(0);
-    let [given, errors] = first;
-    let [rest, later] = counts_of(&mut book);
+    (first, counts_of(book), came)
+}
+
+/// Refuses the nth request for memory of a tick. Checks what stands after that, and answers whether
+/// that many requests came.
+fn check_tick(rt: &impl Abort, heap: Heap, keeps: bool, n: u64) -> bool {
+    let mut book = new_book(heap, keeps);
+    fill(rt, heap, &mut book);
+    let ([given, errors], [rest, later], came) = tick_twice(heap, &mut book, n);
     // What wasn't emitted at first is emitted then. Without a journal the errors come at once.
     let all = [given.saturating_add(rest), errors.saturating_add(later)];
     assert!(rt; all == [1, 4] && (keeps || errors == 4), "{n}");
@@ -52,7 +66,7 @@ fn a_refused_tick_loses_nothing(rt: HostRuntime) {
     for journaled in [false, true] {
         let mut refused = 0u64;
         for n in 1..100u64 {
-            if !check_tick(&rt, heap, new_book(heap, journaled), n) {
+            if !check_tick(&rt, heap, journaled, n) {
                 break;
             }
             refused = n;
@@ -81,6 +95,22 @@ type Hungry<R> = Debouncer<Starved<R>, NoCache, R, Heap>;
 /// How often a list may have room already for what comes.
 const ROOM: u32 = 20;
 
+/// Whether something is missed if the nth request for memory is refused.
+fn is_missed<R: Host>(rt: &R, debouncer: &mut Hungry<R>, place: &PathBuf<Heap>, n: u64) -> bool {
+    let config = Config::default().with_poll_interval(Duration::from_nanos(n));
+    debouncer.configure(config).expect(rt, "a setting");
+    let before = debouncer.missed();
+    for _ in 0..ROOM {
+        debouncer
+            .watch(place, RecursiveMode::Recursive)
+            .expect(rt, "memory");
+        if debouncer.missed() > before {
+            return debouncer.missed() == before.saturating_add(1);
+        }
+    }
+    false
+}
+
 #[test]
 fn each_refused_event_and_error_is_missed(rt: HostRuntime) {
     let heap = new_heap(&rt);
@@ -88,25 +118,19 @@ fn each_refused_event_and_error_is_missed(rt: HostRuntime) {
         // The worker sleeps all the while, and asks for no memory.
         let mut debouncer: Hungry<HostRuntime> = start(rt, heap, Duration::from_secs(240), Silent);
         let place = path(&rt, heap, place);
+        assert!(rt; !is_missed(&rt, &mut debouncer, &place, 0));
         let mut missed = 0u64;
-        for n in 0..50u64 {
-            let config = Config::default().with_poll_interval(Duration::from_nanos(n));
-            debouncer.configure(config).expect(&rt, "a setting");
-            for _ in 0..ROOM {
-                if debouncer.missed() == missed {
-                    debouncer
-                        .watch(&place, RecursiveMode::Recursive)
-                        .expect(&rt, "memory");
-                }
-            }
-            if n > 0 && debouncer.missed() == missed {
+        for n in 1..50u64 {
+            if !is_missed(&rt, &mut debouncer, &place, n) {
                 break;
             }
             missed = n;
-            assert_eq!(rt; debouncer.missed(), missed);
         }
+        assert!(rt;
+            missed > 0 && missed < 49 && debouncer.missed() == missed,
+            "{missed}"
+        );
         debouncer.stop_nonblocking();
-        assert!(rt; missed > 0 && missed < 49, "{missed}");
     }
 }
 

@@ -155,44 +155,69 @@ fn replayed(heap: Heap, journal: Vec<Entry<Heap>, Heap>) -> DebounceDataInner<No
 
 type Refusing<R> = Debouncer<Stubborn<Heap>, NoCache, R, Heap>;
 
-/// Watches a path, and returns why it was refused, if it was.
+/// Why a call was refused, if it was.
+fn word_of(answer: Result<(), Error<Heap>>) -> &'static str {
+    match answer {
+        Ok(()) => "",
+        Err(error) => match error.kind {
+            ErrorKind::PathNotFound => "PathNotFound",
+            ErrorKind::WatchNotFound => "WatchNotFound",
+            ErrorKind::Memory => "Memory",
+            _ => "another",
+        },
+    }
+}
+
+/// Watches a path, and returns why it was refused, if it was. There is no memory for `/starved`.
 fn refusal_of<R: Host>(
     rt: &R,
     heap: Heap,
     debouncer: &mut Refusing<R>,
     place: &str,
-) -> Option<ErrorKind<Heap>> {
+) -> &'static str {
     let place = path(rt, heap, place);
     let starved = place.as_str() == "/starved";
     heap.refuse(if starved { u64::MAX } else { 0 });
     let answer = debouncer.watch(&place, RecursiveMode::Recursive);
     heap.refuse(0);
-    answer.err().map(|error| error.kind)
+    word_of(answer)
+}
+
+/// Which of these paths are watched with what is below them, as the journal tells.
+fn roots_in(
+    rt: &impl Abort,
+    heap: Heap,
+    journal: Vec<Entry<Heap>, Heap>,
+    places: [&str; 3],
+) -> [bool; 3] {
+    let core = replayed(heap, journal);
+    let [first, second, third] = places;
+    [
+        is_root(&core, &path(rt, heap, first)),
+        is_root(&core, &path(rt, heap, second)),
+        is_root(&core, &path(rt, heap, third)),
+    ]
+}
+
+fn is_root(core: &DebounceDataInner<NoCache, Heap>, place: &PathBuf<Heap>) -> bool {
+    core.recursive_mode(place) == RecursiveMode::Recursive
 }
 
 #[test]
 fn a_refused_watch_adds_no_root_and_a_refused_unwatch_drops_none(rt: HostRuntime) {
     let heap = new_heap(&rt);
     let mut debouncer: Refusing<HostRuntime> = start(rt, heap, Duration::from_millis(4), Silent);
+    let places = ["/gone", "/starved", "/w"];
     let gone = refusal_of(&rt, heap, &mut debouncer, "/gone");
     let starved = refusal_of(&rt, heap, &mut debouncer, "/starved");
     let watched = refusal_of(&rt, heap, &mut debouncer, "/w");
-    assert!(rt; gone == Some(ErrorKind::PathNotFound) && starved == Some(ErrorKind::Memory));
-    assert!(rt; watched.is_none());
-    let kept = debouncer.unwatch(&path(&rt, heap, "/w"));
-    assert!(rt; kept == Err(Error::new(heap, ErrorKind::WatchNotFound)));
-    assert!(rt; debouncer.configure(Config::default()) == Ok(true));
+    let unwatched = word_of(debouncer.unwatch(&path(&rt, heap, "/w")));
+    assert_eq!(rt;
+        [gone, starved, watched, unwatched],
+        ["PathNotFound", "Memory", "", "WatchNotFound"]
+    );
+    assert!(rt; debouncer.configure(Config::default()).unwrap_or(false));
     let (_, journal) = debouncer.stop_journal().expect(&rt, "memory");
-    let core = replayed(heap, journal);
-    let roots = [
-        is_root(&core, &path(&rt, heap, "/gone")),
-        is_root(&core, &path(&rt, heap, "/starved")),
-        is_root(&core, &path(&rt, heap, "/w")),
-    ];
+    let roots = roots_in(&rt, heap, journal, places);
     assert_eq!(rt; roots, [false, false, true]);
-}
-
-/// Whether the path is watched with what is below it.
-fn is_root(core: &DebounceDataInner<NoCache, Heap>, place: &PathBuf<Heap>) -> bool {
-    core.recursive_mode(place) == RecursiveMode::Recursive
 }
