@@ -233,7 +233,8 @@ impl<
         root_step(&mut book, path, mode)
     }
 
-    /// Watches a path no longer, nor any root below it.
+    /// Watches a path no longer. The debouncer forgets the roots below it too; whether the watcher does
+    /// is its own matter.
     ///
     /// The watcher comes first: if it refuses, its error is passed on, and the roots are as they were.
     /// They are also as they were if memory is refused then.

@@ -16,8 +16,9 @@
 //! Renames whose halves have no trackers are joined by file numbers if the cache has some: `FileIdMap`
 //! over a `FolderScan` reads them from the file system, and `NoCache` has none.
 //!
-//! Moments are nanoseconds from a start that the caller chooses; the core reads no clock. The
-//! definitions that the contracts speak of are re-exported in `specs`.
+//! Moments are nanoseconds from a start that the caller chooses; the core reads no clock. Most
+//! definitions that the contracts speak of are re-exported in `specs`; docs/PROOFS.md says where each
+//! stands.
 #![tactic(auto)]
 
 mod recommended;
