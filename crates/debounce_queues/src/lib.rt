@@ -9,16 +9,11 @@
 //! let mut queues = Queues::new(rt.alloc());
 //! queues.push(event)?;
 //! let mut places = Vec::new(rt.alloc());
-//! let due = Due::Expired(50, 60);
+//! let due = Due::Expired { timeout: 50, now: 60 };
 //! let mut plan = queues.plan(due)?;
 //! queues.lend_places(&mut plan, &mut places, due)?;
 //! let opened = queues.trim(due)?;
 //! ```
 #![tactic(auto)]
 
-mod halves;
-mod joined;
-mod map;
 pub mod queues;
-mod room;
-mod touched;

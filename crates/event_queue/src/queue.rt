@@ -1,91 +1,22 @@
 //! The queue of one path.
-ghost use Rattle.std.specs.Prelude.{◌≡◌, ◌↔◌, ◌++◌, ◌+◌, ◌≤◌, OnOk, OnErr, IfOk, IfErr, IsTrue, false, not, is_some, length, vec_len, vec_capacity};
+ghost use Rattle.std.specs.Prelude.{◌≡◌, ◌↔◌, ◌++◌, ◌+◌, ◌≤◌, OnOk, OnErr, IfOk, IfErr, IsTrue, false, not, length, vec_len, vec_capacity};
 ghost use Rattle.std.specs.Cmp.{partial_equiv_from_equiv};
 ghost use Rattle.notify_paths.specs.Errors.{out_of_memory};
 ghost use Rattle.notify_types.specs.Borrowed.{borrowed};
 ghost use Rattle.debounce_model.specs.Equality.{events_eq};
 ghost use Rattle.debounce_model.specs.EqualityLaws.{events_eq_equiv};
-ghost use Rattle.debounce_model.specs.Queues.{was_created, was_removed, appended, skips, creates, removes};
+ghost use Rattle.debounce_model.specs.Queues.{was_created, was_removed, appended, skips};
 ghost use Rattle.debounce_model.specs.Due.{expired_beginning, is_front_due, last_of_kind, rest_after, waits};
-ghost use Rattle.debounce_model.specs.Rename.{is_both_kind, without_last, without_both, staying};
-ghost use Rattle.debounce_model.specs.MapSteps.{one_or_none};
 ghost use Rattle.event_queue.specs.Due.{is_due};
 ghost use Rattle.event_queue.specs.Front.{front_time};
 
-use crate::due::{Due, expired_count, lend_last_of_kind, move_last_of_kind, turn};
+use crate::due::{Due, expired_count, lend_last_of_kind, move_last_of_kind, reverse_events};
+use crate::front::{were_created, were_removed};
 use notify_paths::error::Error;
 use notify_types::event::{DebouncedEvent, clone_events};
-use notify_types::kind::{EventKind, ModifyKind, RenameMode};
 use notify_types::time::Moment;
 use std::alloc::{AllocError, Allocator, Global};
 use std::marker::Model;
-
-/// Whether the path is there after an event of this kind.
-fn creates(kind: EventKind) -> bool
-    ensures { result ≡ creates kind }
-{
-    matches!(
-        kind,
-        EventKind::Create(_) | EventKind::Modify(ModifyKind::Name(RenameMode::To))
-    )
-}
-
-/// Whether the path is gone after an event of this kind.
-pub(crate) fn removes(kind: EventKind) -> bool
-    ensures { result ≡ removes kind }
-{
-    matches!(
-        kind,
-        EventKind::Remove(_) | EventKind::Modify(ModifyKind::Name(RenameMode::From))
-    )
-}
-
-/// Whether this is the kind of a joined rename.
-pub(crate) fn is_both(kind: EventKind) -> bool
-    ensures { result ≡ is_both_kind kind }
-{
-    matches!(kind, EventKind::Modify(ModifyKind::Name(RenameMode::Both)))
-}
-
-/// Whether the first event creates its path.
-pub(crate) fn were_created<A: Allocator>(events: &[DebouncedEvent<A>]) -> bool
-    ensures { result ≡ was_created events.now }
-{
-    match events.first() {
-        None => false,
-        Some(first) => creates(first.kind()),
-    }
-}
-
-/// Whether the first event removes its path.
-fn were_removed<A: Allocator>(events: &[DebouncedEvent<A>]) -> bool
-    ensures { result ≡ was_removed events.now }
-{
-    match events.first() {
-        None => false,
-        Some(first) => removes(first.kind()),
-    }
-}
-
-/// Drops the last event.
-fn drop_last<A: Allocator>(events: &mut Vec<DebouncedEvent<A>, A>)
-    ensures { events.new.items ≡ without_last events.old.items }
-{
-    let len = events.len();
-    events.truncate(len.saturating_sub(1));
-}
-
-/// Drops a joined rename from the front; one that stands second is dropped with what goes along.
-fn drop_front_both<A: Allocator>(events: &mut Vec<DebouncedEvent<A>, A>)
-    ensures { staying events.new.items ≡ staying (without_both events.old.items) }
-{
-    let Some(first) = events.first() else {
-        return;
-    };
-    if is_both(first.kind()) {
-        events.remove(0);
-    }
-}
 
 /// The events that wait at one path, in the order in which they came.
 #[derive(Debug, Drop)]
@@ -145,8 +76,8 @@ impl<A: Allocator> Queue<A> {
         self.events.as_slice()
     }
 
-    /// Whether something waits.
-    pub fn waits(&self) -> bool
+    /// Whether an event waits.
+    pub fn has_events(&self) -> bool
         ensures { result ≡ waits self.now }
     {
         !self.events.as_slice().is_empty()
@@ -188,29 +119,14 @@ impl<A: Allocator> Queue<A> {
     /// fails, nothing has changed; none is needed for an event that is skipped.
     pub fn append(&mut self, event: DebouncedEvent<A>) -> Result<(), AllocError>
         ensures ok { OnOk result (self.new ≡ appended self.old event) }
-        ensures err { OnErr result (self.new ≡ self.old) }
-        ensures grown { OnErr result (skips self.old event.event.kind ≡ false) }
+        ensures unchanged { OnErr result (self.new ≡ self.old) }
+        ensures sure { OnErr result (skips self.old event.event.kind ≡ false) }
     {
         if event.kind().is_skippable() && self.was_created() {
             return Ok(());
         }
         self.events.push(event)?;
         Ok(())
-    }
-
-    /// Drops all but what a rename leaves at its source, and returns whether there is such an event.
-    pub fn keep_staying(&mut self) -> bool
-        ensures kept { self.new ≡ one_or_none (staying (without_both (without_last self.old))) }
-        ensures stays { result ≡ is_some (staying (without_both (without_last self.old))) }
-    {
-        drop_last(&mut self.events);
-        drop_front_both(&mut self.events);
-        if were_removed(self.events.as_slice()) {
-            self.events.truncate(1);
-            return true;
-        }
-        self.events.clear();
-        false
     }
 
     /// Whether all events are due.
@@ -247,10 +163,10 @@ impl<A: Allocator> Queue<A> {
     {
         let count = expired_count(self.events.as_slice(), due);
         let left = self.events.len() - count;
-        turn(&mut self.events);
+        reverse_events(&mut self.events);
         move_last_of_kind(out, &mut self.events, left);
-        turn(&mut self.events);
-        self.waits()
+        reverse_events(&mut self.events);
+        self.has_events()
     }
 
     /// Drops the due beginning, and returns whether something still waits.
@@ -262,7 +178,7 @@ impl<A: Allocator> Queue<A> {
         self.events.as_mut_slice().rotate_left(count);
         let left = self.events.len() - count;
         self.events.truncate(left);
-        !self.events.as_slice().is_empty()
+        self.has_events()
     }
 }
 

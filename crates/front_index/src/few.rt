@@ -7,7 +7,8 @@ ghost use Rattle.event_queue.specs.Due.{is_due};
 ghost use Rattle.front_index.specs.Fronts.{IsIndexed};
 ghost use Rattle.front_index.specs.Steps.{AreDuePaths, AreLater, ArePathsDue, AreThere, IsUndue, emitted_of, front_after, given_at, pair_of, taken_at, trimmed_at};
 
-use crate::fronts::{Fronts, QueueMap, pop_due};
+use crate::fronts::{Fronts, pop_due};
+use crate::queues::QueueMap;
 use crate::settle::{Pairs, add_pair, insert_pairs, tidy};
 use event_queue::due::Due;
 use notify_paths::path::PathBuf;
@@ -153,7 +154,7 @@ pub(crate) fn take_few<A: Allocator + Copy>(
     ensures capacity { vec_capacity out.new ≡ vec_capacity out.old }
     ensures count { IfOk result (λ count. count ≡ due_fronts (is_due due) map.old.entries) }
     ensures left { OnOk result (map.new.entries ≡ rests (is_due due) map.old.entries) }
-    ensures err { OnErr result (map.new.entries ≡ map.old.entries) }
+    ensures unchanged { OnErr result (map.new.entries ≡ map.old.entries) }
     ensures kept { OnErr result (out.new.items ≡ out.old.items) }
     ensures indexed { IsIndexed fronts.new map.new.entries }
 {

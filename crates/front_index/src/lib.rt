@@ -1,24 +1,29 @@
-//! The index of the queues: for each queue the time of its front, with its path, in the order of the
-//! times.
+//! The queues of all paths, with an index of them: for each queue the time of its front, with its path,
+//! in the order of the times.
 //!
-//! A tick looks at the first pair, and opens only the queues of the pairs that are due; if these are
-//! many, it goes over all queues instead of a search for each ([`plan::Plan`]). The map of the queues and
-//! the index stand side by side; each function here that changes both leaves the index with just the
-//! fronts of the queues.
+//! [`queues::IndexedQueues`] holds both, and each of its methods leaves the index with just the fronts of
+//! the queues. A tick looks at the first pair of the index, and opens only the queues of the pairs that
+//! are due; if these are many, it goes over all queues instead of a search for each ([`plan::Plan`]).
 //!
 //! ```text
-//! put_new(&mut map, &mut fronts, path, time, queue)?;
-//! if is_any_due(&map, &fronts, due) {
-//!     let opened = trim(&mut map, &mut fronts, due)?;
+//! let mut queues = IndexedQueues::new(rt.alloc());
+//! queues.push(event)?;
+//! if queues.is_any_due(due) {
+//!     let opened = queues.trim(due)?;
 //! }
 //! ```
 #![tactic(auto)]
 
-pub mod below;
-pub mod change;
+mod below;
+mod change;
 mod few;
-pub mod fronts;
+mod fronts;
 pub mod plan;
-pub mod put;
-pub mod settle;
-pub mod whole;
+mod push;
+mod put;
+mod put_all;
+pub mod queues;
+mod room;
+mod settle;
+mod trim;
+mod whole;

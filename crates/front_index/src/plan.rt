@@ -7,7 +7,8 @@ ghost use Rattle.front_index.specs.Fronts.{IsIndexed};
 ghost use Rattle.front_index.specs.Plan.{FindsDue, IsLent, IsPlan, moves};
 
 use crate::few::{Paths, due_paths, lend_few, take_few};
-use crate::fronts::{Fronts, QueueMap};
+use crate::fronts::Fronts;
+use crate::queues::QueueMap;
 use crate::settle::Pairs;
 use crate::whole::{are_many_due, is_all_due, lend_all_places, take_all};
 use event_queue::due::Due;
@@ -53,7 +54,7 @@ impl<A: Allocator> Model for Plan<A> {
 
 impl<A: Allocator + Copy> Plan<A> {
     /// Returns the plan for these queues.
-    pub fn new(
+    pub(crate) fn new(
         map: &QueueMap<A>,
         fronts: &Fronts<A>,
         alloc: A,
@@ -86,7 +87,7 @@ impl<A: Allocator + Copy> Plan<A> {
 
     /// Adds references to what is due, in the order of the paths: of each queue's due beginning the last
     /// of each kind. If an allocation fails, `places` may hold some of them.
-    pub fn lend<'a>(
+    pub(crate) fn lend<'a>(
         &mut self,
         places: &mut Vec<&'a DebouncedEvent<A>, A>,
         map: &'a QueueMap<A>,
@@ -108,7 +109,7 @@ impl<A: Allocator + Copy> Plan<A> {
 
     /// Moves what is due to the end of `out`, which has room for it, in the order of the paths, and
     /// returns how many queues had something. If an allocation fails, nothing has changed.
-    pub fn take(
+    pub(crate) fn take(
         self,
         map: &mut QueueMap<A>,
         fronts: &mut Fronts<A>,
@@ -124,7 +125,7 @@ impl<A: Allocator + Copy> Plan<A> {
         ensures capacity { vec_capacity out.new ≡ vec_capacity out.old }
         ensures count { IfOk result (λ count. count ≡ due_fronts (is_due due) map.old.entries) }
         ensures left { OnOk result (map.new.entries ≡ rests (is_due due) map.old.entries) }
-        ensures err { OnErr result (map.new.entries ≡ map.old.entries) }
+        ensures unchanged { OnErr result (map.new.entries ≡ map.old.entries) }
         ensures kept { OnErr result (out.new.items ≡ out.old.items) }
         ensures indexed { IsIndexed fronts.new map.new.entries }
     {

@@ -4,7 +4,8 @@ ghost use Rattle.debounce_model.specs.Queues.{queue_at, with_queue};
 ghost use Rattle.event_queue.specs.Front.{front_time};
 ghost use Rattle.front_index.specs.Fronts.{IsIndexed, front_of};
 
-use crate::fronts::{Fronts, QueueMap};
+use crate::fronts::Fronts;
+use crate::queues::QueueMap;
 use event_queue::queue::Queue;
 use notify_paths::path::PathBuf;
 use notify_types::time::Moment;
@@ -12,7 +13,7 @@ use std::alloc::{AllocError, Allocator};
 
 /// Puts a queue at a path that has none; its front is of this time. If an allocation fails, nothing
 /// has changed.
-pub fn put_new<A: Allocator + Copy>(
+pub(crate) fn put_new<A: Allocator + Copy>(
     map: &mut QueueMap<A>,
     fronts: &mut Fronts<A>,
     path: PathBuf<A>,
@@ -23,7 +24,7 @@ pub fn put_new<A: Allocator + Copy>(
     requires absent { front_of (queue_at map.old.entries path) ≡ None }
     requires front { front_time queue ≡ Some time }
     ensures ok { OnOk result (map.new.entries ≡ with_queue map.old.entries path queue) }
-    ensures err { OnErr result (map.new.entries ≡ map.old.entries) }
+    ensures unchanged { OnErr result (map.new.entries ≡ map.old.entries) }
     ensures indexed { IsIndexed fronts.new map.new.entries }
 {
     fronts.insert((time, path.clone()?))?;
@@ -38,7 +39,7 @@ pub fn put_new<A: Allocator + Copy>(
 }
 
 /// Puts a queue in the place of another.
-pub fn set<A: Allocator>(map: &mut QueueMap<A>, path: &PathBuf<A>, queue: Queue<A>)
+pub(crate) fn set<A: Allocator>(map: &mut QueueMap<A>, path: &PathBuf<A>, queue: Queue<A>)
     requires { is_some (queue_at map.old.entries path.now) ≡ true }
     ensures { map.new.entries ≡ with_queue map.old.entries path.now queue }
 {
@@ -61,7 +62,7 @@ fn put_over<A: Allocator + Copy>(
     requires front { front_time queue ≡ Some time }
     requires other { was.0 ≢ time }
     ensures ok { OnOk result (map.new.entries ≡ with_queue map.old.entries was.1 queue) }
-    ensures err { OnErr result (map.new.entries ≡ map.old.entries) }
+    ensures unchanged { OnErr result (map.new.entries ≡ map.old.entries) }
     ensures indexed { IsIndexed fronts.new map.new.entries }
 {
     fronts.insert((time, was.1.clone()?))?;
@@ -72,7 +73,7 @@ fn put_over<A: Allocator + Copy>(
 
 /// Puts a queue in the place of what waits at the path. `was` is the time of the front there, if there is
 /// one, and `time` that of the queue's own front. If an allocation fails, nothing has changed.
-pub fn put<A: Allocator + Copy>(
+pub(crate) fn put<A: Allocator + Copy>(
     map: &mut QueueMap<A>,
     fronts: &mut Fronts<A>,
     path: PathBuf<A>,
@@ -84,7 +85,7 @@ pub fn put<A: Allocator + Copy>(
     requires was { was ≡ front_of (queue_at map.old.entries path) }
     requires front { front_time queue ≡ Some time }
     ensures ok { OnOk result (map.new.entries ≡ with_queue map.old.entries path queue) }
-    ensures err { OnErr result (map.new.entries ≡ map.old.entries) }
+    ensures unchanged { OnErr result (map.new.entries ≡ map.old.entries) }
     ensures indexed { IsIndexed fronts.new map.new.entries }
 {
     let Some(was) = was else {

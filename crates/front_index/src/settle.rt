@@ -5,16 +5,17 @@ ghost use Rattle.notify_paths.specs.Path.{PathValue};
 ghost use Rattle.front_index.specs.Fronts.{has, is_front};
 ghost use Rattle.front_index.specs.Steps.{DifferAt, IsKept, IsSame, IsSettled, IsSettledPair, IsWith, IsWithPair, front_pair, pair_of};
 
-use crate::fronts::{Fronts, QueueMap, front_of, is_front};
+use crate::fronts::{Fronts, front_of, is_front};
+use crate::queues::QueueMap;
 use notify_paths::path::PathBuf;
 use notify_types::time::Moment;
 use std::alloc::{AllocError, Allocator};
 
 /// Pairs of a time and a path.
-pub type Pairs<A> = Vec<(Moment, PathBuf<A>), A>;
+pub(crate) type Pairs<A> = Vec<(Moment, PathBuf<A>), A>;
 
 /// Adds the pair of this time, if there is one, and a copy of the path.
-pub fn add_pair<A: Allocator + Copy>(
+pub(crate) fn add_pair<A: Allocator + Copy>(
     pairs: &mut Pairs<A>,
     time: Option<Moment>,
     path: &PathBuf<A>,
@@ -28,7 +29,7 @@ pub fn add_pair<A: Allocator + Copy>(
 }
 
 /// Adds the front of what waits at the path.
-pub fn add_front_at<A: Allocator + Copy>(
+pub(crate) fn add_front_at<A: Allocator + Copy>(
     pairs: &mut Pairs<A>,
     map: &QueueMap<A>,
     path: &PathBuf<A>,
@@ -44,7 +45,7 @@ fn insert_copy<A: Allocator + Copy>(
     pair: &(Moment, PathBuf<A>),
 ) -> Result<(), AllocError>
     ensures ok { OnOk result (IsWithPair pair.now fronts.old fronts.new) }
-    ensures err { OnErr result (IsSame fronts.old fronts.new) }
+    ensures unchanged { OnErr result (IsSame fronts.old fronts.new) }
 {
     if fronts.contains(pair) {
         return Ok(());
@@ -59,7 +60,7 @@ pub(crate) fn insert_pairs<A: Allocator + Copy>(
     pairs: Pairs<A>,
 ) -> Result<(), AllocError>
     ensures ok { OnOk result (IsWith pairs.items fronts.old fronts.new) }
-    ensures grown { IsKept fronts.old fronts.new }
+    ensures kept { IsKept fronts.old fronts.new }
 {
     for front in pairs {
         fronts.insert(front)?;
@@ -68,12 +69,12 @@ pub(crate) fn insert_pairs<A: Allocator + Copy>(
 }
 
 /// Puts copies of these pairs into the index. If an allocation fails, it may have some of them.
-pub fn insert_copies<A: Allocator + Copy>(
+pub(crate) fn insert_copies<A: Allocator + Copy>(
     fronts: &mut Fronts<A>,
     pairs: &[(Moment, PathBuf<A>)],
 ) -> Result<(), AllocError>
     ensures ok { OnOk result (IsWith pairs.now fronts.old fronts.new) }
-    ensures grown { IsKept fronts.old fronts.new }
+    ensures kept { IsKept fronts.old fronts.new }
     ensures others { DifferAt pairs.now fronts.old fronts.new }
 {
     for pair in pairs {
@@ -92,7 +93,7 @@ fn settle_one<A: Allocator>(map: &QueueMap<A>, fronts: &mut Fronts<A>, pair: &(M
 }
 
 /// Takes these pairs out of the index, but for those that are fronts.
-pub fn settle<A: Allocator>(
+pub(crate) fn settle<A: Allocator>(
     map: &QueueMap<A>,
     fronts: &mut Fronts<A>,
     pairs: &[(Moment, PathBuf<A>)],

@@ -6,4 +6,7 @@ use Rattle.debounce_queues.proofs.queues.Queues.take_places.Goals as goal
 
 pub invariant_of-self : goal.invariant_of-self
 invariant_of-self g c =
-    (either IsQueueMap c.take.result c.take.new.map.entries _ c.self.inside.map.entries c.take.ensures.left c.take.ensures.err (map_rests (is_due c.args.due) c.self.inside.map.entries c.self.invariant.0) c.self.invariant.0, c.take.ensures.indexed)
+    let kept = map_rests (is_due c.args.due) c.self.inside.queues c.self.invariant in
+    either IsQueueMap c.take_due.result c.take_due.new.self _ c.self.inside.queues c.take_due.ensures.left
+        c.take_due.ensures.unchanged
+    kept c.self.invariant

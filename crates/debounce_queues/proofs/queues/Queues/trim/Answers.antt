@@ -6,4 +6,7 @@ use Rattle.debounce_queues.proofs.queues.Queues.trim.Goals as goal
 
 pub invariant_of-self : goal.invariant_of-self
 invariant_of-self g c =
-    (either IsQueueMap c.trim.result c.trim.new.map.entries _ c.self.inside.map.entries c.trim.ensures.ok c.trim.ensures.err (map_rests (is_due c.args.due) c.self.inside.map.entries c.self.invariant.0) c.self.invariant.0, c.trim.ensures.indexed)
+    let kept = map_rests (is_due c.args.due) c.self.inside.queues c.self.invariant in
+    either IsQueueMap c.trim.result c.trim.new.self _ c.self.inside.queues c.trim.ensures.ok
+        c.trim.ensures.unchanged
+    kept c.self.invariant

@@ -1,5 +1,5 @@
 -- An event that is skipped needs no memory.
 use Rattle.event_queue.proofs.queue.Queue.append.Goals as goal
 
-pub returns-then-was_created-clause-grown : goal.returns-then-was_created-clause-grown
-returns-then-was_created-clause-grown g c = tt
+pub returns-then-was_created-clause-sure : goal.returns-then-was_created-clause-sure
+returns-then-was_created-clause-sure g c = tt

@@ -1,0 +1,100 @@
+//! Room in the map for queues that come: an empty queue at each path that has none. If an allocation
+//! fails, the empty queues go again.
+ghost use Rattle.std.specs.Prelude.{◌≡◌, true, is_some, OnOk, OnErr};
+ghost use Rattle.debounce_model.specs.Due.{waits};
+ghost use Rattle.debounce_model.specs.MapSteps.{HasRoom, nonempty_of, reserved, reserved_all};
+ghost use Rattle.debounce_model.specs.Moved.{with_queues};
+ghost use Rattle.front_index.specs.Steps.{AreFilled};
+
+use crate::change::{Change, change_values};
+use crate::put::set;
+use crate::queues::{Placed, QueueMap};
+use event_queue::queue::Queue;
+use notify_paths::path::PathBuf;
+use std::alloc::{AllocError, Allocator};
+
+/// Puts an empty queue at the path, if it has none, and leaves room in `spare` for the path.
+fn reserve<A: Allocator + Copy>(
+    map: &mut QueueMap<A>,
+    spare: &mut PathBuf<A>,
+    alloc: A,
+    path: &PathBuf<A>,
+) -> Result<(), AllocError>
+    ensures ok { OnOk result (map.new.entries ≡ reserved map.old.entries path.now) }
+    ensures unchanged { OnErr result (map.new.entries ≡ map.old.entries) }
+{
+    if map.contains_key(path) {
+        return Ok(());
+    }
+    spare.reserve(path)?;
+    let key = path.clone()?;
+    map.insert(key, Queue::new(Vec::new(alloc)))?;
+    Ok(())
+}
+
+/// Makes room for these queues, as far as there is memory.
+fn reserve_all<A: Allocator + Copy>(
+    map: &mut QueueMap<A>,
+    spare: &mut PathBuf<A>,
+    alloc: A,
+    queues: &[(PathBuf<A>, Queue<A>)],
+) -> Result<(), AllocError>
+    ensures ok { OnOk result (map.new.entries ≡ reserved_all map.old.entries queues.now) }
+    ensures filled { OnErr result (nonempty_of map.new.entries ≡ nonempty_of map.old.entries) }
+{
+    for (path, _queue) in queues {
+        reserve(map, spare, alloc, path)?;
+    }
+    Ok(())
+}
+
+/// Keeps a queue in which something waits.
+#[derive(Drop)]
+struct KeepWaiting;
+
+impl<A: Allocator> Change<Queue<A>> for KeepWaiting {
+    ghost changed = { λ k events. events };
+
+    ghost stays = { λ k events. waits events };
+
+    fn change(&self, queue: &mut Queue<A>) -> bool {
+        queue.has_events()
+    }
+}
+
+/// Drops the empty queues.
+fn drop_empty<A: Allocator>(map: &mut QueueMap<A>)
+    ensures { map.new.entries ≡ nonempty_of map.old.entries }
+{
+    change_values(map, &KeepWaiting);
+}
+
+/// Makes room for these queues, or leaves all as it was.
+pub(crate) fn make_room<A: Allocator + Copy>(
+    map: &mut QueueMap<A>,
+    spare: &mut PathBuf<A>,
+    alloc: A,
+    queues: &[(PathBuf<A>, Queue<A>)],
+) -> Result<(), AllocError>
+    requires { AreFilled map.old.entries }
+    ensures ok { OnOk result (map.new.entries ≡ reserved_all map.old.entries queues.now) }
+    ensures unchanged { OnErr result (map.new.entries ≡ map.old.entries) }
+{
+    match reserve_all(map, spare, alloc, queues) {
+        Ok(()) => Ok(()),
+        Err(refused) => {
+            drop_empty(map);
+            Err(refused)
+        }
+    }
+}
+
+/// Puts each of these queues at its path, for which there is room.
+pub(crate) fn set_all<A: Allocator>(map: &mut QueueMap<A>, mut queues: Placed<A>)
+    requires { HasRoom map.old.entries queues.items }
+    ensures { map.new.entries ≡ with_queues map.old.entries queues.items }
+{
+    while let Some((path, queue)) = queues.pop() {
+        set(map, &path, queue);
+    }
+}

@@ -1,0 +1,131 @@
+//! What is due is dropped, by a walk over all queues.
+ghost use Rattle.std.specs.Prelude.{◌≡◌, ◌++◌, IfOk, OnErr, OnOk};
+ghost use Rattle.debounce_model.specs.Due.{due_fronts, rest_after, rests, waits};
+ghost use Rattle.event_queue.specs.Due.{is_due};
+ghost use Rattle.front_index.specs.Fronts.{IsIndexed};
+ghost use Rattle.front_index.specs.Steps.{HasLater, IsKept, IsWith, IsWithLater, later_pair, pair_of};
+
+use crate::change::{Change, change_values};
+use crate::fronts::Fronts;
+use crate::queues::QueueMap;
+use crate::settle::tidy;
+use crate::whole::counted;
+use event_queue::due::Due;
+use event_queue::queue::Queue;
+use notify_paths::path::PathBuf;
+use notify_types::time::Moment;
+use std::alloc::{AllocError, Allocator};
+
+/// Puts the pair of this time, if there is one, and a copy of the path into the index.
+fn insert_front<A: Allocator + Copy>(
+    fronts: &mut Fronts<A>,
+    time: Option<Moment>,
+    path: &PathBuf<A>,
+) -> Result<(), AllocError>
+    ensures ok { OnOk result (IsWith (pair_of time path.now) fronts.old fronts.new) }
+    ensures kept { IsKept fronts.old fronts.new }
+{
+    if let Some(time) = time {
+        fronts.insert((time, path.clone()?))?;
+    }
+    Ok(())
+}
+
+/// Puts the queue's later front into the index: that of what is not due, if the queue's front is due.
+fn insert_later<A: Allocator + Copy>(
+    fronts: &mut Fronts<A>,
+    path: &PathBuf<A>,
+    queue: &Queue<A>,
+    due: Due,
+) -> Result<(), AllocError>
+    ensures ok { OnOk result (IsWith (later_pair due (path.now, queue.now)) fronts.old fronts.new) }
+    ensures kept { IsKept fronts.old fronts.new }
+{
+    if !queue.is_front_due(due) {
+        return Ok(());
+    }
+    insert_front(fronts, queue.time_after(due), path)
+}
+
+/// Puts the later fronts into the index, by a look at each queue. If an allocation fails, it may have
+/// some of them.
+fn insert_all_later<A: Allocator + Copy>(
+    fronts: &mut Fronts<A>,
+    map: &QueueMap<A>,
+    due: Due,
+) -> Result<(), AllocError>
+    ensures ok { OnOk result (IsWithLater due map.now.entries fronts.old fronts.new) }
+    ensures kept { IsKept fronts.old fronts.new }
+{
+    // The proof reads here that the paths ascend.
+    let _len = map.len();
+    for (path, queue) in map {
+        insert_later(fronts, path, queue, due)?;
+    }
+    Ok(())
+}
+
+/// How many queues have a front that is due.
+fn count_due<A: Allocator>(map: &QueueMap<A>, due: Due) -> usize
+    ensures { result ≡ due_fronts (is_due due) map.now.entries }
+{
+    // The proof reads here that the queues can be counted.
+    let _len = map.len();
+    let mut count = 0;
+    for (_path, queue) in map {
+        count = counted(queue.is_front_due(due), count);
+    }
+    count
+}
+
+/// Drops the due beginning of a queue.
+#[derive(Drop)]
+struct DueTrim {
+    due: Due,
+}
+
+impl<A: Allocator> Change<Queue<A>> for DueTrim {
+    ghost changed = { λ t events. rest_after (is_due t.due) events };
+
+    ghost stays = { λ t events. waits (rest_after (is_due t.due) events) };
+
+    fn change(&self, queue: &mut Queue<A>) -> bool {
+        queue.trim(self.due)
+    }
+}
+
+/// Drops the due beginning of each queue, and from the index each pair that is due; the later fronts are
+/// in it already. Returns how many queues had a front that was due.
+fn trim_all<A: Allocator>(map: &mut QueueMap<A>, fronts: &mut Fronts<A>, due: Due) -> usize
+    requires { HasLater due fronts.old map.old.entries }
+    ensures rests { map.new.entries ≡ rests (is_due due) map.old.entries }
+    ensures indexed { IsIndexed fronts.new map.new.entries }
+    ensures count { result ≡ due_fronts (is_due due) map.old.entries }
+{
+    let count = count_due(map, due);
+    change_values(map, &DueTrim { due });
+    fronts.retain(|front| !due.is_due_at(front.0));
+    count
+}
+
+/// Drops the due beginning of each queue, and returns how many queues had one. The later fronts go
+/// into the index first, by what alone can fail; if that is refused, nothing has changed.
+pub(crate) fn trim<A: Allocator + Copy>(
+    map: &mut QueueMap<A>,
+    fronts: &mut Fronts<A>,
+    due: Due,
+) -> Result<usize, AllocError>
+    requires { IsIndexed fronts.old map.old.entries }
+    ensures count { IfOk result (λ count. count ≡ due_fronts (is_due due) map.old.entries) }
+    ensures ok { OnOk result (map.new.entries ≡ rests (is_due due) map.old.entries) }
+    ensures unchanged { OnErr result (map.new.entries ≡ map.old.entries) }
+    ensures indexed { IsIndexed fronts.new map.new.entries }
+{
+    // The proof reads here that the paths ascend.
+    let _len = map.len();
+    if let Err(refused) = insert_all_later(fronts, map, due) {
+        tidy(map, fronts);
+        return Err(refused);
+    }
+    Ok(trim_all(map, fronts, due))
+}

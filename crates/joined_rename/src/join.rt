@@ -1,0 +1,111 @@
+//! The joined rename, whole.
+ghost use Rattle.std.specs.Prelude.{◌≡◌, ◌++◌, IfOk, OnErr, OnOk, option_copied};
+ghost use Rattle.std.specs.List.Sorted.{IsStrictlySortedBy};
+ghost use Rattle.std.specs.Map.{keys_of};
+ghost use Rattle.notify_paths.specs.Path.{path_cmp};
+ghost use Rattle.debounce_model.specs.WellFormed.{AreQueues};
+ghost use Rattle.joined_rename.specs.Renames.{joined_by};
+ghost use Rattle.joined_rename.specs.Steps.{kept_at, left_by, puts_by, staying_at};
+
+use crate::arrived::arrived;
+use crate::below::{add_going_along, drop_moved, stale_paths};
+use crate::rename::Rename;
+use crate::source::source_at;
+use crate::target::target_at;
+use event_queue::queue::Queue;
+use front_index::queues::{IndexedQueues, Placed, QueueMap};
+use notify_paths::path::PathBuf;
+use notify_types::event::DebouncedEvent;
+use std::alloc::{AllocError, Allocator};
+
+/// The joined rename. What waits at its source goes to its target, behind the rename; the last event
+/// there is the rename's first half, and goes. What waits below the source goes along. If an allocation
+/// fails, nothing has changed.
+pub fn join<A: Allocator + Copy>(
+    queues: &mut IndexedQueues<A>,
+    rename: Rename<'_, A>,
+) -> Result<(), AllocError>
+    requires { AreQueues queues.old }
+    ensures ok { OnOk result (queues.new ≡ joined_by queues.old rename.entry) }
+    ensures unchanged { OnErr result (queues.new ≡ queues.old) }
+{
+    let from = rename.from;
+    let to = rename.to;
+    let alloc = queues.allocator();
+    let stays = stays_at(queues.by_path(), from);
+    let stale = stale_paths(queues.by_path(), alloc, from, to)?;
+    let puts = puts(queues.by_path(), alloc, rename)?;
+    queues.put_all(puts)?;
+    // From here on nothing can fail.
+    leave(queues, from, to, stays);
+    queues.take_out_all(stale.as_slice());
+    drop_moved(queues, from, to);
+    Ok(())
+}
+
+/// Whether an event stays at the source.
+fn stays_at<A: Allocator>(queues: &QueueMap<A>, from: &PathBuf<A>) -> bool
+    requires { AreQueues queues.now.entries }
+    ensures { result ≡ kept_at queues.now.entries from.now }
+{
+    source_at(queues, from).stays.is_some()
+}
+
+/// The queues that the rename puts: what then waits at the target, the event that stays at the source,
+/// and what goes along below it.
+fn puts<A: Allocator + Copy>(
+    queues: &QueueMap<A>,
+    alloc: A,
+    rename: Rename<'_, A>,
+) -> Result<Placed<A>, AllocError>
+    requires { AreQueues queues.now.entries }
+    ensures puts { IfOk result (λ puts. puts.items ≡ puts_by queues.now.entries rename.entry) }
+    ensures ordered { IsStrictlySortedBy path_cmp (keys_of queues.now.entries) }
+{
+    // The proof reads here that the paths ascend.
+    let _len = queues.len();
+    let from = rename.from;
+    let to = rename.to;
+    let source = source_at(queues, from);
+    let target = target_at(queues, &source, from, to);
+    let began = source.original_time(rename.time);
+    let place = to.clone()?;
+    let queue = arrived(alloc, &source, target, rename)?;
+    let mut puts = Vec::with_capacity(alloc, 2)?;
+    puts.push((place, queue))?;
+    add_staying(&mut puts, from, source.stays)?;
+    add_going_along(&mut puts, queues, from, to, began)?;
+    Ok(puts)
+}
+
+/// Adds a queue of the event that stays, if there is one.
+fn add_staying<A: Allocator + Copy>(
+    puts: &mut Placed<A>,
+    from: &PathBuf<A>,
+    stays: Option<&DebouncedEvent<A>>,
+) -> Result<(), AllocError>
+    ensures { OnOk result (puts.new.items
+        ≡ puts.old.items ++ staying_at from.now (option_copied stays.entry)) }
+{
+    let Some(event) = stays else {
+        return Ok(());
+    };
+    let mut events = Vec::with_capacity(*puts.allocator(), 1)?;
+    events.push(event.clone()?)?;
+    puts.push((from.clone()?, Queue::new(events)))?;
+    Ok(())
+}
+
+/// Takes out what waits at the source, unless an event stays there, or it is the target.
+fn leave<A: Allocator + Copy>(
+    queues: &mut IndexedQueues<A>,
+    from: &PathBuf<A>,
+    to: &PathBuf<A>,
+    stays: bool,
+)
+    ensures { queues.new ≡ left_by queues.old from.now to.now stays }
+{
+    if !stays && *from != *to {
+        queues.take_out(from);
+    }
+}
