@@ -1,5 +1,8 @@
 //! The queues of all paths.
 ghost use Rattle.std.specs.Prelude.{◌≡◌, ◌++◌, ◌+◌, ◌<◌, ◌≤◌, ◌^◌, [], OnOk, OnErr, IfOk, false, true, length, option_copied, vec_len, vec_capacity};
+ghost use Rattle.std.specs.List.Sorted.{IsStrictlySortedBy};
+ghost use Rattle.std.specs.Map.{keys_of};
+ghost use Rattle.notify_paths.specs.Path.{path_cmp};
 ghost use Rattle.notify_types.specs.Borrowed.{borrowed};
 ghost use Rattle.notify_types.specs.Event.{first_of};
 ghost use Rattle.front_index.specs.Plan.{IsLent, IsPlan, moves};
@@ -8,6 +11,7 @@ ghost use Rattle.debounce_model.specs.Memory.{skips_it, cancels};
 ghost use Rattle.debounce_model.specs.Queues.{was_created_at, push, removal, waiting_in};
 ghost use Rattle.debounce_model.specs.Rename.{is_both_kind};
 ghost use Rattle.event_queue.specs.Due.{is_due};
+ghost use Rattle.debounce_queues.specs.Removals.{cancelled, replaced};
 ghost use Rattle.joined_rename.specs.Renames.{renamed_by};
 
 use debounce_model::case::first_path;
@@ -17,6 +21,7 @@ use front_index::plan::Plan;
 use front_index::queues::IndexedQueues;
 use joined_rename::join::join;
 use joined_rename::rename::{FirstHalf, Rename};
+use notify_paths::path::PathBuf;
 use notify_types::event::{DebouncedEvent, Event};
 use std::alloc::{AllocError, Allocator, Global};
 use std::marker::Model;
@@ -29,6 +34,32 @@ fn was_created<A: Allocator>(queue: Option<&Queue<A>>) -> bool
         Some(queue) => queue.was_created(),
         None => false,
     }
+}
+
+/// Takes out what waits at the path, and below it. It takes no memory.
+fn cancel<A: Allocator + Copy>(queues: &mut IndexedQueues<A>, path: &PathBuf<A>)
+    ensures { queues.new ≡ cancelled queues.old path.now }
+{
+    queues.drop_below(path);
+    queues.take_out(path);
+}
+
+/// Puts the event alone at its first path, and drops what waits below it. If an allocation fails,
+/// nothing has changed.
+fn replace<A: Allocator + Copy>(
+    queues: &mut IndexedQueues<A>,
+    event: DebouncedEvent<A>,
+) -> Result<(), AllocError>
+    requires path { 0 < length event.event.paths }
+    requires ordered { IsStrictlySortedBy path_cmp (keys_of queues.old) }
+    ensures ok { OnOk result (queues.new ≡ replaced queues.old (first_of event.event.paths) event) }
+    ensures unchanged { OnErr result (queues.new ≡ queues.old) }
+{
+    let folder = first_path(&event).clone()?;
+    // The event is put first, since that alone can fail.
+    queues.put_alone(event)?;
+    queues.drop_below(&folder);
+    Ok(())
 }
 
 /// What waits, by paths: each queue has an event, is kept by its path, and has at most one joined rename,
@@ -83,15 +114,10 @@ impl<A: Allocator + Copy> Queues<A> {
     {
         let path = first_path(&event);
         if was_created(self.queues.by_path().get(path)) {
-            self.queues.drop_below(path);
-            self.queues.take_out(path);
+            cancel(&mut self.queues, path);
             return Ok(());
         }
-        // The event is put first, since that alone can fail.
-        let folder = path.clone()?;
-        self.queues.put_alone(event)?;
-        self.queues.drop_below(&folder);
-        Ok(())
+        replace(&mut self.queues, event)
     }
 
     /// The second half of a rename to the event's first path. If there is a first half, it is what
