@@ -1,5 +1,5 @@
 //! The queue of one path.
-ghost use Rattle.std.specs.Prelude.{◌≡◌, ◌↔◌, ◌++◌, ◌+◌, ◌≤◌, OnOk, OnErr, IfOk, IfErr, IsTrue, false, not, length, vec_len, vec_capacity};
+ghost use Rattle.std.specs.Prelude.{◌≡◌, ◌↔◌, ◌++◌, ◌∷◌, ◌+◌, ◌≤◌, [], OnOk, OnErr, IfOk, IfErr, IsTrue, false, not, length, vec_len, vec_capacity};
 ghost use Rattle.std.specs.Cmp.{partial_equiv_from_equiv};
 ghost use Rattle.notify_paths.specs.Errors.{out_of_memory};
 ghost use Rattle.notify_types.specs.Borrowed.{borrowed};
@@ -39,6 +39,15 @@ impl<A: Allocator> Queue<A> {
         ensures { result ≡ events.items }
     {
         Queue { events }
+    }
+
+    /// Returns a queue of this event alone.
+    pub fn single(alloc: A, event: DebouncedEvent<A>) -> Result<Queue<A>, AllocError>
+        ensures { IfOk result (λ queue. queue ≡ event ∷ []) }
+    {
+        let mut events = Vec::with_capacity(alloc, 1)?;
+        events.push(event)?;
+        Ok(Queue::new(events))
     }
 
     /// Whether the first event is a `Create` or a `Modify(Name(To))`.

@@ -1,5 +1,5 @@
-//! An event is put behind the others of its path, or alone in their place.
-ghost use Rattle.std.specs.Prelude.{◌≡◌, ◌∷◌, ◌<◌, [], IfOk, OnOk, OnErr, false, length};
+//! An event is put after the others of its path.
+ghost use Rattle.std.specs.Prelude.{◌≡◌, ◌<◌, OnOk, OnErr, false, length};
 ghost use Rattle.notify_types.specs.Event.{first_of};
 ghost use Rattle.debounce_model.specs.Memory.{skips_it};
 ghost use Rattle.debounce_model.specs.Queues.{push};
@@ -14,19 +14,7 @@ use notify_paths::path::PathBuf;
 use notify_types::event::DebouncedEvent;
 use std::alloc::{AllocError, Allocator};
 
-/// A queue of this event alone.
-pub(crate) fn single<A: Allocator>(
-    alloc: A,
-    event: DebouncedEvent<A>,
-) -> Result<Queue<A>, AllocError>
-    ensures { IfOk result (λ queue. queue ≡ event ∷ []) }
-{
-    let mut events = Vec::with_capacity(alloc, 1)?;
-    events.push(event)?;
-    Ok(Queue::new(events))
-}
-
-/// Puts the event behind the others of its first path, unless their queue skips it; a path that has no
+/// Puts the event after the others of its first path, unless their queue skips it; a path that has no
 /// queue gets one. It leaves room in `spare` for the path.
 pub(crate) fn push<A: Allocator + Copy>(
     queues: &mut QueueMap<A>,
@@ -50,5 +38,5 @@ pub(crate) fn push<A: Allocator + Copy>(
     let time = event.time();
     spare.reserve(path)?;
     let key = path.clone()?;
-    put_new(queues, fronts, key, time, single(alloc, event)?)
+    put_new(queues, fronts, key, time, Queue::single(alloc, event)?)
 }

@@ -15,7 +15,7 @@ ghost use Rattle.front_index.specs.Steps.{AreFilled};
 use crate::below::{drop_below, remove};
 use crate::fronts::{Fronts, front_of, is_first_due};
 use crate::plan::Plan;
-use crate::push::{push, single};
+use crate::push::push;
 use crate::put::put;
 use crate::put_all::{put_all, take_only};
 use crate::trim::trim;
@@ -121,7 +121,7 @@ impl<A: Allocator + Copy> IndexedQueues<A> {
         ensures unchanged { OnErr result (self.new ≡ self.old) }
     {
         let path = first_path(&event).clone()?;
-        self.put(path, single(self.alloc, event)?)
+        self.put(path, Queue::single(self.alloc, event)?)
     }
 
     /// Puts each of these queues at its path; of two at one path the first stays. If an allocation

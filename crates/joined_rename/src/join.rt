@@ -1,5 +1,5 @@
 //! The joined rename, whole.
-ghost use Rattle.std.specs.Prelude.{◌≡◌, ◌++◌, IfOk, OnErr, OnOk, option_copied};
+ghost use Rattle.std.specs.Prelude.{◌≡◌, ◌∷◌, ◌++◌, [], IfOk, OnErr, OnOk, option_copied};
 ghost use Rattle.std.specs.List.Sorted.{IsStrictlySortedBy};
 ghost use Rattle.std.specs.Map.{keys_of};
 ghost use Rattle.notify_paths.specs.Path.{path_cmp};
@@ -69,12 +69,24 @@ fn puts<A: Allocator + Copy>(
     let source = source_at(queues, from);
     let target = target_at(queues, &source, from, to);
     let began = source.original_time(rename.time);
-    let place = to.clone()?;
     let queue = arrived(alloc, &source, target, rename)?;
-    let mut puts = Vec::with_capacity(alloc, 2)?;
-    puts.push((place, queue))?;
+    let mut puts = put_at(alloc, to, queue)?;
     add_staying(&mut puts, from, source.stays)?;
     add_going_along(&mut puts, queues, from, to, began)?;
+    Ok(puts)
+}
+
+/// A list of this queue alone, at this path.
+fn put_at<A: Allocator + Copy>(
+    alloc: A,
+    path: &PathBuf<A>,
+    queue: Queue<A>,
+) -> Result<Placed<A>, AllocError>
+    ensures { IfOk result (λ puts. puts.items ≡ (path.now, queue) ∷ []) }
+{
+    let place = path.clone()?;
+    let mut puts = Vec::with_capacity(alloc, 1)?;
+    puts.push((place, queue))?;
     Ok(puts)
 }
 
@@ -90,9 +102,8 @@ fn add_staying<A: Allocator + Copy>(
     let Some(event) = stays else {
         return Ok(());
     };
-    let mut events = Vec::with_capacity(*puts.allocator(), 1)?;
-    events.push(event.clone()?)?;
-    puts.push((from.clone()?, Queue::new(events)))?;
+    let queue = Queue::single(*puts.allocator(), event.clone()?)?;
+    puts.push((from.clone()?, queue))?;
     Ok(())
 }
 
