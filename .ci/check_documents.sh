@@ -1,0 +1,79 @@
+#!/usr/bin/env bash
+# check_documents.sh: what the documents name is there, what they quote is the code's and the program's,
+# and the pages that scripts write are what these write. It builds nothing. The last line is 'N passed,
+# M failed'.
+cd "$(dirname "$0")/.." || exit 1
+room=$(mktemp -d) || exit 1
+trap 'rm -rf "$room"' EXIT
+passed=0 failed=0
+
+# check NAME COMMAND..: the command prints nothing. What it prints is what is wrong.
+check() {
+    "${@:2}" >"$room/wrong" 2>&1
+    [ -s "$room/wrong" ] || { passed=$((passed + 1)) && return; }
+    failed=$((failed + 1))
+    echo "FAILED: $1" && sed 's/^/    /' "$room/wrong"
+}
+
+squeezed() { tr -s ' \n' ' ' | sed 's/^ //; s/ $//'; }
+# The files of a clone and their names; all words of what is no page; each file of code as one line.
+find . \( -name out -o -name .git \) -prune -o -type f -print | sed 's,^\./,,' >"$room/files"
+sed 's,.*/,,' "$room/files" | sort -u >"$room/names"
+grep -v '^docs/\|^README' "$room/files" | tr '\n' '\0' | xargs -0 cat "$room/files" | grep -oaE '\w+' | sort -u >"$room/words"
+for file in crates/*/src/*.rt crates/*/data/*.md; do squeezed <"$file"; echo; done >"$room/code"
+
+links() {
+    grep -oE '\]\([^)]*\)' "$1" | sed 's/^](//; s/)$//' | grep -v '^https*:' | sort -u | while read -r link; do
+        [[ $link == '#'* ]] && target=$1 || target=$(dirname "$1")/${link%%#*}
+        [ -f "$target" ] || echo "no file: $link"
+        [[ $link != *'#'* ]] || grep -h '^##* ' "$target" | sed 's/^#* //; s/[^A-Za-z0-9 _-]//g; s/ /-/g' |
+            grep -qixF -- "${link#*#}" || echo "no heading: $link"
+    done
+}
+
+# Paths from the top, also with stars; names of files; names in backticks that have an underscore.
+names() {
+    grep -oE '(crates|docs|scripts|\.ci)/[A-Za-z0-9_.*/-]*[A-Za-z0-9_*]' "$1" | sort -u | while read -r path; do
+        compgen -G "$path" >/dev/null || echo "no file: $path"
+    done
+    grep -oE '\b[A-Za-z_]+\.(rt|antt|edit)\b' "$1" | sort -u | comm -23 - "$room/names"
+    grep -oE '`[a-z0-9]+(_[a-z0-9]+)+`' "$1" | tr -d '`' | sort -u | comm -23 - "$room/words"
+}
+
+# Each block of code, and each script with its output, stands in a crate.
+blocks() {
+    for number in $(seq "$(grep -cE '^```(rust|script)' "$1")"); do
+        block=$(awk -v wanted="$number" '/^```/ { inside = /^```(rust|script)/ && ++seen == wanted; next } inside' "$1" | squeezed)
+        [ -n "$block" ] && grep -qF -- "$block" "$room/code" || echo "block $number stands in no crate"
+    done
+}
+
+# Each crate has its line in ARCHITECTURE.md, each wrong body its row there and in WRONG_BODIES.md.
+rows() {
+    sed -n 's/^\([a-z_0-9]\{1,\}\)[^#]*:.*/\1/p' crates.txt | while read -r crate; do
+        grep -q "^| \`$crate\` |" docs/ARCHITECTURE.md || echo "docs/ARCHITECTURE.md: no line for $crate"
+    done
+    for edit in crates/*/must-fail/*.edit; do
+        grep -LF "\`$(basename "$edit" .edit)\`" docs/ARCHITECTURE.md docs/WRONG_BODIES.md | sed "s,\$,: no row for $edit,"
+    done
+}
+
+# Lengths; the README's script is the one that the gate runs, and prints what stands there.
+facts() {
+    [ "$(wc -w <README.md)" -le 800 ] || echo 'README.md has more than 800 words'
+    [ "$(wc -l <docs/PROOFS.md)" -le 200 ] || echo 'docs/PROOFS.md has more than 200 lines'
+    cmp "$(sed -n 's,^\./mirror \(scripts/.*\),\1,p' README.md | head -n 1)" crates/mirror/data/example
+    for page in README.md docs/TUTORIAL.md; do
+        [[ $(cat $page) == *"$(cat crates/mirror/stdout)"* ]] || echo "$page: the script prints something else"
+    done
+}
+
+for page in README.md docs/*.md; do
+    for kind in links names blocks; do check "$page: $kind" $kind "$page"; done
+done
+check 'what scripts/lemma_map writes' cmp docs/LEMMAS.md <(scripts/lemma_map)
+check 'what scripts/calling writes' cmp docs/CALLING.md <(scripts/calling)
+check 'crates and wrong bodies' rows
+check 'lengths, and the script of the README' facts
+echo "$passed passed, $failed failed"
+[ $failed = 0 ]
