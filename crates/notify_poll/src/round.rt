@@ -1,9 +1,8 @@
 //! One round of polling.
-ghost use Rattle.std.specs.Prelude.{◌≡◌, true, false, IfOk, IfSome};
-ghost use Rattle.notify_poll.specs.Folders.{IsTree, shown};
-ghost use Rattle.notify_paths.specs.Errors.{ErrorValue};
+ghost use Rattle.std.specs.Prelude.{◌≡◌, ◌≤◌, true, false, IfErr, IfOk, IfSome};
+ghost use Rattle.notify_poll.specs.Folders.{IsRefusal, IsTree, shown};
 ghost use Rattle.folder_listing.specs.Changes.{changes};
-ghost use Rattle.notify_poll.specs.Rounds.{HandsEach};
+ghost use Rattle.notify_poll.specs.Rounds.{HandsEach, HandsRefusal};
 
 use crate::folders::Folders;
 use crate::list::list;
@@ -38,7 +37,9 @@ fn look_again<A: Allocator + Copy, D: Folders<A>>(
 ) -> Result<(Listing<A>, Vec<Event<A>, A>), Error<A>>
     ensures shown { IfSome (D.told folders.old) (λ tree. IsTree tree → IfOk result (λ pair. pair.0 ≡ shown tree roots.now)) }
     ensures ok { IfOk result (λ pair. pair.1.items ≡ changes last.now pair.0) }
+    ensures err { IfErr result (λ e. IsRefusal e (D.failed folders.old) (D.failed folders.new)) }
     ensures same { D.told folders.new ≡ D.told folders.old }
+    ensures counted { D.failed folders.old ≤ D.failed folders.new }
 {
     let listing = list(alloc, folders, roots)?;
     let events = compare(alloc, last, &listing)?;
@@ -46,8 +47,8 @@ fn look_again<A: Allocator + Copy, D: Folders<A>>(
 }
 
 /// Lists the roots, reports what changed since the last listing, and keeps the new one. If listing or
-/// comparing is refused, it reports that one error and keeps the last listing. Returns whether neither
-/// was refused.
+/// comparing is refused, it reports that one error and keeps the last listing: the error is `Memory`, or
+/// `Io` if one more failure of the folders was counted. Returns whether neither was refused.
 pub fn poll_round<A: Allocator + Copy, D: Folders<A>, H: EventHandler<Result<Event<A>, Error<A>>>>(
     alloc: A,
     folders: &mut D,
@@ -60,8 +61,10 @@ pub fn poll_round<A: Allocator + Copy, D: Folders<A>, H: EventHandler<Result<Eve
     ensures given { result ≡ true → HandsEach H.handles (changes last.old last.new) handler.old handler.new }
     ensures shown { IfSome (D.told folders.old) (λ tree. IsTree tree → result ≡ true → last.new ≡ shown tree roots.now) }
     ensures unchanged { result ≡ false → last.new ≡ last.old }
-    ensures refused { result ≡ false → ((e : ErrorValue) × H.handles handler.old (Err e) handler.new) }
+    ensures refused { result ≡ false →
+        HandsRefusal H.handles (D.failed folders.old) (D.failed folders.new) handler.old handler.new }
     ensures same { D.told folders.new ≡ D.told folders.old }
+    ensures counted { D.failed folders.old ≤ D.failed folders.new }
 {
     match look_again(alloc, folders, roots, last) {
         Ok((listing, events)) => {
