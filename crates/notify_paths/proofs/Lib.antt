@@ -1,6 +1,5 @@
 pub mod Texts
 pub mod Prefixes
-pub mod Finds
 pub mod Removals
 pub mod Orders
 pub mod Begins

@@ -1,10 +1,7 @@
 //! What lies below a path in a map whose keys are paths. It is one run of keys, right after the path.
-ghost use Rattle.std.specs.Prelude.{◌≡◌, true, length, filter, option_copied, IsTrue};
-ghost use Rattle.std.specs.List.{list_any};
-ghost use Rattle.std.specs.BTreeMap.{get};
-ghost use Rattle.std.specs.Map.{keys_of};
+ghost use Rattle.std.specs.Prelude.{◌≡◌, true, length, filter, IsTrue};
 ghost use Rattle.notify_paths.specs.Below.{without_below, without_at_or_below};
-ghost use Rattle.notify_paths.specs.Path.{is_below, path_cmp};
+ghost use Rattle.notify_paths.specs.Path.{is_below};
 
 use crate::path::PathBuf;
 use std::alloc::Allocator;
@@ -15,46 +12,6 @@ fn is_below<A: Allocator>(path: &PathBuf<A>, base: &PathBuf<A>) -> bool
     ensures { result ≡ is_below path.now base.now }
 {
     path.starts_with(base) && *path != *base
-}
-
-/// What a map has at a path, and below it.
-#[derive(Drop)]
-pub struct Found<'a, V> {
-    /// The value at the path.
-    pub value: Option<&'a V>,
-    /// Whether some key lies strictly below the path.
-    pub has_below: bool,
-}
-
-/// Looks for the path, and for keys strictly below it. It is one search.
-pub fn find<'a, V, A: Allocator>(
-    map: &'a BTreeMap<PathBuf<A>, V, A>,
-    path: &PathBuf<A>,
-) -> Found<'a, V>
-    ensures value { option_copied result.value ≡ get path_cmp map.now path.now }
-    ensures below { result.has_below ≡ list_any (λ k. is_below k path.now) (keys_of map.now.entries) }
-{
-    let mut entries = map.range((Bound::Included(path), Bound::Unbounded));
-    let Some((first, value)) = entries.next() else {
-        return Found {
-            value: None,
-            has_below: false,
-        };
-    };
-    if *first != *path {
-        return Found {
-            value: None,
-            has_below: first.starts_with(path),
-        };
-    }
-    let has_below = match entries.next() {
-        Some((second, _value)) => second.starts_with(path),
-        None => false,
-    };
-    Found {
-        value: Some(value),
-        has_below,
-    }
 }
 
 /// Returns how many keys lie strictly below the path. It looks at these and at one more.
