@@ -217,7 +217,7 @@ impl<A: Allocator> PathBuf<A> {
     /// the allocation fails, it stays as it was.
     pub fn copy_from(&mut self, path: &PathBuf<A>) -> Result<(), AllocError>
         ensures ok { OnOk result (self.new ≡ path.now) }
-        ensures err { OnErr result (self.new ≡ self.old) }
+        ensures unchanged { OnErr result (self.new ≡ self.old) }
     {
         make_room(&mut self.text, path.text.len())?;
         self.text.clear();
@@ -227,7 +227,7 @@ impl<A: Allocator> PathBuf<A> {
     /// Appends the path's text. If the allocation fails, `text` stays as it was.
     pub fn write_text<B: Allocator>(&self, text: &mut String<B>) -> Result<(), AllocError>
         ensures ok { OnOk result (string_bytes text.new ≡ string_bytes text.old ++ text_of self.now) }
-        ensures err { OnErr result (string_bytes text.new ≡ string_bytes text.old) }
+        ensures unchanged { OnErr result (string_bytes text.new ≡ string_bytes text.old) }
     {
         text.push_str(self.as_str())
     }

@@ -90,4 +90,4 @@ returns-in_default-clause-sure g c = λ q.
 
 pub returns-in_default-clause-err : goal.returns-in_default-clause-err
 returns-in_default-clause-err g c =
-    (c.out_of_memory.ensures, rw (c.in_default.ensures.err, c.in_default.ensures.kept) c.self.view_is, refl)
+    (c.out_of_memory.ensures, rw (c.in_default.ensures.unchanged, c.in_default.ensures.kept) c.self.view_is, refl)
