@@ -68,12 +68,20 @@ facts() {
     done
 }
 
+# Columns: proofs have at most 120 and code 100, but for imports, comments and texts.
+widths() {
+    export LC_ALL=C.UTF-8
+    grep '\.antt$' "$room/files" | xargs grep -nE '^.{121}' | grep -vE ':[0-9]+: *(pub )?use1? '
+    grep '^crates/.*\.rt$' "$room/files" | xargs grep -nE '^.{101}' | grep -vE ':[0-9]+: *(//|ghost use |use |#\[tactic|")'
+}
+
 for page in README.md docs/*.md; do
     for kind in links names blocks; do check "$page: $kind" $kind "$page"; done
 done
 check 'what scripts/lemma_map writes' cmp docs/LEMMAS.md <(scripts/lemma_map)
 check 'what scripts/calling writes' cmp docs/CALLING.md <(scripts/calling)
 check 'crates and wrong bodies' rows
+check 'widths of code and proofs' widths
 check 'lengths, and the script of the README' facts
 echo "$passed passed, $failed failed"
 [ $failed = 0 ]

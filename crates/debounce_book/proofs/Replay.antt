@@ -16,7 +16,8 @@ use Rattle.debounce_book.specs.Journal.{EntryValue, Accepts, Replays, IsLegal, I
 use Rattle.debounce_book.specs.Written.{Foretells, IsDraft, IsNoDraft, is_refused, with_answer, entered}
 
 -- an event keeps the timeout
-timeout-event : (s : State) (event : EventValue) (now : ℕ) (exists : Bool) (answer : Option FileId) → (event_step s event now exists answer).timeout ≡ s.timeout
+timeout-event : (s : State) (event : EventValue) (now : ℕ) (exists : Bool) (answer : Option FileId) →
+    (event_step s event now exists answer).timeout ≡ s.timeout
 timeout-event s event now exists answer = by (case_of event exists)
   where
     by : (case : Case) → (taken_as case s (raised_event s event now) answer).timeout ≡ s.timeout
@@ -30,7 +31,8 @@ timeout-event s event now exists answer = by (case_of event exists)
 
 -- an accepted command keeps the timeout
 timeout-accepts : (s t : State) (c : CommandValue) (y : ReplyValue) → Accepts s c y t → t.timeout ≡ s.timeout
-timeout-accepts s t (EventCommand event now exists) (TakenReply answer) h = ap (λ (k : State). k.timeout) h.1 ∙ timeout-event s event now exists answer
+timeout-accepts s t (EventCommand event now exists) (TakenReply answer) h = ap (λ (k : State). k.timeout) h.1
+    ∙ timeout-event s event now exists answer
 timeout-accepts s t (ErrorCommand error) NotedReply h = ap (λ (k : State). k.timeout) h
 timeout-accepts s t (RootCommand path mode) RootedReply h = ap (λ (k : State). k.timeout) h
 timeout-accepts s t (UnrootCommand path) UnrootedReply h = ap (λ (k : State). k.timeout) h
@@ -39,22 +41,27 @@ timeout-accepts s t (TickCommand now) (BatchReply batch) h = ap (λ (k : State).
 timeout-accepts s t c y h = absurd h
 
 -- a journal goes on by one accepted command
-Replays-append : (es : List EntryValue) (s m t : State) (e : EntryValue) → Replays s es m → Accepts m e.command e.reply t → Replays s (es ++ e ∷ []) t
+Replays-append : (es : List EntryValue) (s m t : State) (e : EntryValue) → Replays s es m →
+    Accepts m e.command e.reply t → Replays s (es ++ e ∷ []) t
 Replays-append [] s m t e h a = (t, rw h at a, refl)
 Replays-append (x ∷ es) s m t e (k, first, more) a = (k, first, Replays-append es k m t e more a)
 
 -- .. and stays legal
-pub IsLegal-append : (es : List EntryValue) (s t : State) (e : EntryValue) → IsLegal es s → Accepts s e.command e.reply t → IsLegal (es ++ e ∷ []) t
+pub IsLegal-append : (es : List EntryValue) (s t : State) (e : EntryValue) → IsLegal es s →
+    Accepts s e.command e.reply t → IsLegal (es ++ e ∷ []) t
 IsLegal-append es s t e h a =
-    subst (λ (n : ℕ). Replays (empty_state n) (es ++ e ∷ []) t) (sym (timeout-accepts s t e.command e.reply a)) (Replays-append es _ s t e h a)
+    subst (λ (n : ℕ). Replays (empty_state n) (es ++ e ∷ []) t) (sym (timeout-accepts s t e.command e.reply a))
+    (Replays-append es _ s t e h a)
 
 -- the journal after an accepted command
-entered-accepted : (es : List EntryValue) (d : EntryValue) (y : ReplyValue) → is_refused y ≡ false → entered es d y ≡ es ++ record d { reply = with_answer d.reply y } ∷ []
+entered-accepted : (es : List EntryValue) (d : EntryValue) (y : ReplyValue) → is_refused y ≡ false →
+    entered es d y ≡ es ++ record d { reply = with_answer d.reply y } ∷ []
 entered-accepted es d y n = rw n refl
 
 module _ {C : Type 0} where
   -- a command that a core refuses leaves its state
-  pub state-refused : (r : Rules C) (s t : Core C) (c : CommandValue) (error : ErrorValue) → Step r s c (RefusedReply error) t → t.state ≡ s.state
+  pub state-refused : (r : Rules C) (s t : Core C) (c : CommandValue) (error : ErrorValue) →
+      Step r s c (RefusedReply error) t → t.state ≡ s.state
   state-refused r s t (EventCommand event now exists) error h = by error.kind h.1
     where
       by : (kind : ErrorKindValue) → IsRefusedFor r s event exists kind t → t.state ≡ s.state
@@ -68,8 +75,10 @@ module _ {C : Type 0} where
   state-refused r s t (TickCommand now) error h = ap (λ (x : Core C). x.state) h.2
 
   -- a command that a core accepts is accepted by its state
-  pub Accepts-step : (r : Rules C) (s t : Core C) (c : CommandValue) (y : ReplyValue) → is_refused y ≡ false → Step r s c y t → Accepts s.state c y t.state
-  Accepts-step r s t (EventCommand event now exists) (TakenReply answer) n (taken, is) = (taken.room, rw is taken.state)
+  pub Accepts-step : (r : Rules C) (s t : Core C) (c : CommandValue) (y : ReplyValue) → is_refused y ≡ false →
+      Step r s c y t → Accepts s.state c y t.state
+  Accepts-step r s t (EventCommand event now exists) (TakenReply answer) n (taken, is) =
+      (taken.room, rw is taken.state)
   Accepts-step r s t (ErrorCommand e) NotedReply n h = ap (λ (x : Core C). x.state) h
   Accepts-step r s t (RootCommand path mode) RootedReply n h = ap (λ (x : Core C). x.state) h.0
   Accepts-step r s t (UnrootCommand path) UnrootedReply n h = ap (λ (x : Core C). x.state) h.0
@@ -79,7 +88,8 @@ module _ {C : Type 0} where
   Accepts-step r s t c y n h = absurd h
 
   -- the reply that was foretold is the one that came, but for the cache's answer
-  reply_foretold : (r : Rules C) (s t : Core C) (c : CommandValue) (y told : ReplyValue) → is_refused y ≡ false → Step r s c y t → Foretells s.state c told → with_answer told y ≡ y
+  reply_foretold : (r : Rules C) (s t : Core C) (c : CommandValue) (y told : ReplyValue) →
+      is_refused y ≡ false → Step r s c y t → Foretells s.state c told → with_answer told y ≡ y
   reply_foretold r s t (EventCommand event now exists) (TakenReply answer) told n h f = refl
   reply_foretold r s t (ErrorCommand e) NotedReply NotedReply n h f = refl
   reply_foretold r s t (ErrorCommand e) NotedReply told n h f = absurd f
@@ -87,46 +97,76 @@ module _ {C : Type 0} where
   reply_foretold r s t (RootCommand path mode) RootedReply told n h f = absurd f
   reply_foretold r s t (UnrootCommand path) UnrootedReply UnrootedReply n h f = refl
   reply_foretold r s t (UnrootCommand path) UnrootedReply told n h f = absurd f
-  reply_foretold r s t ErrorsCommand (ErrorsReply errors) (ErrorsReply told) n h f = ap ErrorsReply (f ∙ sym h.0)
+  reply_foretold r s t ErrorsCommand (ErrorsReply errors) (ErrorsReply told) n h f =
+      ap ErrorsReply (f ∙ sym h.0)
   reply_foretold r s t ErrorsCommand (ErrorsReply errors) told n h f = absurd f
-  reply_foretold r s t (TickCommand now) (BatchReply batch) (BatchReply told) n h f = ap BatchReply (sym (f batch h.0))
+  reply_foretold r s t (TickCommand now) (BatchReply batch) (BatchReply told) n h f =
+      ap BatchReply (sym (f batch h.0))
   reply_foretold r s t (TickCommand now) (BatchReply batch) told n h f = absurd f
   reply_foretold r s t c (RefusedReply error) told n h f = cc
   reply_foretold r s t c y told n h f = absurd h
 
   -- a draft with the cache's answer is the command's entry
-  entry_drafted : (r : Rules C) (s t : Core C) (from : ℕ) (c : CommandValue) (y : ReplyValue) (d : EntryValue) → is_refused y ≡ false → IsDraft s.state from c d → Step r s c y t → record d { reply = with_answer d.reply y } ≡ entry_of from c y
+  entry_drafted : (r : Rules C) (s t : Core C) (from : ℕ) (c : CommandValue) (y : ReplyValue) (d : EntryValue) →
+      is_refused y ≡ false → IsDraft s.state from c d → Step r s c y t →
+      record d { reply = with_answer d.reply y } ≡ entry_of from c y
   entry_drafted r s t from c y d n draft step =
       let reply : with_answer d.reply y ≡ y = reply_foretold r s t c y d.reply n step draft.foretold in
       λ i. record { from = draft.numbered i; command = draft.copied i; reply = reply i }
 
   -- a command that is accepted is done
-  IsDone-entered : (r : Rules C) (s t : Core C) (es : List EntryValue) (from : ℕ) (c : CommandValue) (y : ReplyValue) (d : EntryValue) → is_refused y ≡ false → IsDraft s.state from c d → Step r s c y t → IsDone r (record { core = s; journal = Some es }) from c y (record { core = t; journal = Some (entered es d y) })
-  IsDone-entered r s t es from c y d n draft step =
-      (step, ap Some (entered-accepted es d y n ∙ ap (λ (e : EntryValue). es ++ e ∷ []) (entry_drafted r s t from c y d n draft step)))
+  IsDone-entered : (r : Rules C) (s t : Core C) (es : List EntryValue) (from : ℕ) (c : CommandValue)
+      (y : ReplyValue) (d : EntryValue) → is_refused y ≡ false → IsDraft s.state from c d → Step r s c y t →
+      IsDone r (record { core = s; journal = Some es }) from c y (record {
+        core = t;
+        journal =
+            Some (entered es d y);
+      })
+  IsDone-entered r s t es from c y d n draft step = (
+    step,
+    ap Some (entered-accepted es d y n
+        ∙ ap (λ (e : EntryValue). es ++ e ∷ []) (entry_drafted r s t from c y d n draft step)),
+  )
 
   -- a command of which there is a draft steps
-  pub Steps-entered : (r : Rules C) (s t : Core C) (es : List EntryValue) (from : ℕ) (c : CommandValue) (y : ReplyValue) (d : EntryValue) → IsDraft s.state from c d → Step r s c y t → Steps r (record { core = s; journal = Some es }) from c y (record { core = t; journal = Some (entered es d y) })
+  pub Steps-entered : (r : Rules C) (s t : Core C) (es : List EntryValue) (from : ℕ) (c : CommandValue)
+      (y : ReplyValue) (d : EntryValue) → IsDraft s.state from c d → Step r s c y t →
+      Steps r (record { core = s; journal = Some es }) from c y (record {
+        core = t;
+        journal =
+            Some (entered es d y);
+      })
   Steps-entered r s t es from c (RefusedReply error) d draft step = inl (step, refl)
-  Steps-entered r s t es from c (TakenReply answer) d draft step = IsDone-entered r s t es from c (TakenReply answer) d refl draft step
-  Steps-entered r s t es from c NotedReply d draft step = IsDone-entered r s t es from c NotedReply d refl draft step
-  Steps-entered r s t es from c RootedReply d draft step = IsDone-entered r s t es from c RootedReply d refl draft step
-  Steps-entered r s t es from c UnrootedReply d draft step = IsDone-entered r s t es from c UnrootedReply d refl draft step
-  Steps-entered r s t es from c (ErrorsReply errors) d draft step = IsDone-entered r s t es from c (ErrorsReply errors) d refl draft step
-  Steps-entered r s t es from c (BatchReply batch) d draft step = IsDone-entered r s t es from c (BatchReply batch) d refl draft step
+  Steps-entered r s t es from c (TakenReply answer) d draft step =
+      IsDone-entered r s t es from c (TakenReply answer) d refl draft step
+  Steps-entered r s t es from c NotedReply d draft step =
+      IsDone-entered r s t es from c NotedReply d refl draft step
+  Steps-entered r s t es from c RootedReply d draft step =
+      IsDone-entered r s t es from c RootedReply d refl draft step
+  Steps-entered r s t es from c UnrootedReply d draft step =
+      IsDone-entered r s t es from c UnrootedReply d refl draft step
+  Steps-entered r s t es from c (ErrorsReply errors) d draft step =
+      IsDone-entered r s t es from c (ErrorsReply errors) d refl draft step
+  Steps-entered r s t es from c (BatchReply batch) d draft step =
+      IsDone-entered r s t es from c (BatchReply batch) d refl draft step
 
   -- .. and its journal stays legal
-  pub IsLegal-entered : (r : Rules C) (s t : Core C) (es : List EntryValue) (from : ℕ) (c : CommandValue) (y : ReplyValue) (d : EntryValue) → IsDraft s.state from c d → IsLegal es s.state → Step r s c y t → IsLegal (entered es d y) t.state
+  pub IsLegal-entered : (r : Rules C) (s t : Core C) (es : List EntryValue) (from : ℕ) (c : CommandValue)
+      (y : ReplyValue) (d : EntryValue) → IsDraft s.state from c d → IsLegal es s.state → Step r s c y t →
+      IsLegal (entered es d y) t.state
   IsLegal-entered r s t es from c y d draft legal step = by (is_refused y) refl
     where
       accepted : is_refused y ≡ false → IsLegal (entered es d y) t.state
       accepted n =
           let entry = entry_drafted r s t from c y d n draft step in
-          let after : IsLegal (es ++ entry_of from c y ∷ []) t.state = IsLegal-append es s.state t.state (entry_of from c y) legal (Accepts-step r s t c y n step) in
-          subst (λ (k : List EntryValue). IsLegal k t.state) (sym (entered-accepted es d y n ∙ ap (λ (e : EntryValue). es ++ e ∷ []) entry)) after
+          let after : IsLegal (es ++ entry_of from c y ∷ []) t.state =
+          IsLegal-append es s.state t.state (entry_of from c y) legal (Accepts-step r s t c y n step) in
+          subst (λ (k : List EntryValue). IsLegal k t.state) (sym (entered-accepted es d y n
+          ∙ ap (λ (e : EntryValue). es ++ e ∷ []) entry)) after
 
       refused : (z : ReplyValue) → is_refused z ≡ true → Step r s c z t → IsLegal (entered es d z) t.state
-      refused (RefusedReply error) n h = subst (λ (k : State). IsLegal es k) (sym (state-refused r s t c error h)) legal
+      refused (RefusedReply error) n h =
+          subst (λ (k : State). IsLegal es k) (sym (state-refused r s t c error h)) legal
       refused z n h = cc
 
       by : (b : Bool) → is_refused y ≡ b → IsLegal (entered es d y) t.state
@@ -134,7 +174,9 @@ module _ {C : Type 0} where
       by false n = accepted n
 
   -- a command without a draft is not done
-  pub IsNotDone-draft : (r : Rules C) (s : Core C) (es : List EntryValue) (c : CommandValue) (error : ErrorValue) → IsNoDraft s.state c error → IsNotDone r (record { core = s; journal = Some es }) c error (record { core = s; journal = Some es })
+  pub IsNotDone-draft : (r : Rules C) (s : Core C) (es : List EntryValue) (c : CommandValue)
+      (error : ErrorValue) → IsNoDraft s.state c error →
+      IsNotDone r (record { core = s; journal = Some es }) c error (record { core = s; journal = Some es })
   IsNotDone-draft r s es c error (inl (is, at)) = inl (rw is (by c at), refl)
     where
       by : (k : CommandValue) → IsFull s.state k → Step r s k (RefusedReply full) s
@@ -143,9 +185,13 @@ module _ {C : Type 0} where
   IsNotDone-draft r s es c error (inr (is, below)) = inr (is, (λ none. cc), below, refl)
 
   -- what is fed and not refused is done, and the reply has the cache's answer
-  pub fed_done : {T E : Type 0} (r : Rules C) (old new : Kept C) (item : Result EventValue ErrorValue) (now : ℕ) (exists : Bool) (y : ReplyValue) (res : Result T E) → Steps r old 0 (fed_command item now exists) y new → OnOk res (is_refused y ≡ false) → OnOk res (IsDone r old 0 (fed_command item now exists) (fed_reply item new.core.answer) new)
+  pub fed_done : {T E : Type 0} (r : Rules C) (old new : Kept C) (item : Result EventValue ErrorValue) (now : ℕ)
+      (exists : Bool) (y : ReplyValue) (res : Result T E) → Steps r old 0 (fed_command item now exists) y new →
+      OnOk res (is_refused y ≡ false) →
+      OnOk res (IsDone r old 0 (fed_command item now exists) (fed_reply item new.core.answer) new)
   fed_done r old new item now exists y (Err e) s n = tt
-  fed_done r old new (Ok event) now exists (TakenReply answer) (Ok x) s n = subst (λ (a : Option FileId). IsDone r old 0 (EventCommand event now exists) (TakenReply a) new) s.0.1 s
+  fed_done r old new (Ok event) now exists (TakenReply answer) (Ok x) s n =
+      subst (λ (a : Option FileId). IsDone r old 0 (EventCommand event now exists) (TakenReply a) new) s.0.1 s
   fed_done r old new (Ok event) now exists (RefusedReply error) (Ok x) s n = cc
   fed_done r old new (Ok event) now exists y (Ok x) s n = absurd s.0
   fed_done r old new (Err error) now exists NotedReply (Ok x) s n = s
@@ -153,7 +199,9 @@ module _ {C : Type 0} where
   fed_done r old new (Err error) now exists y (Ok x) s n = absurd s.0
 
   -- .. and what is refused is not done
-  pub fed_not_done : {T : Type 0} (r : Rules C) (old new : Kept C) (c : CommandValue) (y : ReplyValue) (res : Result T ErrorValue) → Steps r old 0 c y new → IfErr res (λ e. y ≡ RefusedReply e) → IfErr res (λ e. IsNotDone r old c e new)
+  pub fed_not_done : {T : Type 0} (r : Rules C) (old new : Kept C) (c : CommandValue) (y : ReplyValue)
+      (res : Result T ErrorValue) → Steps r old 0 c y new → IfErr res (λ e. y ≡ RefusedReply e) →
+      IfErr res (λ e. IsNotDone r old c e new)
   fed_not_done r old new c y (Ok x) s h = tt
   fed_not_done r old new c y (Err e) s h = rw h at s
 
@@ -162,5 +210,6 @@ pub IsJournal-empty : (timeout : ℕ) → IsJournal timeout []
 IsJournal-empty timeout = (empty_state timeout, refl, refl)
 
 -- the journal of a book is one
-pub IsJournal-kept : (timeout : ℕ) (es : List EntryValue) (s : State) → IsLegal es s → timeout ≡ s.timeout → IsJournal timeout es
+pub IsJournal-kept : (timeout : ℕ) (es : List EntryValue) (s : State) → IsLegal es s → timeout ≡ s.timeout →
+    IsJournal timeout es
 IsJournal-kept timeout es s legal is = (s, sym is, legal)

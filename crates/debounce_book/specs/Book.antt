@@ -37,7 +37,8 @@ module _ {C : Type 0} where
   -- the command was accepted with this reply: the debouncer made a step, and its entry is the journal's last
   abbrev pub IsDone : Rules C → Kept C → ℕ → CommandValue → ReplyValue → Kept C → Type 0
   IsDone r old from command reply new =
-      Step r old.core command reply new.core × (new.journal ≡ with_entry old.journal (entry_of from command reply))
+      Step r old.core command reply new.core
+      × (new.journal ≡ with_entry old.journal (entry_of from command reply))
 
   -- there was no memory for the entry of a command, and nothing has changed. An event at the limit isn't refused so
   abbrev pub IsUnwritten : Kept C → CommandValue → ErrorValue → Kept C → Type 0
@@ -48,7 +49,8 @@ module _ {C : Type 0} where
   -- as it was
   abbrev pub IsNotDone : Rules C → Kept C → CommandValue → ErrorValue → Kept C → Type 0
   IsNotDone r old command error new =
-      (Step r old.core command (RefusedReply error) new.core × (new.journal ≡ old.journal)) ⊎ IsUnwritten old command error new
+      (Step r old.core command (RefusedReply error) new.core × (new.journal ≡ old.journal)) ⊎ IsUnwritten old
+      command error new
 
   -- the command had this reply: it was accepted, or refused
   abbrev pub Steps : Rules C → Kept C → ℕ → CommandValue → ReplyValue → Kept C → Type 0
@@ -63,11 +65,14 @@ module _ {C : Type 0} where
   -- the errors are emitted; or there was no memory for their entry, none is emitted, and they are kept
   abbrev pub GivesErrors : Rules C → Kept C → List ErrorValue → Kept C → Type 0
   GivesErrors r old errors new =
-      IsDone r old 0 ErrorsCommand (ErrorsReply errors) new ⊎ ((errors ≡ []) × IsUnwritten old ErrorsCommand out_of_memory new)
+      IsDone r old 0 ErrorsCommand (ErrorsReply errors) new ⊎ ((errors ≡ [])
+      × IsUnwritten old ErrorsCommand out_of_memory new)
 
   -- a tick, and then the errors
-  abbrev pub TicksBoth : {A : Type 0} → Rules C → Kept C → ℕ → Result (Vec Timed A) ErrorValue → List ErrorValue → Kept C → Type 0
-  TicksBoth r old now batch errors new = (mid : Kept C) × Ticks r old now batch mid × GivesErrors r mid errors new
+  abbrev pub TicksBoth : {A : Type 0} → Rules C → Kept C → ℕ → Result (Vec Timed A) ErrorValue →
+      List ErrorValue → Kept C → Type 0
+  TicksBoth r old now batch errors new = (mid : Kept C) × Ticks r old now batch mid
+      × GivesErrors r mid errors new
 
 -- what is fed is an event, or an error of the watcher
 abbrev pub fed_command : Result EventValue ErrorValue → ℕ → Bool → CommandValue

@@ -13,7 +13,8 @@ entry_eq_decides a b =
     let from = unsigned_Decides a.from b.from in
     let command = command_eq_decides a.command b.command in
     let reply = reply_eq_decides a.reply b.reply in
-    Decides-like _ (λ p i. record { from = p.0.0 i; command = p.0.1 i; reply = p.1 i }) (λ e. ((cc, cc), cc)) (Decides-and _ _ (Decides-and _ _ from command) reply)
+    Decides-like _ (λ p i. record { from = p.0.0 i; command = p.0.1 i; reply = p.1 i }) (λ e. ((cc, cc), cc))
+    (Decides-and _ _ (Decides-and _ _ from command) reply)
 
 -- equality of entries is an equivalence
 pub entry_eq_equiv : IsEquivalence entry_eq

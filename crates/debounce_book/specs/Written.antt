@@ -26,7 +26,8 @@ pub record IsDraft (s : State) (from : ℕ) (command : CommandValue) (entry : En
 
 -- why there is no draft
 abbrev pub IsNoDraft : State → CommandValue → ErrorValue → Type 0
-IsNoDraft s command error = ((error ≡ full) × IsFull s command) ⊎ ((error ≡ out_of_memory) × (IsFull s command → ⊥))
+IsNoDraft s command error =
+    ((error ≡ full) × IsFull s command) ⊎ ((error ≡ out_of_memory) × (IsFull s command → ⊥))
 
 -- the command was refused
 abbrev pub is_refused : ReplyValue → Bool

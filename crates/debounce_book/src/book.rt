@@ -45,7 +45,8 @@ impl<C, A: Allocator + Copy> Book<C, A> {
     /// Returns a debouncer that waits for nothing, and keeps no journal. An event is emitted once
     /// it is as old as the timeout, in nanoseconds.
     pub fn new(alloc: A, cache: C, timeout: Moment) -> Book<C, A>
-        ensures core { result.core ≡ record { state = empty_state timeout; cache = cache; answer = None; visited = 0 } }
+        ensures core { result.core
+            ≡ record { state = empty_state timeout; cache = cache; answer = None; visited = 0 } }
         ensures journal { result.journal ≡ None }
     {
         Book {
@@ -58,7 +59,8 @@ impl<C, A: Allocator + Copy> Book<C, A> {
     /// Returns a debouncer that waits for nothing, and keeps a journal, which is empty. An event is
     /// emitted once it is as old as the timeout, in nanoseconds.
     pub fn journaled(alloc: A, cache: C, timeout: Moment) -> Book<C, A>
-        ensures core { result.core ≡ record { state = empty_state timeout; cache = cache; answer = None; visited = 0 } }
+        ensures core { result.core
+            ≡ record { state = empty_state timeout; cache = cache; answer = None; visited = 0 } }
         ensures journal { result.journal ≡ Some [] }
     {
         Book {
@@ -89,7 +91,8 @@ impl<C, A: Allocator + Copy> Book<C, A> {
         C: FileIdCache<A>,
         requires { self.old.journal ≡ None }
         ensures ok { OnOk result (IsRooted C.rules self.old.core path.now mode self.new.core) }
-        ensures err { IfErr result (λ e. IsRootRefused C.rules self.old.core path.now mode e self.new.core) }
+        ensures err { IfErr result (λ e.
+            IsRootRefused C.rules self.old.core path.now mode e self.new.core) }
         ensures journal { self.new.journal ≡ None }
     {
         self.core.add_root(path, mode)
@@ -101,7 +104,8 @@ impl<C, A: Allocator + Copy> Book<C, A> {
         C: FileIdCache<A>,
         requires { self.old.journal ≡ None }
         ensures ok { OnOk result (IsUnrooted C.rules self.old.core path.now self.new.core) }
-        ensures err { IfErr result (λ e. IsUnrootRefused C.rules self.old.core path.now e self.new.core) }
+        ensures err { IfErr result (λ e.
+            IsUnrootRefused C.rules self.old.core path.now e self.new.core) }
         ensures journal { self.new.journal ≡ None }
     {
         self.core.remove_root(path)
@@ -109,7 +113,8 @@ impl<C, A: Allocator + Copy> Book<C, A> {
 
     /// Returns the timeout, and a copy of the journal: an empty list if none is kept.
     pub fn journal(&self) -> Result<(Moment, Vec<Entry<A>, A>), Error<A>>
-        ensures ok { IfOk result (λ r. (r.0 ≡ self.now.core.state.timeout) × (r.1.items ≡ unwrap_or self.now.journal [])) }
+        ensures ok { IfOk result (λ r. (r.0 ≡ self.now.core.state.timeout)
+            × (r.1.items ≡ unwrap_or self.now.journal [])) }
         ensures legal { IfOk result (λ r. IsJournal r.0 r.1.items) }
         ensures err { IfErr result (λ e. e ≡ out_of_memory) }
     {

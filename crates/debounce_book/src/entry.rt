@@ -25,7 +25,11 @@ impl<A: Allocator> Model for Entry<A> {
 
     ghost Value = { EntryValue };
 
-    ghost view = { λ a. record { from = a.from; command = command_value a.command; reply = reply_value a.reply } };
+    ghost view = { λ a. record {
+      from = a.from;
+      command = command_value a.command;
+      reply = reply_value a.reply;
+    } };
 }
 
 impl<A: Allocator + Copy> Entry<A> {

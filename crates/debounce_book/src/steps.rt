@@ -43,8 +43,10 @@ pub fn feed_step<C: FileIdCache<A>, A: Allocator + Copy>(
     now: Moment,
     exists: bool,
 ) -> Result<(), Error<A>>
-    ensures ok { OnOk result (IsDone C.rules book.old 0 (fed_command item now exists) (fed_reply item book.new.core.answer) book.new) }
-    ensures err { IfErr result (λ e. IsNotDone C.rules book.old (fed_command item now exists) e book.new) }
+    ensures ok { OnOk result (IsDone C.rules book.old 0 (fed_command item now exists)
+        (fed_reply item book.new.core.answer) book.new) }
+    ensures err { IfErr result (λ e.
+        IsNotDone C.rules book.old (fed_command item now exists) e book.new) }
 {
     let command = match item {
         Ok(event) => Command::Event(event, now, exists),
@@ -97,8 +99,10 @@ pub fn root_step<C: FileIdCache<A>, A: Allocator + Copy>(
     path: &PathBuf<A>,
     mode: RecursiveMode,
 ) -> Result<(), Error<A>>
-    ensures ok { OnOk result (IsDone C.rules book.old 0 (RootCommand path.now mode) RootedReply book.new) }
-    ensures err { IfErr result (λ e. IsNotDone C.rules book.old (RootCommand path.now mode) e book.new) }
+    ensures ok { OnOk result
+        (IsDone C.rules book.old 0 (RootCommand path.now mode) RootedReply book.new) }
+    ensures err { IfErr result (λ e.
+        IsNotDone C.rules book.old (RootCommand path.now mode) e book.new) }
     ensures memory { IfErr result (λ e. e ≡ out_of_memory) }
 {
     if !book.is_journaled() {
@@ -114,8 +118,10 @@ pub fn unroot_step<C: FileIdCache<A>, A: Allocator + Copy>(
     book: &mut Book<C, A>,
     path: &PathBuf<A>,
 ) -> Result<(), Error<A>>
-    ensures ok { OnOk result (IsDone C.rules book.old 0 (UnrootCommand path.now) UnrootedReply book.new) }
-    ensures err { IfErr result (λ e. IsNotDone C.rules book.old (UnrootCommand path.now) e book.new) }
+    ensures ok { OnOk result
+        (IsDone C.rules book.old 0 (UnrootCommand path.now) UnrootedReply book.new) }
+    ensures err { IfErr result (λ e.
+        IsNotDone C.rules book.old (UnrootCommand path.now) e book.new) }
     ensures memory { IfErr result (λ e. e ≡ out_of_memory) }
 {
     if !book.is_journaled() {

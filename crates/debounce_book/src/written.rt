@@ -25,7 +25,8 @@ fn foretold<C, A: Allocator + Copy>(
     core: &DebounceDataInner<C, A>,
     command: &Command<A>,
 ) -> Result<Reply<A>, Error<A>>
-    ensures ok { IfOk result (λ reply. Foretells core.now.state (command_value command.now) (reply_value reply)) }
+    ensures ok { IfOk result (λ reply. Foretells core.now.state (command_value command.now)
+        (reply_value reply)) }
     ensures err { IfErr result (λ e. e ≡ out_of_memory) }
 {
     match command {
@@ -50,7 +51,8 @@ pub(crate) fn draft<C, A: Allocator + Copy>(
     from: usize,
     command: &Command<A>,
 ) -> Result<Entry<A>, Error<A>>
-    ensures ok { IfOk result (λ entry. IsDraft core.now.state from (command_value command.now) entry) }
+    ensures ok { IfOk result (λ entry.
+        IsDraft core.now.state from (command_value command.now) entry) }
     ensures room { OnOk result (vec_len journal.new + 1 ≤ vec_capacity journal.new) }
     ensures same { journal.new.items ≡ journal.old.items }
     ensures err { IfErr result (λ e. IsNoDraft core.now.state (command_value command.now) e) }

@@ -19,12 +19,14 @@ HandsList (x ∷ xs) before once after = once after
 
 -- the handler was called once with the batch if there is one and it isn't empty, and else not
 abbrev pub HandsBatch : {H A : Type 0} → (H → Outcome A → H → Type 0) → TickResult A → H → H → Type 0
-HandsBatch handles (Ok batch) before after = HandsList batch.items before (λ h. handles before (Ok batch) h) after
+HandsBatch handles (Ok batch) before after =
+    HandsList batch.items before (λ h. handles before (Ok batch) h) after
 HandsBatch handles (Err refusal) before after = after ≡ before
 
 -- the handler was called once with the errors if there are any, and else not
 abbrev pub HandsErrors : {H A : Type 0} → (H → Outcome A → H → Type 0) → Vec ErrorValue A → H → H → Type 0
-HandsErrors handles errors before after = HandsList errors.items before (λ h. handles before (Err errors) h) after
+HandsErrors handles errors before after =
+    HandsList errors.items before (λ h. handles before (Err errors) h) after
 
 -- why there is no batch, if there is none
 abbrev pub refusal_of : {A : Type 0} → TickResult A → Result (Unit {0}) ErrorValue
@@ -33,7 +35,8 @@ refusal_of (Err refusal) = Err refusal
 
 -- one tick, then the handler with the batch, then with the errors; the answer is why there is no batch, if there is
 -- none
-abbrev pub Turns : {G H A : Type 0} → (G → ℕ → TickResult A → Vec ErrorValue A → G → Type 0) → (H → Outcome A → H → Type 0)
+abbrev pub Turns : {G H A : Type 0} → (G → ℕ → TickResult A → Vec ErrorValue A → G → Type 0) →
+    (H → Outcome A → H → Type 0)
     → G → ℕ → H → G → H → Result (Unit {0}) ErrorValue → Type 0
 Turns {G} {H} {A} ticks handles gate now handler gate' handler' answer =
     (batch : TickResult A) × (errors : Vec ErrorValue A) × (between : H) × ticks gate now batch errors gate'

@@ -7,12 +7,14 @@ use Rattle.debounce_model.specs.Order.{InBatchOrder, placed}
 use Rattle.debounce_model.proofs.OrderLemmas.{events-placed}
 
 -- a test of images
-any-map : {X Y : Type 0} (f : Y → Bool) (g : X → Y) (xs : List X) → list_any f (map g xs) ≡ list_any (λ x. f (g x)) xs
+any-map : {X Y : Type 0} (f : Y → Bool) (g : X → Y) (xs : List X) → list_any f (map g xs)
+    ≡ list_any (λ x. f (g x)) xs
 any-map f g [] = refl
 any-map f g (x ∷ xs) = ap (λ b. f (g x) || b) (any-map f g xs)
 
 -- a batch passes a test where its place list does
-pub any-batch : (f : Timed → Bool) (xs batch : List Timed) → InBatchOrder xs batch → list_any f xs ≡ list_any f batch
+pub any-batch : (f : Timed → Bool) (xs batch : List Timed) → InBatchOrder xs batch →
+    list_any f xs ≡ list_any f batch
 any-batch f xs batch o =
     ap (list_any f) (sym (events-placed [] xs))
     ∙ any-map f (λ k. k.event) (placed [] xs)

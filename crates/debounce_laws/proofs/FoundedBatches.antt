@@ -25,20 +25,24 @@ module _ (P : Timed → Type 0) where
   each-append (x ∷ xs) ys a b = (a.0, each-append xs ys a.1 b)
 
   -- .. of the beginning that is due
-  each-beginning : (due : Timed → Bool) (xs : List Timed) → AllByRecursion P xs → AllByRecursion P (expired_beginning due xs)
+  each-beginning : (due : Timed → Bool) (xs : List Timed) → AllByRecursion P xs →
+      AllByRecursion P (expired_beginning due xs)
   each-beginning due [] a = tt
   each-beginning due (x ∷ xs) a = by (due x) (each-beginning due xs a.1)
     where
-      by : (b : Bool) → AllByRecursion P (expired_beginning due xs) → AllByRecursion P (cond b (x ∷ expired_beginning due xs) [])
+      by : (b : Bool) → AllByRecursion P (expired_beginning due xs) →
+          AllByRecursion P (cond b (x ∷ expired_beginning due xs) [])
       by true h = (a.0, h)
       by false h = tt
 
   -- .. of the last of each kind
   each-last_of_kind : (xs : List Timed) → AllByRecursion P xs → AllByRecursion P (last_of_kind xs)
   each-last_of_kind [] a = tt
-  each-last_of_kind (x ∷ xs) a = by (list_any (λ y. kind_eq x.event.kind y.event.kind) xs) (each-last_of_kind xs a.1)
+  each-last_of_kind (x ∷ xs) a =
+      by (list_any (λ y. kind_eq x.event.kind y.event.kind) xs) (each-last_of_kind xs a.1)
     where
-      by : (b : Bool) → AllByRecursion P (last_of_kind xs) → AllByRecursion P (cond b (last_of_kind xs) (x ∷ last_of_kind xs))
+      by : (b : Bool) → AllByRecursion P (last_of_kind xs) →
+          AllByRecursion P (cond b (last_of_kind xs) (x ∷ last_of_kind xs))
       by true h = h
       by false h = (a.0, h)
 
@@ -46,7 +50,9 @@ module _ (P : Timed → Type 0) where
   each-batch : (xs batch : List Timed) → InBatchOrder xs batch → AllByRecursion P xs → AllByRecursion P batch
   each-batch xs batch o a =
       let there : All P xs = All-from_recursion P xs a in
-      recursion_from_All P batch (subst (All P) o.events (All-map-IsPermutation (λ k. k.event) P (placed [] xs) o.ranked o.are (subst (All P) (sym (events-placed [] xs)) there)))
+      recursion_from_All P batch
+      (subst (All P) o.events (All-map-IsPermutation (λ k. k.event) P (placed [] xs) o.ranked o.are
+      (subst (All P) (sym (events-placed [] xs)) there)))
 
 -- ---- the rescan slot
 
@@ -56,7 +62,8 @@ IsFlagged None = Unit {0}
 IsFlagged (Some x) = is_some x.event.attrs.flag ≡ true
 
 -- .. so it is no joined rename without it
-flagged_due : (history : List AcceptedEvent) (due : Timed → Bool) (slot : Option Timed) → IsFlagged slot → AllByRecursion (IsFoundedUnflagged history) (due_of due slot)
+flagged_due : (history : List AcceptedEvent) (due : Timed → Bool) (slot : Option Timed) → IsFlagged slot →
+    AllByRecursion (IsFoundedUnflagged history) (due_of due slot)
 flagged_due history due None h = tt
 flagged_due history due (Some x) h = by (due x)
   where
@@ -81,20 +88,33 @@ module _ (history : List AcceptedEvent) where
   founded_event p x k h = let told = k h in rw told.1 told.2
 
   -- .. each of a queue
-  pub founded_events : (p : PathValue) (xs : List Timed) → AllByRecursion (IsRenamedTo history p) xs → AllByRecursion (IsFounded history) xs
+  pub founded_events : (p : PathValue) (xs : List Timed) → AllByRecursion (IsRenamedTo history p) xs →
+      AllByRecursion (IsFounded history) xs
   founded_events p [] a = tt
   founded_events p (x ∷ xs) a = (founded_event p x a.0, founded_events p xs a.1)
 
   -- .. also where the flag is asked for
-  founded_unflagged : (xs : List Timed) → AllByRecursion (IsFounded history) xs → AllByRecursion (IsFoundedUnflagged history) xs
+  founded_unflagged : (xs : List Timed) → AllByRecursion (IsFounded history) xs →
+      AllByRecursion (IsFoundedUnflagged history) xs
   founded_unflagged [] a = tt
   founded_unflagged (x ∷ xs) a = ((λ f. a.0), founded_unflagged xs a.1)
 
   -- what the queues hand out is founded
-  founded_places : (due : Timed → Bool) (queues : Queues) → AreRenamed history queues → AllByRecursion (IsFounded history) (place_list due queues)
+  founded_places : (due : Timed → Bool) (queues : Queues) → AreRenamed history queues →
+      AllByRecursion (IsFounded history) (place_list due queues)
   founded_places due [] a = tt
-  founded_places due (e ∷ queues) a = each-append (IsFounded history) (last_of_kind (expired_beginning due e.1)) (place_list due queues) (each-last_of_kind (IsFounded history) (expired_beginning due e.1) (each-beginning (IsFounded history) due e.1 (founded_events e.0 e.1 a.0.each))) (founded_places due queues a.1)
+  founded_places due (e ∷ queues) a =
+      each-append (IsFounded history) (last_of_kind (expired_beginning due e.1)) (place_list due queues)
+      (each-last_of_kind (IsFounded history) (expired_beginning due e.1)
+      (each-beginning (IsFounded history) due e.1 (founded_events e.0 e.1 a.0.each)))
+      (founded_places due queues a.1)
 
   -- .. so is what a batch does
-  pub founded_batch : (due : Timed → Bool) (s : State) (batch : List Timed) → InBatchOrder (places due s) batch → IsFlagged s.rescan_slot → AreRenamed history s.queues → AllByRecursion (IsFoundedUnflagged history) batch
-  founded_batch due s batch o f a = each-batch (IsFoundedUnflagged history) (places due s) batch o (each-append (IsFoundedUnflagged history) (due_of due s.rescan_slot) (place_list due s.queues) (flagged_due history due s.rescan_slot f) (founded_unflagged (place_list due s.queues) (founded_places due s.queues a)))
+  pub founded_batch : (due : Timed → Bool) (s : State) (batch : List Timed) →
+      InBatchOrder (places due s) batch → IsFlagged s.rescan_slot → AreRenamed history s.queues →
+      AllByRecursion (IsFoundedUnflagged history) batch
+  founded_batch due s batch o f a =
+      each-batch (IsFoundedUnflagged history) (places due s) batch o
+      (each-append (IsFoundedUnflagged history) (due_of due s.rescan_slot) (place_list due s.queues)
+      (flagged_due history due s.rescan_slot f)
+      (founded_unflagged (place_list due s.queues) (founded_places due s.queues a)))

@@ -20,7 +20,8 @@ module _ (history more : List AcceptedEvent) where
     first = m.first;
     second = m.second;
     later = m.later ++ renames more;
-    neighbours = renames-more ∙ ap (λ r. r ++ renames more) m.neighbours ∙ append_assoc m.earlier (m.first ∷ m.second ∷ m.later) (renames more);
+    neighbours = renames-more ∙ ap (λ r. r ++ renames more) m.neighbours
+        ∙ append_assoc m.earlier (m.first ∷ m.second ∷ m.later) (renames more);
     from = m.from;
     to = m.to;
     linked = m.linked;
@@ -38,7 +39,8 @@ module _ (history more : List AcceptedEvent) where
   are_founded-more ps e = absurd e
 
   -- .. the events of a batch
-  batch-more : (xs : List Timed) → AllByRecursion (IsFoundedUnflagged history) xs → AllByRecursion (IsFoundedUnflagged (history ++ more)) xs
+  batch-more : (xs : List Timed) → AllByRecursion (IsFoundedUnflagged history) xs →
+      AllByRecursion (IsFoundedUnflagged (history ++ more)) xs
   batch-more [] a = tt
   batch-more (x ∷ xs) a = (λ f b. are_founded-more x.event.paths (a.0 f b), batch-more xs a.1)
 

@@ -74,60 +74,77 @@ pub has_with : (s : Paths) (q p : PathValue) → has_path (with_path s q) p ≡ 
 has_with [] q p = ap (λ b. b || false) (sym (path_matches_eq p q))
 has_with (x ∷ s) q p = by (path_cmp q x) refl (has_with s q p)
   where
-    by : (o : Ordering) → path_cmp q x ≡ o → has_path (with_path s q) p ≡ (path_eq p q || has_path s p) → has_path (match_ordering o (q ∷ x ∷ s) (x ∷ s) (x ∷ insert_key path_cmp s q)) p ≡ (path_eq p q || has_path (x ∷ s) p)
+    by : (o : Ordering) → path_cmp q x ≡ o → has_path (with_path s q) p ≡ (path_eq p q || has_path s p) →
+        has_path (match_ordering o (q ∷ x ∷ s) (x ∷ s) (x ∷ insert_key path_cmp s q)) p
+        ≡ (path_eq p q || has_path (x ∷ s) p)
     by Less e more = ap (λ b. b || has_path (x ∷ s) p) (sym (path_matches_eq p q))
     by Equal e more =
         let one : q ≡ x = same_path q x e in
-        or_twice (is_eq (path_cmp p x)) (has_path s p) ∙ ap (λ b. b || has_path (x ∷ s) p) (sym (path_matches_eq p x) ∙ ap (path_eq p) (sym one))
-    by Greater e more = ap (λ b. is_eq (path_cmp p x) || b) more ∙ or_swapped (is_eq (path_cmp p x)) (path_eq p q) (has_path s p)
+        or_twice (is_eq (path_cmp p x)) (has_path s p)
+        ∙ ap (λ b. b || has_path (x ∷ s) p) (sym (path_matches_eq p x) ∙ ap (path_eq p) (sym one))
+    by Greater e more = ap (λ b. is_eq (path_cmp p x) || b) more
+        ∙ or_swapped (is_eq (path_cmp p x)) (path_eq p q) (has_path s p)
 
 -- what is in a set without what lies at or below a path
-pub has_without : (s : Paths) (q p : PathValue) → has_path (without_at s q) p ≡ (not (is_prefix q p) && has_path s p)
-has_without s q p = any-filter_same (is_at (path_cmp p)) (λ k. not (is_prefix q k)) (not (is_prefix q p)) (λ k t. ap (λ r. not (is_prefix q r)) (sym (tied p k t))) s
+pub has_without : (s : Paths) (q p : PathValue) → has_path (without_at s q) p
+    ≡ (not (is_prefix q p) && has_path s p)
+has_without s q p =
+    any-filter_same (is_at (path_cmp p)) (λ k. not (is_prefix q k)) (not (is_prefix q p))
+    (λ k t. ap (λ r. not (is_prefix q r)) (sym (tied p k t))) s
 
 -- ---- sets stay in order
 
 -- what is above a path stays above it with one more above it
-above_with : (x : PathValue) (s : Paths) (q : PathValue) → AllByRecursion (λ y. path_cmp x y ≡ Less) s → path_cmp x q ≡ Less → AllByRecursion (λ y. path_cmp x y ≡ Less) (with_path s q)
+above_with : (x : PathValue) (s : Paths) (q : PathValue) → AllByRecursion (λ y. path_cmp x y ≡ Less) s →
+    path_cmp x q ≡ Less → AllByRecursion (λ y. path_cmp x y ≡ Less) (with_path s q)
 above_with x [] q a h = (h, tt)
 above_with x (y ∷ s) q a h = by (path_cmp q y) (above_with x s q a.1 h)
   where
-    by : (o : Ordering) → AllByRecursion (λ z. path_cmp x z ≡ Less) (with_path s q) → AllByRecursion (λ z. path_cmp x z ≡ Less) (match_ordering o (q ∷ y ∷ s) (y ∷ s) (y ∷ insert_key path_cmp s q))
+    by : (o : Ordering) → AllByRecursion (λ z. path_cmp x z ≡ Less) (with_path s q) →
+        AllByRecursion (λ z. path_cmp x z ≡ Less)
+        (match_ordering o (q ∷ y ∷ s) (y ∷ s) (y ∷ insert_key path_cmp s q))
     by Less more = (h, a)
     by Equal more = a
     by Greater more = (a.0, more)
 
 -- .. without some
-above_without : (x : PathValue) (test : PathValue → Bool) (s : Paths) → AllByRecursion (λ y. path_cmp x y ≡ Less) s → AllByRecursion (λ y. path_cmp x y ≡ Less) (filter test s)
+above_without : (x : PathValue) (test : PathValue → Bool) (s : Paths) →
+    AllByRecursion (λ y. path_cmp x y ≡ Less) s → AllByRecursion (λ y. path_cmp x y ≡ Less) (filter test s)
 above_without x test [] a = a
 above_without x test (y ∷ s) a = by (test y) (above_without x test s a.1)
   where
-    by : (b : Bool) → AllByRecursion (λ z. path_cmp x z ≡ Less) (filter test s) → AllByRecursion (λ z. path_cmp x z ≡ Less) (cond b (y ∷ filter test s) (filter test s))
+    by : (b : Bool) → AllByRecursion (λ z. path_cmp x z ≡ Less) (filter test s) →
+        AllByRecursion (λ z. path_cmp x z ≡ Less) (cond b (y ∷ filter test s) (filter test s))
     by true more = (a.0, more)
     by false more = more
 
 -- what is above what is above a path is above it
-above_all : (q x : PathValue) (s : Paths) → path_cmp q x ≡ Less → AllByRecursion (λ y. path_cmp x y ≡ Less) s → AllByRecursion (λ y. path_cmp q y ≡ Less) s
+above_all : (q x : PathValue) (s : Paths) → path_cmp q x ≡ Less → AllByRecursion (λ y. path_cmp x y ≡ Less) s →
+    AllByRecursion (λ y. path_cmp q y ≡ Less) s
 above_all q x [] l a = tt
 above_all q x (y ∷ s) l a = (path_cmp_total.trans q x y l a.0, above_all q x s l a.1)
 
 -- a set with one more path is in order
-pub sorted_with : (s : Paths) (q : PathValue) → IsStrictlySortedBy path_cmp s → IsStrictlySortedBy path_cmp (with_path s q)
+pub sorted_with : (s : Paths) (q : PathValue) → IsStrictlySortedBy path_cmp s →
+    IsStrictlySortedBy path_cmp (with_path s q)
 unfolding IsStrictlySortedBy
 sorted_with [] q h = (tt, tt)
 sorted_with (x ∷ s) q h = by (path_cmp q x) refl (sorted_with s q h.1)
   where
-    by : (o : Ordering) → path_cmp q x ≡ o → IsStrictlySortedBy path_cmp (with_path s q) → IsStrictlySortedBy path_cmp (match_ordering o (q ∷ x ∷ s) (x ∷ s) (x ∷ insert_key path_cmp s q))
+    by : (o : Ordering) → path_cmp q x ≡ o → IsStrictlySortedBy path_cmp (with_path s q) →
+        IsStrictlySortedBy path_cmp (match_ordering o (q ∷ x ∷ s) (x ∷ s) (x ∷ insert_key path_cmp s q))
     by Less e more = ((e, above_all q x s e h.0), h)
     by Equal e more = h
     by Greater e more = (above_with x s q h.0 (path_cmp_total.antisymm x q ∙ ap ordering_reverse e), more)
 
 -- .. without some paths
-pub sorted_without : (s : Paths) (test : PathValue → Bool) → IsStrictlySortedBy path_cmp s → IsStrictlySortedBy path_cmp (filter test s)
+pub sorted_without : (s : Paths) (test : PathValue → Bool) → IsStrictlySortedBy path_cmp s →
+    IsStrictlySortedBy path_cmp (filter test s)
 unfolding IsStrictlySortedBy
 sorted_without [] test h = h
 sorted_without (x ∷ s) test h = by (test x) (sorted_without s test h.1)
   where
-    by : (b : Bool) → IsStrictlySortedBy path_cmp (filter test s) → IsStrictlySortedBy path_cmp (cond b (x ∷ filter test s) (filter test s))
+    by : (b : Bool) → IsStrictlySortedBy path_cmp (filter test s) →
+        IsStrictlySortedBy path_cmp (cond b (x ∷ filter test s) (filter test s))
     by true more = (above_without x test s h.0, more)
     by false more = more

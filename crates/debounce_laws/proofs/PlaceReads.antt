@@ -45,16 +45,20 @@ abbrev IsKindTest : (Timed → Bool) → Type 0
 IsKindTest f = (x y : Timed) → kind_eq x.event.kind y.event.kind ≡ true → f x ≡ f y
 
 -- where an event passes a test of kinds, one of its kind does
-kind_mate : (f : Timed → Bool) → IsKindTest f → (x : Timed) (xs : List Timed) → list_any (λ y. kind_eq x.event.kind y.event.kind) xs ≡ true → f x ≡ true → list_any f xs ≡ true
+kind_mate : (f : Timed → Bool) → IsKindTest f → (x : Timed) (xs : List Timed) →
+    list_any (λ y. kind_eq x.event.kind y.event.kind) xs ≡ true → f x ≡ true → list_any f xs ≡ true
 kind_mate f agree x [] h e = absurd (true≢false (sym h))
-kind_mate f agree x (y ∷ ys) h e = ⊎_elim (λ s. or_left _ _ (sym (agree x y s) ∙ e)) (λ k. or_right _ _ (kind_mate f agree x ys k e)) (or_cases _ _ h)
+kind_mate f agree x (y ∷ ys) h e =
+    ⊎_elim (λ s. or_left _ _ (sym (agree x y s) ∙ e)) (λ k. or_right _ _ (kind_mate f agree x ys k e))
+    (or_cases _ _ h)
 
 -- among the last of each kind as many kinds are found as among all
 any_last : (f : Timed → Bool) → IsKindTest f → (xs : List Timed) → list_any f (last_of_kind xs) ≡ list_any f xs
 any_last f agree [] = refl
 any_last f agree (x ∷ xs) =
     let ih = any_last f agree xs in
-    cond_both (list_any (λ y. kind_eq x.event.kind y.event.kind) xs) (last_of_kind xs) (x ∷ last_of_kind xs) (λ l. list_any f l ≡ (f x || list_any f xs))
+    cond_both (list_any (λ y. kind_eq x.event.kind y.event.kind) xs) (last_of_kind xs) (x ∷ last_of_kind xs)
+    (λ l. list_any f l ≡ (f x || list_any f xs))
     (λ mate. ih ∙ or_given (f x) (list_any f xs) (kind_mate f agree x xs mate)) (λ _. ap (λ z. f x || z) ih)
 
 -- to be a creation is a test of kinds
@@ -66,16 +70,19 @@ clears_agree : IsKindTest clears
 clears_agree x y h = ap is_removal ((kind_eq_decides x.event.kind y.event.kind).0 h)
 
 -- what holds of each holds of the last of each kind
-pub each_last : (P : Timed → Type 0) (xs : List Timed) → AllByRecursion P xs → AllByRecursion P (last_of_kind xs)
+pub each_last : (P : Timed → Type 0) (xs : List Timed) → AllByRecursion P xs →
+    AllByRecursion P (last_of_kind xs)
 each_last P [] h = tt
-each_last P (x ∷ xs) h = cond_both (list_any (λ y. kind_eq x.event.kind y.event.kind) xs) (last_of_kind xs) (x ∷ last_of_kind xs) (AllByRecursion P) (λ _. each_last P xs h.1) (λ _. (h.0, each_last P xs h.1))
+each_last P (x ∷ xs) h = cond_both (list_any (λ y. kind_eq x.event.kind y.event.kind) xs) (last_of_kind xs)
+    (x ∷ last_of_kind xs) (AllByRecursion P) (λ _. each_last P xs h.1) (λ _. (h.0, each_last P xs h.1))
 
 -- among the last of each kind a removal stands first
 pub first_only_last : (xs : List Timed) → FirstOnly clears xs → FirstOnly clears (last_of_kind xs)
 first_only_last [] h = tt
 first_only_last (x ∷ xs) h =
     let none : list_any clears (last_of_kind xs) ≡ false = any_last clears clears_agree xs ∙ h in
-    cond_both (list_any (λ y. kind_eq x.event.kind y.event.kind) xs) (last_of_kind xs) (x ∷ last_of_kind xs) (FirstOnly clears) (λ _. none_first_only clears (last_of_kind xs) none) (λ _. none)
+    cond_both (list_any (λ y. kind_eq x.event.kind y.event.kind) xs) (last_of_kind xs) (x ∷ last_of_kind xs)
+    (FirstOnly clears) (λ _. none_first_only clears (last_of_kind xs) none) (λ _. none)
 
 -- ---- one queue
 
@@ -88,19 +95,28 @@ and_shared true false false = refl
 and_shared false b g = refl
 
 -- a test that is another one under a condition
-any_under : (f h : Timed → Bool) (g : Bool) (xs : List Timed) → AllByRecursion (λ x. f x ≡ (h x && g)) xs → list_any f xs ≡ (list_any h xs && g)
+any_under : (f h : Timed → Bool) (g : Bool) (xs : List Timed) → AllByRecursion (λ x. f x ≡ (h x && g)) xs →
+    list_any f xs ≡ (list_any h xs && g)
 any_under f h g [] a = refl
 any_under f h g (x ∷ xs) a = (λ i. a.0 i || any_under f h g xs a.1 i) ∙ and_shared (h x) (list_any h xs) g
 
 -- each event of a queue creates just its path
-own_creates : (p k : PathValue) (xs : List Timed) → AllByRecursion (IsOwn k) xs → AllByRecursion (λ x. creates_at p x.event ≡ (makes x && path_eq p k)) xs
+own_creates : (p k : PathValue) (xs : List Timed) → AllByRecursion (IsOwn k) xs →
+    AllByRecursion (λ x. creates_at p x.event ≡ (makes x && path_eq p k)) xs
 own_creates p k [] a = tt
-own_creates p k (x ∷ xs) a = (ap (λ ps. is_creation x.event.kind && has_first (λ q. path_eq p q) ps) a.0.0, own_creates p k xs a.1)
+own_creates p k (x ∷ xs) a = (
+  ap (λ ps. is_creation x.event.kind && has_first (λ q. path_eq p q) ps) a.0.0,
+  own_creates p k xs a.1,
+)
 
 -- .. and clears what is at or below its path
-own_clears : (p k : PathValue) (xs : List Timed) → AllByRecursion (IsOwn k) xs → AllByRecursion (λ x. clears_at p x.event ≡ (clears x && is_prefix k p)) xs
+own_clears : (p k : PathValue) (xs : List Timed) → AllByRecursion (IsOwn k) xs →
+    AllByRecursion (λ x. clears_at p x.event ≡ (clears x && is_prefix k p)) xs
 own_clears p k [] a = tt
-own_clears p k (x ∷ xs) a = (ap (λ ps. is_removal x.event.kind && has_first (λ q. is_prefix q p) ps) a.0.0, own_clears p k xs a.1)
+own_clears p k (x ∷ xs) a = (
+  ap (λ ps. is_removal x.event.kind && has_first (λ q. is_prefix q p) ps) a.0.0,
+  own_clears p k xs a.1,
+)
 
 module _ (due : Timed → Bool) where
   -- what goes out of a queue
@@ -108,19 +124,33 @@ module _ (due : Timed → Bool) where
   out xs = last_of_kind (expired_beginning due xs)
 
   -- .. is its own
-  pub own_out : (k : PathValue) (xs : List Timed) → AllByRecursion (IsOwn k) xs → AllByRecursion (IsOwn k) (out xs)
+  pub own_out : (k : PathValue) (xs : List Timed) → AllByRecursion (IsOwn k) xs →
+      AllByRecursion (IsOwn k) (out xs)
   own_out k xs a = each_last (IsOwn k) (expired_beginning due xs) (each_early due (IsOwn k) xs a)
 
   -- what goes out of a queue and creates a path
-  block_creates : (p k : PathValue) (xs : List Timed) → AllByRecursion (IsOwn k) xs → list_any (λ x. creates_at p x.event) (out xs) ≡ (list_any makes (expired_beginning due xs) && path_eq p k)
-  block_creates p k xs a = any_under (λ x. creates_at p x.event) makes (path_eq p k) (out xs) (own_creates p k (out xs) (own_out k xs a)) ∙ ap (λ b. b && path_eq p k) (any_last makes makes_agree (expired_beginning due xs))
+  block_creates : (p k : PathValue) (xs : List Timed) → AllByRecursion (IsOwn k) xs →
+      list_any (λ x. creates_at p x.event) (out xs) ≡ (list_any makes (expired_beginning due xs) && path_eq p k)
+  block_creates p k xs a =
+      any_under (λ x. creates_at p x.event) makes (path_eq p k) (out xs)
+      (own_creates p k (out xs) (own_out k xs a))
+      ∙ ap (λ b. b && path_eq p k) (any_last makes makes_agree (expired_beginning due xs))
 
   -- what goes out of a queue and clears a path
-  block_clears : (p k : PathValue) (xs : List Timed) → AllByRecursion (IsOwn k) xs → list_any (λ x. clears_at p x.event) (out xs) ≡ (list_any clears (expired_beginning due xs) && is_prefix k p)
-  block_clears p k xs a = any_under (λ x. clears_at p x.event) clears (is_prefix k p) (out xs) (own_clears p k (out xs) (own_out k xs a)) ∙ ap (λ b. b && is_prefix k p) (any_last clears clears_agree (expired_beginning due xs))
+  block_clears : (p k : PathValue) (xs : List Timed) → AllByRecursion (IsOwn k) xs →
+      list_any (λ x. clears_at p x.event) (out xs)
+      ≡ (list_any clears (expired_beginning due xs) && is_prefix k p)
+  block_clears p k xs a =
+      any_under (λ x. clears_at p x.event) clears (is_prefix k p) (out xs)
+      (own_clears p k (out xs) (own_out k xs a))
+      ∙ ap (λ b. b && is_prefix k p) (any_last clears clears_agree (expired_beginning due xs))
 
   -- what passes a test of what is due at a path, by the first entry
-  due_by_entry : (f : Timed → Bool) (e : PathValue × List Timed) (queues : Queues) (q : PathValue) → IsStrictlySortedBy path_cmp (keys_of (e ∷ queues)) → list_any f (expired_beginning due (events_at (e ∷ queues) q)) ≡ ((list_any f (expired_beginning due e.1) && path_eq q e.0) || list_any f (expired_beginning due (events_at queues q)))
+  due_by_entry : (f : Timed → Bool) (e : PathValue × List Timed) (queues : Queues) (q : PathValue) →
+      IsStrictlySortedBy path_cmp (keys_of (e ∷ queues)) →
+      list_any f (expired_beginning due (events_at (e ∷ queues) q))
+      ≡ ((list_any f (expired_beginning due e.1) && path_eq q e.0)
+      || list_any f (expired_beginning due (events_at queues q)))
   due_by_entry f e queues q s = by (is_eq (path_cmp q e.0)) refl
     where
       here : (b : Bool) → b ≡ ((b && true) || false)
@@ -131,7 +161,10 @@ module _ (due : Timed → Bool) where
       there true c = refl
       there false c = refl
 
-      by : (b : Bool) → is_eq (path_cmp q e.0) ≡ b → list_any f (expired_beginning due (events_at (e ∷ queues) q)) ≡ ((list_any f (expired_beginning due e.1) && path_eq q e.0) || list_any f (expired_beginning due (events_at queues q)))
+      by : (b : Bool) → is_eq (path_cmp q e.0) ≡ b →
+          list_any f (expired_beginning due (events_at (e ∷ queues) q))
+          ≡ ((list_any f (expired_beginning due e.1) && path_eq q e.0)
+          || list_any f (expired_beginning due (events_at queues q)))
       by true i =
           let none : events_at queues q ≡ [] = ap (events_at queues) (tied q e.0 i) ∙ none_behind e queues s in
           rw (path_matches_eq q e.0, i, none) (here (list_any f (expired_beginning due e.1)))
@@ -140,7 +173,9 @@ module _ (due : Timed → Bool) where
   -- ---- all queues
 
   -- what goes out creates a path where a creation is due there
-  pub places_create : (queues : Queues) (p : PathValue) → IsStrictlySortedBy path_cmp (keys_of queues) → AllWaiting IsOwn queues → list_any (λ x. creates_at p x.event) (place_list due queues) ≡ list_any makes (expired_beginning due (events_at queues p))
+  pub places_create : (queues : Queues) (p : PathValue) → IsStrictlySortedBy path_cmp (keys_of queues) →
+      AllWaiting IsOwn queues → list_any (λ x. creates_at p x.event) (place_list due queues)
+      ≡ list_any makes (expired_beginning due (events_at queues p))
   places_create [] p s a = refl
   places_create (e ∷ queues) p s a =
       list_any-append (λ x. creates_at p x.event) (out e.1) (place_list due queues)
@@ -155,13 +190,20 @@ module _ (due : Timed → Bool) where
       by : (b : Bool) → is_prefix k p ≡ b → covered (λ q. path_eq q k) p ≡ b
       by true e = covered_from (λ q. path_eq q k) k p (below_prefix k p e) ((path_eq_decides k k).1 refl)
       by false e = false_from_ne_true _ (λ c. let f = covered_at (λ q. path_eq q k) p c in
-          both_ways (is_prefix k p) e (prefix_of k p (subst (λ z. AtOrBelow z p) ((path_eq_decides f.0 k).0 f.2) f.1)))
+          both_ways (is_prefix k p) e
+          (prefix_of k p (subst (λ z. AtOrBelow z p) ((path_eq_decides f.0 k).0 f.2) f.1)))
 
   -- what goes out clears a path where a removal is due at or above it
-  pub places_clear : (queues : Queues) (p : PathValue) → IsStrictlySortedBy path_cmp (keys_of queues) → AllWaiting IsOwn queues → list_any (λ x. clears_at p x.event) (place_list due queues) ≡ covered (λ q. list_any clears (expired_beginning due (events_at queues q))) p
+  pub places_clear : (queues : Queues) (p : PathValue) → IsStrictlySortedBy path_cmp (keys_of queues) →
+      AllWaiting IsOwn queues → list_any (λ x. clears_at p x.event) (place_list due queues)
+      ≡ covered (λ q. list_any clears (expired_beginning due (events_at queues q))) p
   places_clear [] p s a = sym (covered_by_one [] p false)
   places_clear (e ∷ queues) p s a =
       list_any-append (λ x. clears_at p x.event) (out e.1) (place_list due queues)
-      ∙ (λ i. (block_clears p e.0 e.1 a.0 ∙ sym (covered_by_one e.0 p (list_any clears (expired_beginning due e.1)))) i || places_clear queues p (sorted_behind e queues s) a.1 i)
-      ∙ sym (covered_or (λ q. list_any clears (expired_beginning due e.1) && path_eq q e.0) (λ q. list_any clears (expired_beginning due (events_at queues q))) p)
-      ∙ sym (covered_same (λ q. list_any clears (expired_beginning due (events_at (e ∷ queues) q))) _ p (λ q b. due_by_entry clears e queues q s))
+      ∙ (λ i. (block_clears p e.0 e.1 a.0
+      ∙ sym (covered_by_one e.0 p (list_any clears (expired_beginning due e.1)))) i
+      || places_clear queues p (sorted_behind e queues s) a.1 i)
+      ∙ sym (covered_or (λ q. list_any clears (expired_beginning due e.1)
+      && path_eq q e.0) (λ q. list_any clears (expired_beginning due (events_at queues q))) p)
+      ∙ sym (covered_same (λ q. list_any clears (expired_beginning due (events_at (e ∷ queues) q))) _
+      p (λ q b. due_by_entry clears e queues q s))

@@ -21,52 +21,68 @@ AllWaiting P queues = Each (λ p. AllByRecursion (P p)) queues
 
 module _ (P : PathValue → Timed → Type 0) where
   -- it holds of each event of what waits at a path
-  pub all-at : (queues : Queues) (p : PathValue) → AllWaiting P queues → AllByRecursion (P p) (events_at queues p)
+  pub all-at : (queues : Queues) (p : PathValue) → AllWaiting P queues →
+      AllByRecursion (P p) (events_at queues p)
   all-at queues p a = each-at (λ q. AllByRecursion (P q)) queues p a tt
 
   -- .. after a push
-  pub all-push : (queues : Queues) (p : PathValue) (x : Timed) → AllWaiting P queues → P p x → AllWaiting P (push queues p x)
-  all-push queues p x a h = each-push (λ q. AllByRecursion (P q)) queues p x a tt (λ q b. each_push (P p) q x b h)
+  pub all-push : (queues : Queues) (p : PathValue) (x : Timed) → AllWaiting P queues → P p x →
+      AllWaiting P (push queues p x)
+  all-push queues p x a h =
+      each-push (λ q. AllByRecursion (P q)) queues p x a tt (λ q b. each_push (P p) q x b h)
 
   -- .. after a removal
-  pub all-removal : (queues : Queues) (p : PathValue) (x : Timed) → AllWaiting P queues → P p x → AllWaiting P (removal queues p x)
+  pub all-removal : (queues : Queues) (p : PathValue) (x : Timed) → AllWaiting P queues → P p x →
+      AllWaiting P (removal queues p x)
   all-removal queues p x a h = each-removal (λ q. AllByRecursion (P q)) queues p x a (h, tt)
 
   -- .. after a tick
   pub all-rests : (due : Timed → Bool) (queues : Queues) → AllWaiting P queues → AllWaiting P (rests due queues)
-  all-rests due queues a = each-rests (λ q. AllByRecursion (P q)) due queues (λ p q b. each_late due (P p) q b) a
+  all-rests due queues a = each-rests (λ q. AllByRecursion (P q)) due queues (λ p q b. each_late due (P p) q b)
+      a
 
 -- ---- the queues stay in order
 
 -- after a push the queues are in order
-pub sorted_push : (queues : Queues) (p : PathValue) (x : Timed) → IsStrictlySortedBy path_cmp (keys_of queues) → IsStrictlySortedBy path_cmp (keys_of (push queues p x))
+pub sorted_push : (queues : Queues) (p : PathValue) (x : Timed) → IsStrictlySortedBy path_cmp (keys_of queues) →
+    IsStrictlySortedBy path_cmp (keys_of (push queues p x))
 sorted_push queues p x s = by (queue_at queues p)
   where
     by : (o : Option (List Timed)) → IsStrictlySortedBy path_cmp (keys_of (pushed_on queues p x o))
     by None = sorted-insert_entry path_cmp_total queues p (x ∷ []) s
     by (Some q) = at (skips q x.event.kind)
       where
-        at : (b : Bool) → IsStrictlySortedBy path_cmp (keys_of (cond b queues (with_queue queues p (q ++ x ∷ []))))
+        at : (b : Bool) →
+            IsStrictlySortedBy path_cmp (keys_of (cond b queues (with_queue queues p (q ++ x ∷ []))))
         at true = s
         at false = sorted-insert_entry path_cmp_total queues p (q ++ x ∷ []) s
 
 -- after a removal the queues are in order
-pub sorted_removal : (queues : Queues) (p : PathValue) (x : Timed) → IsStrictlySortedBy path_cmp (keys_of queues) → IsStrictlySortedBy path_cmp (keys_of (removal queues p x))
+pub sorted_removal : (queues : Queues) (p : PathValue) (x : Timed) →
+    IsStrictlySortedBy path_cmp (keys_of queues) → IsStrictlySortedBy path_cmp (keys_of (removal queues p x))
 sorted_removal queues p x s = by (was_created_at (queue_at queues p))
   where
     left : IsStrictlySortedBy path_cmp (keys_of (without_below queues p))
     left = sorted-filter path_cmp_total (λ e. not (is_below e.0 p)) queues s
 
-    by : (b : Bool) → IsStrictlySortedBy path_cmp (keys_of (cond b (without_queue (without_below queues p) p) (with_queue (without_below queues p) p (x ∷ []))))
+    by : (b : Bool) →
+        IsStrictlySortedBy path_cmp
+        (keys_of (cond b (without_queue (without_below queues p) p)
+        (with_queue (without_below queues p) p (x ∷ []))))
     by true = sorted-remove_entry path_cmp_total (is_at (path_cmp p)) (without_below queues p) left
     by false = sorted-insert_entry path_cmp_total (without_below queues p) p (x ∷ []) left
 
 -- ---- from the paths to the queues
 
 -- what holds at each path of what waits there holds of each queue
-pub each_queue : (P : PathValue → List Timed → Type 0) (queues : Queues) → ((p : PathValue) → P p []) → IsStrictlySortedBy path_cmp (keys_of queues) → ((p : PathValue) → P p (events_at queues p)) → AllByRecursion (λ e. P e.0 e.1) queues
+pub each_queue : (P : PathValue → List Timed → Type 0) (queues : Queues) → ((p : PathValue) → P p []) →
+    IsStrictlySortedBy path_cmp (keys_of queues) → ((p : PathValue) → P p (events_at queues p)) →
+    AllByRecursion (λ e. P e.0 e.1) queues
 each_queue P [] none s h = tt
-each_queue P (e ∷ queues) none s h = (subst (P e.0) own (h e.0), each_queue P queues none (sorted_behind e queues s) (λ p. by p (same_or_not e.0 p)))
+each_queue P (e ∷ queues) none s h = (
+  subst (P e.0) own (h e.0),
+  each_queue P queues none (sorted_behind e queues s) (λ p. by p (same_or_not e.0 p)),
+)
   where
     own : events_at (e ∷ queues) e.0 ≡ e.1
     own = rw (tied_to_itself e.0) refl
@@ -75,5 +91,6 @@ each_queue P (e ∷ queues) none s h = (subst (P e.0) own (h e.0), each_queue P 
     other p n = rw (not_tied p e.0 n) refl
 
     by : (p : PathValue) → (p ≡ e.0) ⊎ (p ≡ e.0 → ⊥) → P p (events_at queues p)
-    by p (inl q) = subst (λ z. P z (events_at queues z)) (sym q) (subst (P e.0) (sym (none_behind e queues s)) (none e.0))
+    by p (inl q) =
+        subst (λ z. P z (events_at queues z)) (sym q) (subst (P e.0) (sym (none_behind e queues s)) (none e.0))
     by p (inr n) = subst (P p) (other p n) (h p)

@@ -42,42 +42,62 @@ pub record IsBalanced (queues : Queues) (slot : Option Timed) (latest : ℕ) (re
 abbrev pub IsBalancedIn : State → Paths → Paths → Type 0
 IsBalancedIn s reader raw = IsBalanced s.queues s.rescan_slot s.latest reader raw
 
-module _ (queues : Queues) (slot : Option Timed) (latest : ℕ) (reader raw : Paths) (b : IsBalanced queues slot latest reader raw) (due : Timed → Bool) where
+module _ (queues : Queues) (slot : Option Timed) (latest : ℕ) (reader raw : Paths)
+    (b : IsBalanced queues slot latest reader raw) (due : Timed → Bool) where
   -- what the reader has of a path after what is due
   abbrev shown : PathValue → Bool
-  shown p = list_any makes (expired_beginning due (events_at queues p)) || (has_path reader p && not (covered (λ q. list_any clears (expired_beginning due (events_at queues q))) p))
+  shown p = list_any makes (expired_beginning due (events_at queues p))
+      || (has_path reader p
+      && not (covered (λ q. list_any clears (expired_beginning due (events_at queues q))) p))
 
   -- a batch of what is due leaves the reader that
-  pub batch_shown : (batch : List Timed) → InBatchOrder (place_list due queues) batch → (p : PathValue) → has_path (play reader (events_of batch)) p ≡ shown p
+  pub batch_shown : (batch : List Timed) → InBatchOrder (place_list due queues) batch → (p : PathValue) →
+      has_path (play reader (events_of batch)) p ≡ shown p
   batch_shown batch o p =
-      let first : AllByRecursion (λ e. FirstOnly clears e.1) queues = each_queue (λ _. FirstOnly clears) queues (λ _. tt) b.ordered b.balance.first_only in
+      let first : AllByRecursion (λ e. FirstOnly clears e.1) queues =
+      each_queue (λ _. FirstOnly clears) queues (λ _. tt) b.ordered b.balance.first_only in
       here_timed reader p batch
-      ∙ batch_here (place_list due queues) (removals_first due queues b.ordered b.own first) (places_single due queues b.own) (places_later due queues b.ordered b.own b.balance.child_later) p batch o (has_path reader p)
-      ∙ (λ i. places_create due queues p b.ordered b.own i || (has_path reader p && not (places_clear due queues p b.ordered b.own i)))
+      ∙ batch_here (place_list due queues) (removals_first due queues b.ordered b.own first)
+      (places_single due queues b.own) (places_later due queues b.ordered b.own b.balance.child_later) p
+      batch o (has_path reader p)
+      ∙ (λ i. places_create due queues p b.ordered b.own i
+      || (has_path reader p && not (places_clear due queues p b.ordered b.own i)))
 
   -- .. and what is not due waits in balance
-  pub rests_balanced : (batch : List Timed) → InBatchOrder (place_list due queues) batch → ((x y : Timed) → x.time ≤ y.time → due y ≡ true → due x ≡ true) → (rest : Option Timed) → rest ≡ None → (m : ℕ) → latest ≤ m → IsBalanced (rests due queues) rest m (play reader (events_of batch)) raw
+  pub rests_balanced : (batch : List Timed) → InBatchOrder (place_list due queues) batch →
+      ((x y : Timed) → x.time ≤ y.time → due y ≡ true → due x ≡ true) → (rest : Option Timed) → rest ≡ None →
+      (m : ℕ) → latest ≤ m → IsBalanced (rests due queues) rest m (play reader (events_of batch)) raw
   rests_balanced batch o mono rest none m up = record {
     ordered = sorted-changed path_cmp_total (rest_after due) (λ q. waits (rest_after due q)) queues b.ordered;
     own = all-rests IsOwn due queues b.own;
     empty = none;
     balance =
-        later_keeps makes clears time_of latest m (has_path (play reader (events_of batch))) (has_path raw) (events_at (rests due queues)) up
-        (subst (λ G. Balance makes clears time_of latest (has_path (play reader (events_of batch))) (has_path raw) G) (λ i p. sym (rests_at due queues p b.ordered) i)
-        (subst (λ D. Balance makes clears time_of latest D (has_path raw) (λ p. rest_after due (events_at queues p))) (λ i p. sym (batch_shown batch o p) i)
-        (tick_keeps makes clears time_of due mono latest (has_path reader) (has_path raw) (events_at queues) b.balance)));
+        later_keeps makes clears time_of latest m (has_path (play reader (events_of batch))) (has_path raw)
+        (events_at (rests due queues)) up
+        (subst (λ G. Balance makes clears time_of latest (has_path (play reader (events_of batch)))
+        (has_path raw) G) (λ i p. sym (rests_at due queues p b.ordered) i)
+        (subst (λ D. Balance makes clears time_of latest D
+        (has_path raw) (λ p. rest_after due (events_at queues p))) (λ i p. sym (batch_shown batch o p) i)
+        (tick_keeps makes clears time_of due mono latest (has_path reader) (has_path raw) (events_at queues)
+        b.balance)));
   }
 
 -- what is no later than what is expired is expired
-expired_before : (timeout now : ℕ) (x y : Timed) → x.time ≤ y.time → is_expired timeout now y ≡ true → is_expired timeout now x ≡ true
-expired_before timeout now x y up h = let old : timeout ≤ now - y.time = leb-true timeout (now - y.time) h in le-leb timeout (now - x.time) (omega (arith, old, up))
+expired_before : (timeout now : ℕ) (x y : Timed) → x.time ≤ y.time → is_expired timeout now y ≡ true →
+    is_expired timeout now x ≡ true
+expired_before timeout now x y up h = let old : timeout ≤ now - y.time = leb-true timeout (now - y.time) h in
+    le-leb timeout (now - x.time) (omega (arith, old, up))
 
 -- a tick keeps the balance
-pub balanced_tick : (s : State) (now : ℕ) (batch : List Timed) (reader raw : Paths) → IsBalancedIn s reader raw → IsBatch s now batch → IsBalancedIn (tick_step s now batch) (play reader (events_of batch)) raw
+pub balanced_tick : (s : State) (now : ℕ) (batch : List Timed) (reader raw : Paths) →
+    IsBalancedIn s reader raw → IsBatch s now batch →
+    IsBalancedIn (tick_step s now batch) (play reader (events_of batch)) raw
 balanced_tick s now batch reader raw b o =
     rests_balanced s.queues s.rescan_slot s.latest reader raw b (is_expired_in s now) batch
-    (subst (λ slot. InBatchOrder (due_of (is_expired_in s now) slot ++ place_list (is_expired_in s now) s.queues) batch) b.empty o)
-    (expired_before s.timeout (raised s now)) (rest_of (is_expired_in s now) s.rescan_slot) (ap (rest_of (is_expired_in s now)) b.empty) (raised s now) (omega arith)
+    (subst (λ slot. InBatchOrder (due_of (is_expired_in s now) slot
+    ++ place_list (is_expired_in s now) s.queues) batch) b.empty o)
+    (expired_before s.timeout (raised s now)) (rest_of (is_expired_in s now) s.rescan_slot)
+    (ap (rest_of (is_expired_in s now)) b.empty) (raised s now) (omega arith)
 
 -- where all is due, the beginning is the whole
 all_due : (xs : List Timed) → expired_beginning (λ x. true) xs ≡ xs
@@ -85,8 +105,12 @@ all_due [] = refl
 all_due (x ∷ xs) = ap (λ l. x ∷ l) (all_due xs)
 
 -- the outlook leaves the reader the raw paths
-pub outlook_shown : (s : State) (outlook : List Timed) (reader raw : Paths) → IsBalancedIn s reader raw → IsOutlook s outlook → (p : PathValue) → has_path (play reader (events_of outlook)) p ≡ has_path raw p
+pub outlook_shown : (s : State) (outlook : List Timed) (reader raw : Paths) → IsBalancedIn s reader raw →
+    IsOutlook s outlook → (p : PathValue) → has_path (play reader (events_of outlook)) p ≡ has_path raw p
 outlook_shown s outlook reader raw b o p =
-    batch_shown s.queues s.rescan_slot s.latest reader raw b (λ x. true) outlook (subst (λ slot. InBatchOrder (due_of (λ x. true) slot ++ place_list (λ x. true) s.queues) outlook) b.empty o) p
-    ∙ (λ i. list_any makes (all_due (events_at s.queues p) i) || (has_path reader p && not (covered (λ q. list_any clears (all_due (events_at s.queues q) i)) p)))
+    batch_shown s.queues s.rescan_slot s.latest reader raw b (λ x. true) outlook
+    (subst (λ slot. InBatchOrder (due_of (λ x. true) slot ++ place_list (λ x. true) s.queues) outlook)
+    b.empty o) p
+    ∙ (λ i. list_any makes (all_due (events_at s.queues p) i)
+    || (has_path reader p && not (covered (λ q. list_any clears (all_due (events_at s.queues q) i)) p)))
     ∙ sym (b.balance.law p)

@@ -29,7 +29,8 @@ event k p = record { kind = k; paths = p ∷ []; attrs = no_attributes }
 
 -- the folder is created at 0, and the file at 5
 abbrev begun : State
-begun = event_step (event_step (empty_state 50) (event (Create create.Folder) d) 0 true None) (event (Create create.File) x) 5 true None
+begun = event_step (event_step (empty_state 50) (event (Create create.Folder) d) 0 true None)
+    (event (Create create.File) x) 5 true None
 
 -- a tick at 50 hands out the folder
 abbrev ticked : State
@@ -41,14 +42,18 @@ removed = event_step ticked (event (Remove remove.Any) d) 40 false None
 
 -- the commands up to the tick, and more
 abbrev first_commands : List CommandValue → List CommandValue
-first_commands more = EventCommand (event (Create create.Folder) d) 0 true ∷ EventCommand (event (Create create.File) x) 5 true ∷ TickCommand 50 ∷ more
+first_commands more =
+    EventCommand (event (Create create.Folder) d) 0 true ∷ EventCommand (event (Create create.File) x) 5
+    true ∷ TickCommand 50 ∷ more
 
 -- .. the replies
 abbrev first_replies : List ReplyValue → List ReplyValue
-first_replies more = TakenReply None ∷ TakenReply None ∷ BatchReply (places (is_expired_in begun 50) begun) ∷ more
+first_replies more =
+    TakenReply None ∷ TakenReply None ∷ BatchReply (places (is_expired_in begun 50) begun) ∷ more
 
 -- the stream is honest from no paths
-honest : are_honest [] (accepted (first_commands (EventCommand (event (Remove remove.Any) d) 40 false ∷ [])) (first_replies (TakenReply None ∷ []))) ≡ true
+honest : are_honest [] (accepted (first_commands (EventCommand (event (Remove remove.Any) d) 40 false ∷ []))
+    (first_replies (TakenReply None ∷ []))) ≡ true
 honest = refl
 
 -- after the tick the file waits

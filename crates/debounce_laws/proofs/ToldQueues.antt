@@ -55,25 +55,33 @@ module _ (path : PathValue) (kind : EventKind) where
   stands x t h = rw t.unflagged h
 
   -- what was created holds a creation
-  pub created_holds : (xs : List Timed) → AreTold path xs → was_created xs ≡ true → list_any (stands_for kind) xs ≡ true
+  pub created_holds : (xs : List Timed) → AreTold path xs → was_created xs ≡ true →
+      list_any (stands_for kind) xs ≡ true
   created_holds [] t h = absurd (true≢false (sym h))
   created_holds (x ∷ xs) t h = rw (stands x t.0 (rw (creates_told x.event.kind t.0.class h) refl)) refl
 
   -- of a kind that stands for a change also each event of that kind does
-  same_kind : (k : EventKind) (xs : List Timed) → AreTold path xs → fits kind k ≡ true → list_any (λ y. kind_eq k y.event.kind) xs ≡ true → list_any (stands_for kind) xs ≡ true
+  same_kind : (k : EventKind) (xs : List Timed) → AreTold path xs → fits kind k ≡ true →
+      list_any (λ y. kind_eq k y.event.kind) xs ≡ true → list_any (stands_for kind) xs ≡ true
   same_kind k [] t f h = absurd (true≢false (sym h))
   same_kind k (x ∷ xs) t f h = by (kind_eq k x.event.kind) refl (same_kind k xs t.1 f)
     where
-      by : (b : Bool) → kind_eq k x.event.kind ≡ b → (list_any (λ y. kind_eq k y.event.kind) xs ≡ true → list_any (stands_for kind) xs ≡ true) → list_any (stands_for kind) (x ∷ xs) ≡ true
-      by true e more = rw (stands x t.0 (subst (λ j. fits kind j ≡ true) ((kind_eq_decides k x.event.kind).0 e) f)) refl
+      by : (b : Bool) → kind_eq k x.event.kind ≡ b → (list_any (λ y. kind_eq k y.event.kind) xs ≡ true →
+          list_any (stands_for kind) xs ≡ true) → list_any (stands_for kind) (x ∷ xs) ≡ true
+      by true e more =
+          rw (stands x t.0 (subst (λ j. fits kind j ≡ true) ((kind_eq_decides k x.event.kind).0 e) f)) refl
       by false e more = rw (more (rw e at h)) (or_true (stands_for kind x))
 
   -- what stands for a change is still among the last of each kind
-  pub last_among : (xs : List Timed) → AreTold path xs → list_any (stands_for kind) xs ≡ true → is_among path kind (last_of_kind xs) ≡ true
+  pub last_among : (xs : List Timed) → AreTold path xs → list_any (stands_for kind) xs ≡ true →
+      is_among path kind (last_of_kind xs) ≡ true
   last_among [] t h = h
-  last_among (x ∷ xs) t h = by (list_any (λ y. kind_eq x.event.kind y.event.kind) xs) (stands_for kind x) refl refl (last_among xs t.1)
+  last_among (x ∷ xs) t h = by (list_any (λ y. kind_eq x.event.kind y.event.kind) xs) (stands_for kind x) refl
+      refl (last_among xs t.1)
     where
-      by : (b c : Bool) → list_any (λ y. kind_eq x.event.kind y.event.kind) xs ≡ b → stands_for kind x ≡ c → (list_any (stands_for kind) xs ≡ true → is_among path kind (last_of_kind xs) ≡ true) → is_among path kind (cond b (last_of_kind xs) (x ∷ last_of_kind xs)) ≡ true
+      by : (b c : Bool) → list_any (λ y. kind_eq x.event.kind y.event.kind) xs ≡ b → stands_for kind x ≡ c →
+          (list_any (stands_for kind) xs ≡ true → is_among path kind (last_of_kind xs) ≡ true) →
+          is_among path kind (cond b (last_of_kind xs) (x ∷ last_of_kind xs)) ≡ true
       by true true e s more = more (same_kind x.event.kind xs t.1 (rw t.0.unflagged at s) e)
       by true false e s more = more (rw s at h)
       by false true e s more = rw (t.0.first, s) refl
@@ -82,11 +90,13 @@ module _ (path : PathValue) (kind : EventKind) where
 -- ---- all queues still told something
 
 -- .. after a push
-pub told-push : (queues : Queues) (p : PathValue) (x : Timed) → AreAllTold queues → IsTold p x → AreAllTold (push queues p x)
+pub told-push : (queues : Queues) (p : PathValue) (x : Timed) → AreAllTold queues → IsTold p x →
+    AreAllTold (push queues p x)
 told-push queues p x t h = each-push AreTold queues p x t tt (λ q a. each_push (IsTold p) q x a h)
 
 -- .. after a removal
-pub told-removal : (queues : Queues) (p : PathValue) (x : Timed) → AreAllTold queues → IsTold p x → AreAllTold (removal queues p x)
+pub told-removal : (queues : Queues) (p : PathValue) (x : Timed) → AreAllTold queues → IsTold p x →
+    AreAllTold (removal queues p x)
 told-removal queues p x t h = each-removal AreTold queues p x t (h, tt)
 
 -- .. after a tick

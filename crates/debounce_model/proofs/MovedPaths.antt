@@ -28,7 +28,8 @@ same_at p k h = (path_eq_decides p k).0 (path_matches_eq p k ∙ h)
 
 -- a path at or below a base is the base and the rest
 pub prefix_split : (b p : PathValue) → is_prefix b p ≡ true → p ≡ b ++ drop (length b) p
-prefix_split b p h = sym (take-append-drop (length b) p) ∙ ap (λ r. r ++ drop (length b) p) (sym ((path_eq_decides b (take (length b) p)).0 h))
+prefix_split b p h = sym (take-append-drop (length b) p)
+    ∙ ap (λ r. r ++ drop (length b) p) (sym ((path_eq_decides b (take (length b) p)).0 h))
 
 -- the base is a prefix of this
 prefix-append : (b s : PathValue) → is_prefix b (b ++ s) ≡ true
@@ -68,7 +69,8 @@ module _ (f t : PathValue) where
   in_place_back p h = ap (λ s. f ++ s) (drop-append_seam t (drop (length f) p)) ∙ sym (prefix_split f p h)
 
   -- a path below t compares to a new place as its own place below f compares to the old
-  pub cmp_in_place : (q p : PathValue) → is_prefix t q ≡ true → is_prefix f p ≡ true → path_cmp q (in_place f t p) ≡ path_cmp (in_place t f q) p
+  pub cmp_in_place : (q p : PathValue) → is_prefix t q ≡ true → is_prefix f p ≡ true →
+      path_cmp q (in_place f t p) ≡ path_cmp (in_place t f q) p
   cmp_in_place q p i h =
       ap (λ r. path_cmp r (in_place f t p)) (prefix_split t q i)
       ∙ cmp-append t (drop (length t) q) (drop (length f) p)
@@ -78,7 +80,8 @@ module _ (f t : PathValue) where
 -- ---- two bases of one path
 
 -- of two bases of one path one is a prefix of the other
-comparable : (f t p : PathValue) → is_prefix f p ≡ true → is_prefix t p ≡ true → (is_prefix f t || is_prefix t f) ≡ true
+comparable : (f t p : PathValue) → is_prefix f p ≡ true → is_prefix t p ≡ true →
+    (is_prefix f t || is_prefix t f) ≡ true
 comparable [] t p h k = refl
 comparable (x ∷ f) [] p h k = refl
 comparable (x ∷ f) (y ∷ t) [] h k = absurd (true≢false (sym h))
@@ -91,7 +94,8 @@ comparable (x ∷ f) (y ∷ t) (z ∷ p) h k =
 
 -- nothing lies at or below both of two paths that are apart
 pub not_at_both : (f t p : PathValue) → are_apart f t ≡ true → is_prefix f p ≡ true → is_prefix t p ≡ false
-not_at_both f t p h i = untrue (is_prefix t p) (λ k. no (is_prefix f t) (is_prefix t f) h (comparable f t p i k))
+not_at_both f t p h i =
+    untrue (is_prefix t p) (λ k. no (is_prefix f t) (is_prefix t f) h (comparable f t p i k))
   where
     no : (a b : Bool) → (not a && not b) ≡ true → (a || b) ≡ true → ⊥
     no true b h c = true≢false (sym h)

@@ -23,16 +23,24 @@ map_of : (queues : Queues) (n : ℕ) → AreGood queues n → IsQueueMap queues
 map_of queues n g = record { kept = g.kept; ordered = g.ordered }
 
 -- .. after a push
-pub map_push : (queues : Queues) (x : Timed) → IsQueueMap queues → 0 < length x.event.paths → is_both x ≡ false → IsQueueMap (push queues (first_of x.event.paths) x)
-map_push queues x m some b = map_of _ _ (good-push queues (first_of x.event.paths) x (waiting_in queues) (good_of queues m) b (first_is x.event.paths some))
+pub map_push : (queues : Queues) (x : Timed) → IsQueueMap queues → 0 < length x.event.paths →
+    is_both x ≡ false → IsQueueMap (push queues (first_of x.event.paths) x)
+map_push queues x m some b =
+    map_of _ _ (good-push queues (first_of x.event.paths) x (waiting_in queues) (good_of queues m) b
+    (first_is x.event.paths some))
 
 -- .. after a removal
-pub map_removal : (queues : Queues) (x : Timed) → IsQueueMap queues → 0 < length x.event.paths → is_both x ≡ false → IsQueueMap (removal queues (first_of x.event.paths) x)
-map_removal queues x m some b = map_of _ _ (good-removal queues (first_of x.event.paths) x (waiting_in queues) (good_of queues m) b (first_is x.event.paths some))
+pub map_removal : (queues : Queues) (x : Timed) → IsQueueMap queues → 0 < length x.event.paths →
+    is_both x ≡ false → IsQueueMap (removal queues (first_of x.event.paths) x)
+map_removal queues x m some b =
+    map_of _ _ (good-removal queues (first_of x.event.paths) x (waiting_in queues) (good_of queues m) b
+    (first_is x.event.paths some))
 
 -- .. after a joined rename
-pub map_joined : (queues : Queues) (f t : PathValue) (time : ℕ) (attrs : AttributesValue) → IsQueueMap queues → IsQueueMap (joined_rename queues f t time attrs)
-map_joined queues f t time attrs m = map_of _ _ (good-joined queues f t time attrs (waiting_in queues) (good_of queues m))
+pub map_joined : (queues : Queues) (f t : PathValue) (time : ℕ) (attrs : AttributesValue) → IsQueueMap queues →
+    IsQueueMap (joined_rename queues f t time attrs)
+map_joined queues f t time attrs m =
+    map_of _ _ (good-joined queues f t time attrs (waiting_in queues) (good_of queues m))
 
 -- .. without what is due
 pub map_rests : (due : Timed → Bool) (queues : Queues) → IsQueueMap queues → IsQueueMap (rests due queues)

@@ -114,7 +114,9 @@ no_both-moved t [] k = tt
 no_both-moved t (x ∷ xs) k = (k.0, no_both-moved t xs k.1)
 
 -- the rename and what moves along
-renamed_law : (o t : PathValue) (attrs : AttributesValue) (time : ℕ) (r : List Timed) → IsKeyed t r → HasNoBoth r → IsNonempty (renaming o t attrs time r ++ r) × IsKeyed t (renaming o t attrs time r ++ r) × IsBothFirst (renaming o t attrs time r ++ r) × IsBothInFront (renaming o t attrs time r ++ r)
+renamed_law : (o t : PathValue) (attrs : AttributesValue) (time : ℕ) (r : List Timed) → IsKeyed t r →
+    HasNoBoth r → IsNonempty (renaming o t attrs time r ++ r) × IsKeyed t (renaming o t attrs time r ++ r)
+    × IsBothFirst (renaming o t attrs time r ++ r) × IsBothInFront (renaming o t attrs time r ++ r)
 renamed_law o t attrs time r k n = by (was_created r) refl
   where
     nonempty : (r : List Timed) → was_created r ≡ true → IsNonempty r
@@ -140,13 +142,16 @@ renamed_law o t attrs time r k n = by (was_created r) refl
     by false e = (tt, (refl, k), n, n)
 
 -- what then waits at the target, from the earlier joined rename and what goes along
-abbrev arrived_with : Option Timed → List Timed → Option (List Timed) → PathValue → PathValue → ℕ → AttributesValue → List Timed
+abbrev arrived_with : Option Timed → List Timed → Option (List Timed) → PathValue → PathValue → ℕ →
+    AttributesValue → List Timed
 arrived_with both moved target f t time attrs =
     overriding t (original_time both time) target
     ++ (renaming (original_path both f) t attrs (original_time both time) moved ++ moved)
 
 -- .. is its queue
-arrived_law : (both : Option Timed) (moved : List Timed) (target : Option (List Timed)) (f t : PathValue) (time : ℕ) (attrs : AttributesValue) → IsKeyed t moved → HasNoBoth moved → IsQueue t (arrived_with both moved target f t time attrs)
+arrived_law : (both : Option Timed) (moved : List Timed) (target : Option (List Timed)) (f t : PathValue)
+    (time : ℕ) (attrs : AttributesValue) → IsKeyed t moved → HasNoBoth moved →
+    IsQueue t (arrived_with both moved target f t time attrs)
 arrived_law both moved target f t time attrs k n = by target
   where
     m : ℕ
@@ -162,7 +167,9 @@ arrived_law both moved target f t time attrs k n = by target
     by None = (have.0, have.1, have.3)
     by (Some q) = at (was_created q)
       where
-        at : (b : Bool) → IsQueue t (cond b [] (override_event t (cond (was_removed q) no_attributes override_attributes) m ∷ []) ++ behind)
+        at : (b : Bool) →
+            IsQueue t (cond b [] (override_event t (cond (was_removed q) no_attributes override_attributes)
+            m ∷ []) ++ behind)
         at true = (have.0, have.1, have.3)
         at false = (tt, (refl, have.1), have.2)
 
@@ -179,7 +186,8 @@ length-without_both : (xs : List Timed) → length (without_both xs) ≤ length 
 length-without_both [] = omega arith
 length-without_both (x ∷ xs) = by (is_both x) (length-without_both xs)
   where
-    by : (b : Bool) → length (without_both xs) ≤ length xs → length (cond b xs (x ∷ without_both xs)) ≤ length (x ∷ xs)
+    by : (b : Bool) → length (without_both xs) ≤ length xs →
+        length (cond b xs (x ∷ without_both xs)) ≤ length (x ∷ xs)
     by true h = omega arith
     by false h = omega arith
 
@@ -207,17 +215,22 @@ length-events_at None = refl
 length-events_at (Some q) = refl
 
 -- a removal is told only where something waited
-length-overriding : (t : PathValue) (m : ℕ) (target : Option (List Timed)) → ((q : List Timed) → target ≡ Some q → IsNonempty q) → length (overriding t m target) ≤ unwrap_or (option_map length target) 0
+length-overriding : (t : PathValue) (m : ℕ) (target : Option (List Timed)) →
+    ((q : List Timed) → target ≡ Some q → IsNonempty q) →
+    length (overriding t m target) ≤ unwrap_or (option_map length target) 0
 length-overriding t m None law = omega arith
 length-overriding t m (Some []) law = absurd (law [] refl)
 length-overriding t m (Some (x ∷ q)) law = by (was_created (x ∷ q))
   where
-    by : (b : Bool) → length (cond b [] (override_event t (cond (was_removed (x ∷ q)) no_attributes override_attributes) m ∷ [])) ≤ length (x ∷ q)
+    by : (b : Bool) →
+        length (cond b [] (override_event t (cond (was_removed (x ∷ q)) no_attributes override_attributes)
+        m ∷ [])) ≤ length (x ∷ q)
     by true = omega arith
     by false = omega arith
 
 -- one rename is told at most
-length-renaming : (o t : PathValue) (attrs : AttributesValue) (time : ℕ) (r : List Timed) → length (renaming o t attrs time r) ≤ 1
+length-renaming : (o t : PathValue) (attrs : AttributesValue) (time : ℕ) (r : List Timed) →
+    length (renaming o t attrs time r) ≤ 1
 length-renaming o t attrs time r = by (was_created r)
   where
     by : (b : Bool) → length (cond b [] (rename_event o t attrs time ∷ [])) ≤ 1
@@ -225,37 +238,71 @@ length-renaming o t attrs time r = by (was_created r)
     by false = omega arith
 
 -- at the target one more waits at most than waited there and came
-length-arrived : (both : Option Timed) (moved : List Timed) (target : Option (List Timed)) (f t : PathValue) (time : ℕ) (attrs : AttributesValue) → ((q : List Timed) → target ≡ Some q → IsNonempty q) → length (arrived_with both moved target f t time attrs) ≤ unwrap_or (option_map length target) 0 + 1 + length moved
+length-arrived : (both : Option Timed) (moved : List Timed) (target : Option (List Timed)) (f t : PathValue)
+    (time : ℕ) (attrs : AttributesValue) → ((q : List Timed) → target ≡ Some q → IsNonempty q) →
+    length (arrived_with both moved target f t time attrs) ≤ unwrap_or (option_map length target) 0 + 1 + length
+    moved
 length-arrived both moved target f t time attrs law =
     let m = original_time both time in
     let lead = overriding t m target in
     let rename = renaming (original_path both f) t attrs m moved in
-    let bound : length (lead ++ (rename ++ moved)) ≤ unwrap_or (option_map length target) 0 + 1 + length moved = omega (arith, length-append lead (rename ++ moved), length-append rename moved, length-overriding t m target law, length-renaming (original_path both f) t attrs m moved) in
+    let bound : length (lead ++ (rename ++ moved)) ≤ unwrap_or (option_map length target) 0 + 1 + length moved =
+    omega (
+      arith,
+      length-append lead (rename ++ moved),
+      length-append rename moved,
+      length-overriding t m target law,
+      length-renaming (original_path both f) t attrs m moved,
+    ) in
     bound
 
 -- ---- the queues
 
 -- what stays behind takes the place of what waited there
-good-left : (queues : Queues) (f : PathValue) (n m : ℕ) (s : Option Timed) → AreGood queues n → ((x : Timed) → s ≡ Some x → IsFirst f (kept_by x)) → count s + waiting_in queues ≤ m + waits_at queues f → AreGood (left_behind queues f s) m
+good-left : (queues : Queues) (f : PathValue) (n m : ℕ) (s : Option Timed) → AreGood queues n →
+    ((x : Timed) → s ≡ Some x → IsFirst f (kept_by x)) → count s + waiting_in queues ≤ m + waits_at queues f →
+    AreGood (left_behind queues f s) m
 good-left queues f n m None g law b =
     let w = good-without queues f n g in
-    record { kept = w.kept; ordered = w.ordered; bounded = omega (arith, b, sum_by-remove_entry length (is_at (path_cmp f)) queues) }
-good-left queues f n m (Some x) g law b = good-set queues f (x ∷ []) n m g (queue_of_one f x (law x refl)) (omega (arith, b))
+    record {
+      kept = w.kept;
+      ordered = w.ordered;
+      bounded =
+          omega (arith, b, sum_by-remove_entry length (is_at (path_cmp f)) queues);
+    }
+good-left queues f n m (Some x) g law b =
+    good-set queues f (x ∷ []) n m g (queue_of_one f x (law x refl)) (omega (arith, b))
 
 -- what waits at a path is kept by it, and has a joined rename in front at most
-pub events_law : (queues : Queues) (f : PathValue) → AreQueues queues → IsKeyed f (events_at queues f) × IsBothInFront (events_at queues f)
+pub events_law : (queues : Queues) (f : PathValue) → AreQueues queues → IsKeyed f (events_at queues f)
+    × IsBothInFront (events_at queues f)
 events_law queues f a = by (queue_at queues f) refl
   where
-    by : (o : Option (List Timed)) → queue_at queues f ≡ o → IsKeyed f (unwrap_or o []) × IsBothInFront (unwrap_or o [])
+    by : (o : Option (List Timed)) → queue_at queues f ≡ o → IsKeyed f (unwrap_or o [])
+        × IsBothInFront (unwrap_or o [])
     by None e = (tt, tt)
     by (Some q) e = let law = found_queue queues f q a e in (law.1, law.2)
 
 -- a joined rename keeps the laws of the queues at its two paths, and adds one event at most
-pub good-halves : (queues : Queues) (f t : PathValue) (time : ℕ) (attrs : AttributesValue) (n : ℕ) → AreGood queues n → AreGood (joined_halves queues f t time attrs) (n + 1)
+pub good-halves : (queues : Queues) (f t : PathValue) (time : ℕ) (attrs : AttributesValue) (n : ℕ) →
+    AreGood queues n → AreGood (joined_halves queues f t time attrs) (n + 1)
 good-halves queues f t time attrs n g =
     good-set rest t (arrived events (queue_at rest t) f t time attrs) m (n + 1) left
-    (arrived_law (first_both events) moved (queue_at rest t) f t time attrs (keyed-moved t (moving kept) none) (no_both-moved t (moving kept) none))
-    (omega (arith, left.bounded, g.bounded, length-arrived (first_both events) moved (queue_at rest t) f t time attrs (λ q e. (found_queue rest t q left.kept e).0), length-map (moving kept) (at_path t), length-moving kept, length-without_both events, length-take-less (length waited - 1) waited, length-events_at (queue_at queues f), sum_by-remove_entry length (is_at (path_cmp f)) queues))
+    (arrived_law (first_both events) moved (queue_at rest t) f t time attrs (keyed-moved t (moving kept) none)
+    (no_both-moved t (moving kept) none))
+    (omega (
+      arith,
+      left.bounded,
+      g.bounded,
+      length-arrived (first_both events) moved (queue_at rest t) f t time
+          attrs (λ q e. (found_queue rest t q left.kept e).0),
+      length-map (moving kept) (at_path t),
+      length-moving kept,
+      length-without_both events,
+      length-take-less (length waited - 1) waited,
+      length-events_at (queue_at queues f),
+      sum_by-remove_entry length (is_at (path_cmp f)) queues,
+    ))
   where
     waited : List Timed
     waited = events_at queues f
@@ -273,10 +320,12 @@ good-halves queues f t time attrs n g =
     law = events_law queues f g.kept
 
     none : HasNoBoth (moving kept)
-    none = each-moving (λ x. is_both x ≡ false) kept (no_both-without events (in_front-take (length waited - 1) waited law.1))
+    none = each-moving (λ x. is_both x ≡ false) kept
+        (no_both-without events (in_front-take (length waited - 1) waited law.1))
 
     keyed : IsKeyed f kept
-    keyed = each-without_both (λ x. IsFirst f (kept_by x)) events (each-take (λ x. IsFirst f (kept_by x)) (length waited - 1) waited law.0)
+    keyed = each-without_both (λ x. IsFirst f (kept_by x)) events
+        (each-take (λ x. IsFirst f (kept_by x)) (length waited - 1) waited law.0)
 
     rest : Queues
     rest = left_behind queues f (staying kept)
@@ -285,4 +334,5 @@ good-halves queues f t time attrs n g =
     m = count (staying kept) + waiting_in queues - waits_at queues f
 
     left : AreGood rest m
-    left = good-left queues f n m (staying kept) g (λ x e. each-staying (λ y. IsFirst f (kept_by y)) kept x keyed e) (omega arith)
+    left = good-left queues f n m (staying kept) g (λ x e. each-staying (λ y. IsFirst f (kept_by y)) kept x
+        keyed e) (omega arith)

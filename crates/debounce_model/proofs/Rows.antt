@@ -63,33 +63,58 @@ abbrev all_of : List Timed → Queues
 all_of xs = (taken (empty_state 50) xs).queues
 
 -- a file that waits below a renamed folder goes along
-creation_goes_along : all_of (made (at2 (codes "d") (codes "x")) 0 ∷ from (at1 (codes "d")) 1 1 ∷ to (at1 (codes "e")) 1 2 ∷ [])
-    ≡ (at1 (codes "e"), both (at1 (codes "d")) (at1 (codes "e")) 1 1 ∷ []) ∷ (at2 (codes "e") (codes "x"), made (at2 (codes "e") (codes "x")) 1 ∷ []) ∷ []
+creation_goes_along : all_of (made (at2 (codes "d") (codes "x")) 0 ∷ from (at1 (codes "d")) 1 1 ∷ to
+    (at1 (codes "e")) 1 2 ∷ [])
+    ≡ (at1 (codes "e"), both (at1 (codes "d")) (at1 (codes "e")) 1 1 ∷ []) ∷ (
+      at2 (codes "e") (codes "x"),
+      made (at2 (codes "e") (codes "x")) 1 ∷ [],
+    ) ∷ []
 creation_goes_along = refl
 
 -- what waits below the new path is dropped
-target_below_is_dropped : all_of (changed (at2 (codes "e") (codes "y")) 0 ∷ made (at2 (codes "d") (codes "x")) 1 ∷ from (at1 (codes "d")) 1 2 ∷ to (at1 (codes "e")) 1 3 ∷ [])
-    ≡ (at1 (codes "e"), both (at1 (codes "d")) (at1 (codes "e")) 1 2 ∷ []) ∷ (at2 (codes "e") (codes "x"), made (at2 (codes "e") (codes "x")) 2 ∷ []) ∷ []
+target_below_is_dropped : all_of (changed (at2 (codes "e") (codes "y")) 0 ∷ made (at2 (codes "d") (codes "x"))
+    1 ∷ from (at1 (codes "d")) 1 2 ∷ to (at1 (codes "e")) 1 3 ∷ [])
+    ≡ (at1 (codes "e"), both (at1 (codes "d")) (at1 (codes "e")) 1 2 ∷ []) ∷ (
+      at2 (codes "e") (codes "x"),
+      made (at2 (codes "e") (codes "x")) 2 ∷ [],
+    ) ∷ []
 target_below_is_dropped = refl
 
 -- of a joined rename below the folder both paths go along
-joined_rename_goes_along : all_of (from (at2 (codes "d") (codes "a")) 1 0 ∷ to (at2 (codes "d") (codes "b")) 1 1 ∷ from (at1 (codes "d")) 2 2 ∷ to (at1 (codes "e")) 2 3 ∷ [])
-    ≡ (at1 (codes "e"), both (at1 (codes "d")) (at1 (codes "e")) 2 2 ∷ []) ∷ (at2 (codes "e") (codes "b"), both (at2 (codes "e") (codes "a")) (at2 (codes "e") (codes "b")) 1 2 ∷ []) ∷ []
+joined_rename_goes_along : all_of (from (at2 (codes "d") (codes "a")) 1 0 ∷ to (at2 (codes "d") (codes "b")) 1
+    1 ∷ from (at1 (codes "d")) 2 2 ∷ to (at1 (codes "e")) 2 3 ∷ [])
+    ≡ (at1 (codes "e"), both (at1 (codes "d")) (at1 (codes "e")) 2 2 ∷ []) ∷ (
+      at2 (codes "e") (codes "b"),
+      both (at2 (codes "e") (codes "a")) (at2 (codes "e") (codes "b")) 1 2 ∷ [],
+    ) ∷ []
 joined_rename_goes_along = refl
 
 -- below a folder that is renamed into itself nothing moves
-folder_into_itself : all_of (made (at2 (codes "d") (codes "x")) 0 ∷ from (at1 (codes "d")) 1 1 ∷ to (at2 (codes "d") (codes "e")) 1 2 ∷ [])
-    ≡ (at2 (codes "d") (codes "e"), both (at1 (codes "d")) (at2 (codes "d") (codes "e")) 1 1 ∷ []) ∷ (at2 (codes "d") (codes "x"), made (at2 (codes "d") (codes "x")) 0 ∷ []) ∷ []
+folder_into_itself : all_of (made (at2 (codes "d") (codes "x")) 0 ∷ from (at1 (codes "d")) 1 1 ∷ to
+    (at2 (codes "d") (codes "e")) 1 2 ∷ [])
+    ≡ (at2 (codes "d") (codes "e"), both (at1 (codes "d")) (at2 (codes "d") (codes "e")) 1 1 ∷ []) ∷ (
+      at2
+          (codes "d") (codes "x"),
+      made (at2 (codes "d") (codes "x")) 0 ∷ [],
+    ) ∷ []
 folder_into_itself = refl
 
 -- a path that only has the folder as its text's beginning stays
-path_by_text_stays : all_of (made (at2 (codes "ab") (codes "x")) 0 ∷ from (at1 (codes "a")) 1 1 ∷ to (at1 (codes "c")) 1 2 ∷ [])
-    ≡ (at2 (codes "ab") (codes "x"), made (at2 (codes "ab") (codes "x")) 0 ∷ []) ∷ (at1 (codes "c"), both (at1 (codes "a")) (at1 (codes "c")) 1 1 ∷ []) ∷ []
+path_by_text_stays : all_of (made (at2 (codes "ab") (codes "x")) 0 ∷ from (at1 (codes "a")) 1 1 ∷ to
+    (at1 (codes "c")) 1 2 ∷ [])
+    ≡ (at2 (codes "ab") (codes "x"), made (at2 (codes "ab") (codes "x")) 0 ∷ []) ∷ (
+      at1 (codes "c"),
+      both (at1 (codes "a")) (at1 (codes "c")) 1 1 ∷ [],
+    ) ∷ []
 path_by_text_stays = refl
 
 -- an event that goes along is no older than the rename
-time_is_raised : all_of (folder (at1 (codes "d")) 0 ∷ made (at2 (codes "d") (codes "x")) 5 ∷ from (at1 (codes "d")) 1 6 ∷ to (at1 (codes "e")) 1 7 ∷ [])
-    ≡ (at1 (codes "e"), folder (at1 (codes "e")) 0 ∷ []) ∷ (at2 (codes "e") (codes "x"), made (at2 (codes "e") (codes "x")) 6 ∷ []) ∷ []
+time_is_raised : all_of (folder (at1 (codes "d")) 0 ∷ made (at2 (codes "d") (codes "x")) 5 ∷ from
+    (at1 (codes "d")) 1 6 ∷ to (at1 (codes "e")) 1 7 ∷ [])
+    ≡ (at1 (codes "e"), folder (at1 (codes "e")) 0 ∷ []) ∷ (
+      at2 (codes "e") (codes "x"),
+      made (at2 (codes "e") (codes "x")) 6 ∷ [],
+    ) ∷ []
 time_is_raised = refl
 
 -- an event that is ignored
@@ -102,14 +127,19 @@ any a n = ev (Create create.Any) (at1 a ∷ []) no_attributes n
 
 -- a tick at 100, an event at 20, a tick at 60, and an ignored event at 150
 abbrev after_early_events : State
-after_early_events = taken (tick_step (taken (tick_step (empty_state 50) 100 []) (any (codes "a") 20 ∷ [])) 60 []) (other (codes "q") 150 ∷ [])
+after_early_events =
+    taken (tick_step (taken (tick_step (empty_state 50) 100 []) (any (codes "a") 20 ∷ [])) 60 [])
+    (other (codes "q") 150 ∷ [])
 
 -- an event and a tick that come early are taken at the latest moment: an ignored event raised it
-raised_by_an_ignored_event : places (is_expired_in after_early_events 70) after_early_events ≡ any (codes "a") 100 ∷ []
+raised_by_an_ignored_event : places (is_expired_in after_early_events 70) after_early_events
+    ≡ any (codes "a") 100 ∷ []
 raised_by_an_ignored_event = refl
 
 -- .. at 60 nothing is due, since the first tick came at 100
-early_tick_hands_out_nothing : places (is_expired_in (taken (tick_step (empty_state 50) 100 []) (any (codes "a") 20 ∷ [])) 60) (taken (tick_step (empty_state 50) 100 []) (any (codes "a") 20 ∷ [])) ≡ []
+early_tick_hands_out_nothing : places
+    (is_expired_in (taken (tick_step (empty_state 50) 100 []) (any (codes "a") 20 ∷ [])) 60)
+    (taken (tick_step (empty_state 50) 100 []) (any (codes "a") 20 ∷ [])) ≡ []
 early_tick_hands_out_nothing = refl
 
 -- .. a tick at 70 leaves the latest moment
@@ -125,5 +155,6 @@ waits_from_the_raised_moment : places (is_expired_in after_an_ignored_event 79) 
 waits_from_the_raised_moment = refl
 
 -- .. and no longer than that
-waits_from_the_raised_moment_due : places (is_expired_in after_an_ignored_event 80) after_an_ignored_event ≡ any (codes "a") 30 ∷ []
+waits_from_the_raised_moment_due : places (is_expired_in after_an_ignored_event 80) after_an_ignored_event
+    ≡ any (codes "a") 30 ∷ []
 waits_from_the_raised_moment_due = refl

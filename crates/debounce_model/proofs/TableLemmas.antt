@@ -21,12 +21,14 @@ first_of-found [] p h = cc
 first_of-found (q ∷ qs) p h = cc
 
 -- where no first path is found, an event without a flag is ignored
-pub unflagged-none : (k : EventKind) (ps : List PathValue) (exists : Bool) → slice_get ps 0 ≡ None → unflagged_case k ps exists ≡ Ignored
+pub unflagged-none : (k : EventKind) (ps : List PathValue) (exists : Bool) → slice_get ps 0 ≡ None →
+    unflagged_case k ps exists ≡ Ignored
 unflagged-none k [] exists h = refl
 unflagged-none k (p ∷ ps) exists h = cc
 
 -- where one is found, it has the case of its kind
-pub unflagged-some : (k : EventKind) (ps : List PathValue) (exists : Bool) (p : PathValue) → Some p ≡ slice_get ps 0 → unflagged_case k ps exists ≡ kind_case k exists
+pub unflagged-some : (k : EventKind) (ps : List PathValue) (exists : Bool) (p : PathValue) →
+    Some p ≡ slice_get ps 0 → unflagged_case k ps exists ≡ kind_case k exists
 unflagged-some k [] exists p h = cc
 unflagged-some k (q ∷ ps) exists p h = refl
 
@@ -42,10 +44,12 @@ not_both (Modify (modify.Name rename.Both)) exists h = absurd (true≢false (sym
 not_both k exists h = refl
 
 -- an event that may change the queues is no joined rename, and has a first path
-pub acting_event : (x : Timed) (exists : Bool) → acts (case_of x.event exists) ≡ true → (is_both x ≡ false) × IsFirst (first_of x.event.paths) x.event.paths
+pub acting_event : (x : Timed) (exists : Bool) → acts (case_of x.event exists) ≡ true → (is_both x ≡ false)
+    × IsFirst (first_of x.event.paths) x.event.paths
 acting_event x exists h = by (is_some x.event.attrs.flag) x.event.paths h
   where
-    by : (b : Bool) (ps : List PathValue) → acts (cond b Rescan (unflagged_case x.event.kind ps exists)) ≡ true → (is_both x ≡ false) × IsFirst (first_of ps) ps
+    by : (b : Bool) (ps : List PathValue) → acts (cond b Rescan (unflagged_case x.event.kind ps exists))
+        ≡ true → (is_both x ≡ false) × IsFirst (first_of ps) ps
     by true ps h = absurd (true≢false (sym h))
     by false [] h = absurd (true≢false (sym h))
     by false (p ∷ ps) h = (not_both x.event.kind exists h, refl)
@@ -64,10 +68,12 @@ has_first (q ∷ ps) p h = omega arith
 pub case_fits : (x : Timed) (exists : Bool) → FitsCase (case_of x.event exists) x.event
 case_fits x exists = by (case_of x.event exists) (acting_event x exists)
   where
-    fits : (is_both x ≡ false) × IsFirst (first_of x.event.paths) x.event.paths → (0 < length x.event.paths) × (is_both_kind x.event.kind ≡ false)
+    fits : (is_both x ≡ false) × IsFirst (first_of x.event.paths) x.event.paths → (0 < length x.event.paths)
+        × (is_both_kind x.event.kind ≡ false)
     fits h = (has_first x.event.paths (first_of x.event.paths) h.1, h.0)
 
-    by : (c : Case) → (acts c ≡ true → (is_both x ≡ false) × IsFirst (first_of x.event.paths) x.event.paths) → FitsCase c x.event
+    by : (c : Case) → (acts c ≡ true → (is_both x ≡ false) × IsFirst (first_of x.event.paths) x.event.paths) →
+        FitsCase c x.event
     by Rescan h = tt
     by Creation h = fits (h refl)
     by Removal h = fits (h refl)
@@ -77,7 +83,8 @@ case_fits x exists = by (case_of x.event exists) (acting_event x exists)
     by Ignored h = tt
 
 -- no kind is a rescan
-kind_stays : (k : EventKind) (exists : Bool) (s : State) (x : Timed) (path : PathValue) (answer : Option FileId) → (row (kind_case k exists) s x path answer).rescan_slot ≡ s.rescan_slot
+kind_stays : (k : EventKind) (exists : Bool) (s : State) (x : Timed) (path : PathValue)
+    (answer : Option FileId) → (row (kind_case k exists) s x path answer).rescan_slot ≡ s.rescan_slot
 kind_stays (Modify (modify.Name rename.Any)) true s x path answer = refl
 kind_stays (Modify (modify.Name rename.Any)) false s x path answer = refl
 kind_stays (Modify (modify.Name mode)) exists s x path answer = refl
@@ -85,9 +92,11 @@ kind_stays (Modify k) exists s x path answer = refl
 kind_stays k exists s x path answer = refl
 
 -- an event without a flag leaves the rescan slot
-pub rescan_stays : (s : State) (x : Timed) (exists : Bool) (answer : Option FileId) → is_some x.event.attrs.flag ≡ false → (taken_step s x exists answer).rescan_slot ≡ s.rescan_slot
+pub rescan_stays : (s : State) (x : Timed) (exists : Bool) (answer : Option FileId) → is_some x.event.attrs.flag
+    ≡ false → (taken_step s x exists answer).rescan_slot ≡ s.rescan_slot
 rescan_stays s x exists answer f = rw f (by x.event.paths)
   where
-    by : (ps : List PathValue) → (row (unflagged_case x.event.kind ps exists) s x (first_of ps) answer).rescan_slot ≡ s.rescan_slot
+    by : (ps : List PathValue) →
+        (row (unflagged_case x.event.kind ps exists) s x (first_of ps) answer).rescan_slot ≡ s.rescan_slot
     by [] = refl
     by (p ∷ ps) = kind_stays x.event.kind exists s x p answer

@@ -33,7 +33,8 @@ row_calls Creation s e path = Make (AddPath path (recursive_mode s path)) (Answe
 row_calls Removal s e path = Make (RemovePath path) (Answer None)
 row_calls RenameFrom s e path = Ask path (λ number. Make (RemovePath path) (Answer number))
 row_calls RenameTo s e path =
-    Make (AddPath path (recursive_mode s path)) (Ask path (λ number. remove_half (first_half s.rename_slot e number) number))
+    Make (AddPath path (recursive_mode s path))
+    (Ask path (λ number. remove_half (first_half s.rename_slot e number) number))
 row_calls Plain s e path = Ask path (add_missing path (recursive_mode s path))
 row_calls Ignored s e path = Answer None
 

@@ -21,7 +21,8 @@ pub file_id_eq_decides : (a b : FileId) → Decides (file_id_eq a b) (a ≡ b)
 file_id_eq_decides a b =
     let device = unsigned_Decides a.device b.device in
     let number = unsigned_Decides a.number b.number in
-    Decides-like _ (λ p i. record { device = p.0 i; number = p.1 i }) (λ e. (cc, cc)) (Decides-and _ _ device number)
+    Decides-like _ (λ p i. record { device = p.0 i; number = p.1 i }) (λ e. (cc, cc))
+    (Decides-and _ _ device number)
 
 -- the test of lists of events decides whether they are one
 pub events_eq_decides : (a b : List Timed) → Decides (events_eq a b) (a ≡ b)
@@ -43,23 +44,33 @@ command_eq_decides (EventCommand event now exists) (EventCommand other_event oth
     let same_event = event_eq_decides event other_event in
     let same_now = unsigned_Decides now other_now in
     let same_exists = booleans_Decides exists other_exists in
-    Decides-like _ (λ p i. EventCommand (p.0.0 i) (p.0.1 i) (p.1 i)) (λ e. ((cc, cc), cc)) (Decides-and _ _ (Decides-and _ _ same_event same_now) same_exists)
-command_eq_decides (ErrorCommand error) (ErrorCommand other_error) = Decides-like _ (ap ErrorCommand) (λ e. cc) (error_eq_decides error other_error)
-command_eq_decides (RootCommand path mode) (RootCommand other_path other_mode) = Decides-like _ (λ p i. RootCommand (p.0 i) (p.1 i)) (λ e. (cc, cc)) (Decides-and _ _ (path_eq_decides path other_path) (mode_eq_decides mode other_mode))
-command_eq_decides (UnrootCommand path) (UnrootCommand other_path) = Decides-like _ (ap UnrootCommand) (λ e. cc) (path_eq_decides path other_path)
+    Decides-like _ (λ p i. EventCommand (p.0.0 i) (p.0.1 i) (p.1 i)) (λ e. ((cc, cc), cc))
+    (Decides-and _ _ (Decides-and _ _ same_event same_now) same_exists)
+command_eq_decides (ErrorCommand error) (ErrorCommand other_error) =
+    Decides-like _ (ap ErrorCommand) (λ e. cc) (error_eq_decides error other_error)
+command_eq_decides (RootCommand path mode) (RootCommand other_path other_mode) =
+    Decides-like _ (λ p i. RootCommand (p.0 i) (p.1 i)) (λ e. (cc, cc))
+    (Decides-and _ _ (path_eq_decides path other_path) (mode_eq_decides mode other_mode))
+command_eq_decides (UnrootCommand path) (UnrootCommand other_path) =
+    Decides-like _ (ap UnrootCommand) (λ e. cc) (path_eq_decides path other_path)
 command_eq_decides ErrorsCommand ErrorsCommand = Decides-true refl
-command_eq_decides (TickCommand now) (TickCommand other_now) = Decides-like _ (ap TickCommand) (λ e. cc) (unsigned_Decides now other_now)
+command_eq_decides (TickCommand now) (TickCommand other_now) =
+    Decides-like _ (ap TickCommand) (λ e. cc) (unsigned_Decides now other_now)
 command_eq_decides a b = Decides-false (λ e. cc)
 
 -- the test of replies decides whether they are one
 pub reply_eq_decides : (a b : ReplyValue) → Decides (reply_eq a b) (a ≡ b)
-reply_eq_decides (TakenReply x) (TakenReply y) = Decides-like _ (ap TakenReply) (λ e. cc) (option_eq_decides file_id_eq_decides x y)
+reply_eq_decides (TakenReply x) (TakenReply y) =
+    Decides-like _ (ap TakenReply) (λ e. cc) (option_eq_decides file_id_eq_decides x y)
 reply_eq_decides NotedReply NotedReply = Decides-true refl
 reply_eq_decides RootedReply RootedReply = Decides-true refl
 reply_eq_decides UnrootedReply UnrootedReply = Decides-true refl
-reply_eq_decides (ErrorsReply x) (ErrorsReply y) = Decides-like _ (ap ErrorsReply) (λ e. cc) (errors_eq_decides x y)
-reply_eq_decides (BatchReply x) (BatchReply y) = Decides-like _ (ap BatchReply) (λ e. cc) (events_eq_decides x y)
-reply_eq_decides (RefusedReply x) (RefusedReply y) = Decides-like _ (ap RefusedReply) (λ e. cc) (error_eq_decides x y)
+reply_eq_decides (ErrorsReply x) (ErrorsReply y) =
+    Decides-like _ (ap ErrorsReply) (λ e. cc) (errors_eq_decides x y)
+reply_eq_decides (BatchReply x) (BatchReply y) =
+    Decides-like _ (ap BatchReply) (λ e. cc) (events_eq_decides x y)
+reply_eq_decides (RefusedReply x) (RefusedReply y) =
+    Decides-like _ (ap RefusedReply) (λ e. cc) (error_eq_decides x y)
 reply_eq_decides a b = Decides-false (λ e. cc)
 
 -- equality of lists of events is an equivalence

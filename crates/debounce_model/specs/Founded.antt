@@ -45,7 +45,8 @@ pub record IsSecondHalf (a : AcceptedEvent) (t : PathValue) : Type 0 where
 
 -- both trackers, or both answers, are there and equal
 abbrev pub are_linked : AcceptedEvent → AcceptedEvent → Bool
-are_linked a b = are_equal (λ x y. x == y) a.event.attrs.tracker b.event.attrs.tracker || are_equal file_id_eq a.answer b.answer
+are_linked a b = are_equal (λ x y. x == y) a.event.attrs.tracker b.event.attrs.tracker
+    || are_equal file_id_eq a.answer b.answer
 
 -- among the accepted events a first half from f is followed by a second half to t that is linked to it, with no
 -- rename between them
@@ -67,7 +68,8 @@ pub data Founded (history : List AcceptedEvent) : PathValue → PathValue → Ty
   TakenOn : {o f t : PathValue} → Founded history o f → Matched history f t → Founded history o t
   -- it was founded and ended strictly below f, and a pair of halves took what is strictly below f along to t, so both
   -- its paths are now as after that; neither of f and t lies at or below the other
-  TakenAlong : {o s f t : PathValue} → Founded history o s → Matched history f t → is_below s f ≡ true → are_apart f t ≡ true → Founded history (moved_path f t o) (moved_path f t s)
+  TakenAlong : {o s f t : PathValue} → Founded history o s → Matched history f t → is_below s f ≡ true →
+      are_apart f t ≡ true → Founded history (moved_path f t o) (moved_path f t s)
 
 -- there are exactly two paths, and the rename from the first to the second is founded
 abbrev pub AreFounded : List AcceptedEvent → List PathValue → Type 0

@@ -42,7 +42,8 @@ is_waiting path kind s = list_any (stands_for kind) (events_at s.queues path)
 
 -- such an event is among these events, with this first path
 abbrev pub is_among : PathValue → EventKind → List Timed → Bool
-is_among path kind batch = list_any (λ x. has_first (λ p. path_eq p path) x.event.paths && stands_for kind x) batch
+is_among path kind batch = list_any (λ x. has_first (λ p. path_eq p path) x.event.paths && stands_for kind x)
+    batch
 
 -- such an event is in some batch of these replies
 abbrev pub is_emitted : PathValue → EventKind → List ReplyValue → Bool
@@ -54,7 +55,8 @@ is_emitted path kind (reply ∷ replies) = is_emitted path kind replies
 -- removal took the path away
 abbrev pub is_change_kept : PathValue → EventKind → List CommandValue → List ReplyValue → State → Bool
 is_change_kept path kind commands replies s =
-    list_any (takes_away path) (accepted commands replies) || (is_waiting path kind s || is_emitted path kind replies)
+    list_any (takes_away path) (accepted commands replies)
+    || (is_waiting path kind s || is_emitted path kind replies)
 
 -- a change at the first of these paths, if there is one, is kept
 abbrev pub is_kept_at : List PathValue → EventKind → List CommandValue → List ReplyValue → State → Bool
@@ -67,7 +69,8 @@ tells_change e = not (is_some e.attrs.flag) && (is_creation e.kind || is_plain e
 
 -- the change that an event told, if it told one, is kept
 abbrev pub is_event_kept : EventValue → List CommandValue → List ReplyValue → State → Bool
-is_event_kept e commands replies s = if tells_change e then is_kept_at e.paths e.kind commands replies s else true
+is_event_kept e commands replies s = if tells_change e then is_kept_at e.paths e.kind commands replies s
+    else true
 
 -- each change that an accepted event told is kept in this final state
 abbrev pub is_kept : List CommandValue → List ReplyValue → State → Bool

@@ -29,7 +29,8 @@ abbrev pub left_at : Queues → PathValue → Queues
 left_at queues path = left_behind queues path (staying (without_both (before_half queues path)))
 
 -- what then waits at t, of an earlier rename, of what goes along, and of what waits at t
-abbrev pub arrived_of : Option Timed → List Timed → Option (List Timed) → PathValue → PathValue → ℕ → AttributesValue → List Timed
+abbrev pub arrived_of : Option Timed → List Timed → Option (List Timed) → PathValue → PathValue → ℕ →
+    AttributesValue → List Timed
 arrived_of earlier going target f t time attrs =
     let moved = map (at_path t) going in
     overriding t (original_time earlier time) target
@@ -64,7 +65,8 @@ stale_one queues f t path = if is_some (queue_at queues (in_place t f path)) the
 -- the paths of these queues that have nothing at the same place below f
 abbrev pub stale_in : Queues → PathValue → PathValue → Queues → List PathValue
 stale_in queues f t [] = []
-stale_in queues f t (e ∷ es) = if is_some (queue_at queues (in_place t f e.0)) then stale_in queues f t es else e.0 ∷ stale_in queues f t es
+stale_in queues f t (e ∷ es) = if is_some (queue_at queues (in_place t f e.0)) then stale_in queues f t es
+    else e.0 ∷ stale_in queues f t es
 
 -- the paths of the queues strictly below t to which nothing is moved from below f
 abbrev pub stale : Queues → PathValue → PathValue → List PathValue

@@ -33,4 +33,5 @@ grows_nothing s e exists = row_grows_nothing (case_of e exists) s.queues e
 
 -- an event takes no memory, with a cache that refuses nothing or any other
 abbrev pub takes_no_memory : Bool → State → EventValue → Bool → Bool
-takes_no_memory refuses_nothing s e exists = (refuses_nothing || is_silent (calls_of s e exists)) && grows_nothing s e exists
+takes_no_memory refuses_nothing s e exists = (refuses_nothing || is_silent (calls_of s e exists))
+    && grows_nothing s e exists

@@ -24,7 +24,12 @@ moved_paths f t n paths = map (moved_path f t) (take n paths) ++ drop n paths
 
 -- an event that goes along: it keeps its kind and its attributes, and is no older than the rename
 abbrev pub moved_event : PathValue → PathValue → ℕ → Timed → Timed
-moved_event f t time x = record { event = record x.event { paths = moved_paths f t (moved_count x) x.event.paths }; time = max x.time time }
+moved_event f t time x =
+    record {
+      event = record x.event { paths = moved_paths f t (moved_count x) x.event.paths };
+      time =
+          max x.time time;
+    }
 
 -- a queue that goes along
 abbrev pub moved_queue : PathValue → PathValue → ℕ → List Timed → List Timed
@@ -62,4 +67,5 @@ began queues f time = original_time (first_both (without_last (events_at queues 
 -- the joined rename from f to t, of which the first half came at this time, and is what came last at f; the
 -- second half has these attributes
 abbrev pub joined_rename : Queues → PathValue → PathValue → ℕ → AttributesValue → Queues
-joined_rename queues f t time attrs = moved_along (joined_halves queues f t time attrs) f t (began queues f time)
+joined_rename queues f t time attrs =
+    moved_along (joined_halves queues f t time attrs) f t (began queues f time)

@@ -28,7 +28,8 @@ without_at paths path = filter (λ p. not (is_prefix path p)) paths
 -- a creation adds its path, a removal takes its path and all below it away, other kinds do nothing
 abbrev pub play_at : Paths → EventKind → PathValue → Paths
 play_at paths kind path =
-    if is_creation kind then with_path paths path else (if is_removal kind then without_at paths path else paths)
+    if is_creation kind then with_path paths path else (if is_removal kind then without_at paths path
+    else paths)
 
 -- an event of this kind is played by the first of its paths; without paths it does nothing
 abbrev pub play_first : Paths → EventKind → List PathValue → Paths
@@ -50,7 +51,8 @@ events_of timed = map (λ x. x.event) timed
 
 -- the accepted events, as they came
 abbrev pub accepted : List CommandValue → List ReplyValue → List EventValue
-accepted (EventCommand event now exists ∷ commands) (TakenReply answer ∷ replies) = event ∷ accepted commands replies
+accepted (EventCommand event now exists ∷ commands) (TakenReply answer ∷ replies) =
+    event ∷ accepted commands replies
 accepted (command ∷ commands) (reply ∷ replies) = accepted commands replies
 accepted commands replies = []
 

@@ -38,7 +38,8 @@ abbrev pub original_path : Option Timed → PathValue → PathValue
 original_path None f = f
 original_path (Some x) f = unwrap_or (slice_get x.event.paths 0) f
 
--- the time at which a rename began whose first half came at this time: that of an earlier rename, if it goes on from one
+-- the time at which a rename began whose first half came at this time: that of an earlier rename, if it goes on
+-- from one
 abbrev pub original_time : Option Timed → ℕ → ℕ
 original_time None time = time
 original_time (Some x) time = x.time
@@ -65,7 +66,15 @@ at_path t x = record x { event = record x.event { paths = t ∷ [] } }
 -- the event that tells the rename from o to t
 abbrev pub rename_event : PathValue → PathValue → AttributesValue → ℕ → Timed
 rename_event o t attrs time =
-    record { event = record { kind = kind.Modify (modify.Name rename.Both); paths = o ∷ t ∷ []; attrs = attrs }; time = time }
+    record {
+      event = record {
+        kind = kind.Modify (modify.Name rename.Both);
+        paths = o ∷ t ∷ [];
+        attrs =
+            attrs;
+      };
+      time = time;
+    }
 
 -- the rename is reported, unless what goes along was created: then that is created at t
 abbrev pub renaming : PathValue → PathValue → AttributesValue → ℕ → List Timed → List Timed

@@ -18,7 +18,8 @@ are_equal eq a b = false
 -- an event is the second half if both halves have one tracker, or both files have one number
 abbrev pub fits : SlotValue → EventValue → Option FileId → Bool
 fits slot e number =
-    are_equal (λ a b. a == b) slot.half.event.attrs.tracker e.attrs.tracker || are_equal file_id_eq slot.number number
+    are_equal (λ a b. a == b) slot.half.event.attrs.tracker e.attrs.tracker
+    || are_equal file_id_eq slot.number number
 
 -- the first of these paths with its time, if the event fits and there is one
 abbrev pub half_of : Bool → List PathValue → ℕ → Option (PathValue × ℕ)

@@ -24,7 +24,8 @@ module _ {C : Type 0} where
       (errors ≡ s.state.errors) × (t ≡ with_state s (without_errors s.state))
   Step r s (TickCommand now) (BatchReply batch) t =
       IsBatch s.state now batch × (t ≡ after_tick s now batch)
-  Step r s (TickCommand now) (RefusedReply error) t = (error ≡ out_of_memory) × (is_due s.state now ≡ true) × (t ≡ s)
+  Step r s (TickCommand now) (RefusedReply error) t = (error ≡ out_of_memory) × (is_due s.state now ≡ true)
+      × (t ≡ s)
   Step r s command reply t = ⊥
 
   -- one reply a command, each with a step

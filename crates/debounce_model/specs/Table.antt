@@ -59,13 +59,21 @@ row Removal s x path answer = record s { queues = removal s.queues path x }
 row RenameFrom s x path answer =
     record s { queues = push s.queues path x; rename_slot = Some (record { half = x; number = answer }) }
 row RenameTo s x path answer =
-    record s { queues = renamed_to s.queues path x (first_half s.rename_slot x.event answer); rename_slot = None }
+    record s {
+      queues = renamed_to s.queues path x (first_half s.rename_slot x.event answer);
+      rename_slot =
+          None;
+    }
 row Plain s x path answer = record s { queues = push s.queues path x }
 row Ignored s x path answer = s
 
 -- an event of this case that is taken at its own time: the row of the case, and it is counted
 abbrev pub taken_as : Case → State → Timed → Option FileId → State
-taken_as case s x answer = record (row case s x (first_of x.event.paths) answer) { latest = x.time; taken = s.taken + 1 }
+taken_as case s x answer = record (row case s x (first_of x.event.paths) answer) {
+  latest = x.time;
+  taken =
+      s.taken + 1;
+}
 
 -- an event that is taken at its own time
 abbrev pub taken_step : State → Timed → Bool → Option FileId → State

@@ -188,8 +188,10 @@ impl<A: Allocator + Copy> Queues<A> {
     ) -> Result<usize, AllocError>
         requires lent { IsLent due self.old plan }
         requires moves { moves plan ≡ true }
-        requires room { vec_len out.old + length (place_list (is_due due) self.old) ≤ vec_capacity out.old }
-        ensures moved { OnOk result (out.new.items ≡ out.old.items ++ place_list (is_due due) self.old) }
+        requires room { vec_len out.old + length (place_list (is_due due) self.old)
+            ≤ vec_capacity out.old }
+        ensures moved { OnOk result (out.new.items ≡ out.old.items
+            ++ place_list (is_due due) self.old) }
         ensures capacity { vec_capacity out.new ≡ vec_capacity out.old }
         ensures count { IfOk result (λ count. count ≡ due_fronts (is_due due) self.old) }
         ensures left { OnOk result (self.new ≡ rests (is_due due) self.old) }

@@ -226,7 +226,8 @@ impl<
     /// If the memory for the root is refused then, the watcher goes on watching until `unwatch`, and
     /// the path is no root.
     pub fn watch(&mut self, path: &PathBuf<A>, mode: RecursiveMode) -> Result<(), Error<A>>
-        ensures { AsksFirst (λ answer. T.watches self.old.watcher path.now mode answer self.new.watcher) result }
+        ensures { AsksFirst (λ answer.
+            T.watches self.old.watcher path.now mode answer self.new.watcher) result }
     {
         self.watcher.watch(path, mode)?;
         let mut book = self.shared.book.lock(&self.shared.rt);
@@ -239,7 +240,8 @@ impl<
     /// The watcher comes first: if it refuses, its error is passed on, and the roots are as they were.
     /// They are also as they were if memory is refused then.
     pub fn unwatch(&mut self, path: &PathBuf<A>) -> Result<(), Error<A>>
-        ensures { AsksFirst (λ answer. T.unwatches self.old.watcher path.now answer self.new.watcher) result }
+        ensures { AsksFirst (λ answer.
+            T.unwatches self.old.watcher path.now answer self.new.watcher) result }
     {
         self.watcher.unwatch(path)?;
         let mut book = self.shared.book.lock(&self.shared.rt);

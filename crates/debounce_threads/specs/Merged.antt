@@ -33,7 +33,8 @@ IsPlain count e = (e.from < count) × (has_no_number e.reply ≡ true)
 
 -- from each script came its commands in their order
 abbrev pub AreOrdered : List (List CommandValue) → List EntryValue → Type 0
-AreOrdered scripts entries = (k : ℕ) → k < length scripts → commands_from k entries ≡ slice_index_or scripts k []
+AreOrdered scripts entries = (k : ℕ) → k < length scripts → commands_from k entries
+    ≡ slice_index_or scripts k []
 
 -- the entries are the commands of these scripts
 pub record AreMerged (scripts : List (List CommandValue)) (entries : List EntryValue) : Type 0 where

@@ -75,7 +75,8 @@ fn strip_first<'s, A: Allocator>(
     commands: &'s [Command<A>],
     first: &Command<A>,
 ) -> Option<&'s [Command<A>]>
-    ensures { option_map (λ more. command_values more.now) result ≡ stripped (command_values commands.now) (command_value first.now) }
+    ensures { option_map (λ more. command_values more.now) result
+        ≡ stripped (command_values commands.now) (command_value first.now) }
 {
     match commands {
         [command, more @ ..] if first == command => Some(more),

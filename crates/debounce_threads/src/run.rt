@@ -52,7 +52,8 @@ fn run_all<M: Meet, A: Allocator + Copy + Send + Sync + 'static, R: Threads + Wa
         thread::scope_env(),
         shared.rt,
         |scope| -> Result<(), Refusal>
-            requires { IsSync R.row × IsSync M.row × IsSend A.row × IsSync A.row × Frees A.Allocator A.dealloc_token }
+            requires { IsSync R.row × IsSync M.row × IsSend A.row × IsSync A.row
+                × Frees A.Allocator A.dealloc_token }
         {
             let mut running = Vec::new(alloc);
             let mut outcome = Ok(());
@@ -121,7 +122,8 @@ pub fn run_threads<M: Meet, A: Allocator + Copy + Send + Sync + 'static, R: Thre
     scripts: Vec<Vec<Command<A>, A>, A>,
     meet: &M,
 ) -> Result<Vec<Entry<A>, A>, Error<A>>
-    ensures ok { IfOk result (λ journal. IsRunOf timeout (script_values scripts.items) journal.items) }
+    ensures ok { IfOk result (λ journal.
+        IsRunOf timeout (script_values scripts.items) journal.items) }
     ensures err { IfErr result IsRefusal }
 {
     match try_run(rt, alloc, timeout, scripts, meet) {

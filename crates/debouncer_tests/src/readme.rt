@@ -9,8 +9,10 @@ fn created(alloc: Global, path: &str) -> Result<Event, Error> {
 }
 
 fn emitted(alloc: Global) -> Result<Vec<DebouncedEvent>, Error> {
-    let mut core = DebounceDataInner::new(alloc, NoCache::new(), 50_000_000); // the timeout, in nanoseconds
-    core.add_event(created(alloc, "/home/file.txt")?, 0, true)?; // for each event of your watcher: when it came, and whether its path exists
+    // The timeout is in nanoseconds.
+    let mut core = DebounceDataInner::new(alloc, NoCache::new(), 50_000_000);
+    // For each event of your watcher: when it came, and whether its path exists.
+    core.add_event(created(alloc, "/home/file.txt")?, 0, true)?;
     core.debounced_events(50_000_000) // at each tick: what is due
 }
 

@@ -154,7 +154,8 @@ impl<A: Allocator> Queue<A> {
         due: Due,
         places: &mut Vec<&'a DebouncedEvent<A>, A>,
     ) -> Result<(), AllocError>
-        ensures { OnOk result (borrowed places.new.items ≡ borrowed places.old.items ++ last_of_kind (expired_beginning (is_due due) self.now)) }
+        ensures { OnOk result (borrowed places.new.items ≡ borrowed places.old.items
+            ++ last_of_kind (expired_beginning (is_due due) self.now)) }
     {
         let events = self.events.as_slice();
         let count = expired_count(events, due);
@@ -164,8 +165,10 @@ impl<A: Allocator> Queue<A> {
     /// Takes the due beginning out of the queue, and returns whether something still waits. The last
     /// event of each kind of it goes to the end of `out`, which has room for them; the others are dropped.
     pub fn take_due(&mut self, due: Due, out: &mut Vec<DebouncedEvent<A>, A>) -> bool
-        requires { vec_len out.old + length (last_of_kind (expired_beginning (is_due due) self.old)) ≤ vec_capacity out.old }
-        ensures moved { out.new.items ≡ out.old.items ++ last_of_kind (expired_beginning (is_due due) self.old) }
+        requires { vec_len out.old + length
+            (last_of_kind (expired_beginning (is_due due) self.old)) ≤ vec_capacity out.old }
+        ensures moved { out.new.items ≡ out.old.items
+            ++ last_of_kind (expired_beginning (is_due due) self.old) }
         ensures capacity { vec_capacity out.new ≡ vec_capacity out.old }
         ensures rest { self.new ≡ rest_after (is_due due) self.old }
         ensures waits { result ≡ waits (rest_after (is_due due) self.old) }

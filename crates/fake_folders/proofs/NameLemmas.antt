@@ -30,30 +30,39 @@ cmp-front [] a b = refl
 cmp-front (x ∷ p) a b = let t : part_cmp x x ≡ Equal = tied_itself part_cmp_total x in rw t (cmp-front p a b)
 
 -- a path of one name is another, or not, as their names are
-one_name : (name other : List ℕ) → is_at (path_cmp (NamePart name ∷ [])) (NamePart other ∷ []) ≡ bytes_eq name other
-one_name name other = by (is_at (path_cmp (NamePart name ∷ [])) (NamePart other ∷ [])) (bytes_eq name other) refl refl
+one_name : (name other : List ℕ) → is_at (path_cmp (NamePart name ∷ [])) (NamePart other ∷ [])
+    ≡ bytes_eq name other
+one_name name other = by (is_at (path_cmp (NamePart name ∷ [])) (NamePart other ∷ [])) (bytes_eq name other)
+    refl refl
   where
     first_bytes : PathValue → List ℕ
     first_bytes [] = []
     first_bytes (x ∷ p) = part_bytes x
 
-    by : (a b : Bool) → is_at (path_cmp (NamePart name ∷ [])) (NamePart other ∷ []) ≡ a → bytes_eq name other ≡ b → a ≡ b
+    by : (a b : Bool) → is_at (path_cmp (NamePart name ∷ [])) (NamePart other ∷ []) ≡ a → bytes_eq name other
+        ≡ b → a ≡ b
     by true true h k = refl
     by false false h k = refl
-    by true false h k = let same : name ≡ other = ap first_bytes (at-same (NamePart name ∷ []) (NamePart other ∷ []) h) in absurd (true≢false (sym ((bytes_eq-Decides name other).1 same) ∙ k))
+    by true false h k = let same : name ≡ other =
+        ap first_bytes (at-same (NamePart name ∷ []) (NamePart other ∷ []) h) in
+        absurd (true≢false (sym ((bytes_eq-Decides name other).1 same) ∙ k))
     by false true h k =
         let same : name ≡ other = (bytes_eq-Decides name other).0 k in
-        let tied : is_at (path_cmp (NamePart name ∷ [])) (NamePart other ∷ []) ≡ true = sym (path_matches_eq (NamePart name ∷ []) (NamePart other ∷ [])) ∙ (path_eq_decides (NamePart name ∷ []) (NamePart other ∷ [])).1 (ap (λ n. NamePart n ∷ []) same) in
+        let tied : is_at (path_cmp (NamePart name ∷ [])) (NamePart other ∷ []) ≡ true =
+        sym (path_matches_eq (NamePart name ∷ []) (NamePart other ∷ []))
+        ∙ (path_eq_decides (NamePart name ∷ []) (NamePart other ∷ [])).1 (ap (λ n. NamePart n ∷ []) same) in
         absurd (true≢false (sym tied ∙ h))
 
 -- parts that are not one name are not this one
-other_parts : (name : List ℕ) (r : PathValue) → is_at (path_cmp (NamePart name ∷ [])) r ≡ is_this name (only_name r)
+other_parts : (name : List ℕ) (r : PathValue) → is_at (path_cmp (NamePart name ∷ [])) r
+    ≡ is_this name (only_name r)
 other_parts name [] = refl
 other_parts name (RootPart ∷ r) = refl
 other_parts name (CurPart ∷ r) = refl
 other_parts name (ParentPart ∷ r) = refl
 other_parts name (NamePart other ∷ []) = one_name name other
-other_parts name (NamePart other ∷ x ∷ r) = by (is_at (path_cmp (NamePart name ∷ [])) (NamePart other ∷ x ∷ r)) refl
+other_parts name (NamePart other ∷ x ∷ r) =
+    by (is_at (path_cmp (NamePart name ∷ [])) (NamePart other ∷ x ∷ r)) refl
   where
     longer : NamePart name ∷ [] ≡ NamePart other ∷ x ∷ r → true ≡ false
     longer e = ap is_one e
@@ -67,26 +76,34 @@ other_parts name (NamePart other ∷ x ∷ r) = by (is_at (path_cmp (NamePart na
     by false h = refl
 
 -- the path is that of the name in the folder where its name there is this one
-pub is_name_in : (folder path : PathValue) (name : List ℕ) → is_at (path_cmp (folder ++ NamePart name ∷ [])) path ≡ is_this name (name_in folder path)
+pub is_name_in : (folder path : PathValue) (name : List ℕ) →
+    is_at (path_cmp (folder ++ NamePart name ∷ [])) path ≡ is_this name (name_in folder path)
 is_name_in folder path name = by (is_prefix folder path) refl
   where
-    by : (b : Bool) → is_prefix folder path ≡ b → is_at (path_cmp (folder ++ NamePart name ∷ [])) path ≡ is_this name (if b then only_name (drop (length folder) path) else None)
+    by : (b : Bool) → is_prefix folder path ≡ b → is_at (path_cmp (folder ++ NamePart name ∷ [])) path
+        ≡ is_this name (if b then only_name (drop (length folder) path) else None)
     by true h =
         ap (λ q. is_at (path_cmp (folder ++ NamePart name ∷ [])) q) (prefix-rest folder path h)
-        ∙ (at (path_cmp (folder ++ NamePart name ∷ []) (folder ++ drop (length folder) path)) (cmp-front folder (NamePart name ∷ []) (drop (length folder) path))
+        ∙ (at (path_cmp (folder ++ NamePart name ∷ []) (folder ++ drop (length folder) path))
+        (cmp-front folder (NamePart name ∷ []) (drop (length folder) path))
         ∙ other_parts name (drop (length folder) path))
       where
-        at : (o : _) → o ≡ path_cmp (NamePart name ∷ []) (drop (length folder) path) → is_eq o ≡ is_at (path_cmp (NamePart name ∷ [])) (drop (length folder) path)
+        at : (o : _) → o ≡ path_cmp (NamePart name ∷ []) (drop (length folder) path) →
+            is_eq o ≡ is_at (path_cmp (NamePart name ∷ [])) (drop (length folder) path)
         at o e = ap is_eq e
     by false h = none (is_at (path_cmp (folder ++ NamePart name ∷ [])) path) refl
       where
         none : (b : Bool) → is_at (path_cmp (folder ++ NamePart name ∷ [])) path ≡ b → b ≡ false
-        none true e = let same : folder ++ NamePart name ∷ [] ≡ path = at-same (folder ++ NamePart name ∷ []) path e in sym (prefix-append folder (NamePart name ∷ [])) ∙ (ap (is_prefix folder) same ∙ h)
+        none true e = let same : folder ++ NamePart name ∷ [] ≡ path =
+            at-same (folder ++ NamePart name ∷ []) path e in sym (prefix-append folder (NamePart name ∷ []))
+            ∙ (ap (is_prefix folder) same ∙ h)
         none false e = refl
 
 -- these are the names of the folder's entries but for those that are left
 abbrev pub AreSoFar : ListingValue → PathValue → ListingValue → List (List ℕ) → Type 0
-AreSoFar tree folder rest names = (name : List ℕ) → (list_any (bytes_eq name) names || has_path (keys_of rest) (folder ++ NamePart name ∷ [])) ≡ has_entry tree (folder ++ NamePart name ∷ [])
+AreSoFar tree folder rest names = (name : List ℕ) →
+    (list_any (bytes_eq name) names || has_path (keys_of rest) (folder ++ NamePart name ∷ []))
+    ≡ has_entry tree (folder ++ NamePart name ∷ [])
 
 -- a test more at the end, and one more in front
 or_shift : (a b c : Bool) → ((a || (b || false)) || c) ≡ (a || (b || c))
@@ -95,7 +112,9 @@ or_shift false true c = refl
 or_shift false false c = refl
 
 -- one more name
-pub one_more : (tree : ListingValue) (folder path : PathValue) (found : Found) (before rest : ListingValue) (names more : List (List ℕ)) (n : List ℕ) → before ≡ (path, found) ∷ rest → name_in folder path ≡ Some n → more ≡ names ++ n ∷ [] → AreSoFar tree folder before names → AreSoFar tree folder rest more
+pub one_more : (tree : ListingValue) (folder path : PathValue) (found : Found) (before rest : ListingValue)
+    (names more : List (List ℕ)) (n : List ℕ) → before ≡ (path, found) ∷ rest → name_in folder path ≡ Some n →
+    more ≡ names ++ n ∷ [] → AreSoFar tree folder before names → AreSoFar tree folder rest more
 one_more tree folder path found before rest names more n h e k so_far = λ name.
     let q : PathValue = folder ++ NamePart name ∷ [] in
     let others : Bool = has_path (keys_of rest) q in
@@ -107,9 +126,12 @@ one_more tree folder path found before rest names more n h e k so_far = λ name.
     ∙ (ap (λ es. list_any (bytes_eq name) names || has_path (keys_of es) q) (sym h) ∙ so_far name))))
 
 -- no name here
-pub no_more : (tree : ListingValue) (folder path : PathValue) (found : Found) (before rest : ListingValue) (names : List (List ℕ)) → before ≡ (path, found) ∷ rest → name_in folder path ≡ None → AreSoFar tree folder before names → AreSoFar tree folder rest names
+pub no_more : (tree : ListingValue) (folder path : PathValue) (found : Found) (before rest : ListingValue)
+    (names : List (List ℕ)) → before ≡ (path, found) ∷ rest → name_in folder path ≡ None →
+    AreSoFar tree folder before names → AreSoFar tree folder rest names
 no_more tree folder path found before rest names h e so_far = λ name.
     let q : PathValue = folder ++ NamePart name ∷ [] in
     let others : Bool = has_path (keys_of rest) q in
     let here : is_at (path_cmp q) path ≡ false = is_name_in folder path name ∙ ap (is_this name) e in
-    ap (λ b. list_any (bytes_eq name) names || (b || others)) (sym here) ∙ (ap (λ es. list_any (bytes_eq name) names || has_path (keys_of es) q) (sym h) ∙ so_far name)
+    ap (λ b. list_any (bytes_eq name) names || (b || others)) (sym here)
+    ∙ (ap (λ es. list_any (bytes_eq name) names || has_path (keys_of es) q) (sym h) ∙ so_far name)

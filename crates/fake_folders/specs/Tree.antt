@@ -1,4 +1,5 @@
--- The names in a folder of a tree, as a walk over the tree finds them. The clauses of functions inside this crate cite this.
+-- The names in a folder of a tree, as a walk over the tree finds them. The clauses of functions inside this crate
+-- cite this.
 use Rattle.std.specs.Prelude.{ℕ, List, [], ◌∷◌, Option, Some, None, length, drop, if◌then◌else◌}
 use Rattle.notify_paths.specs.Path.{PathValue, PartValue, NamePart, is_prefix}
 

@@ -28,7 +28,8 @@ impl<A: Allocator + Copy> TreeFolders<A> {
     /// Returns folders that hold what the listing has. It is `None` if something that isn't a file has
     /// a length there.
     pub fn new(alloc: A, tree: Listing<A>) -> Option<TreeFolders<A>>
-        ensures { MatchOption result (list_all has_own_length tree ≡ false) (λ folders. (folders.tree ≡ tree) × IsTree folders.tree) }
+        ensures { MatchOption result (list_all has_own_length tree
+            ≡ false) (λ folders. (folders.tree ≡ tree) × IsTree folders.tree) }
     {
         if has_own_lengths(&tree) {
             Some(TreeFolders { alloc, tree })
@@ -64,7 +65,8 @@ fn name_in<'a, A: Allocator>(folder: &PathBuf<A>, path: &'a PathBuf<A>) -> Optio
 
 /// The one component, if there is one and it is a name.
 fn only_name(mut components: Components<'_>) -> Option<&str>
-    ensures { option_copied result ≡ only_name (map part_of (components_remaining components.entry)) }
+    ensures { option_copied result
+        ≡ only_name (map part_of (components_remaining components.entry)) }
 {
     match (components.next(), components.next()) {
         (Some(Component::Normal(name)), None) => Some(name),

@@ -84,4 +84,10 @@ module _ {S : Type 0} where
 
     -- what a map of numbers says of itself, over what its scan says
     abbrev pub map_rules : Rules (FileIdMapValue S)
-    map_rules = record { numbers = numbers_of; leaves = map_leaves; refused = map_refused; refuses_nothing = false }
+    map_rules = record {
+      numbers = numbers_of;
+      leaves = map_leaves;
+      refused = map_refused;
+      refuses_nothing =
+          false;
+    }

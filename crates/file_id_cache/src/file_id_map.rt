@@ -107,7 +107,8 @@ fn put_copies<A: Allocator + Copy>(
     entries: &mut Entries<A>,
     pairs: &[(PathBuf<A>, FileId)],
 ) -> Result<(), AllocError>
-    ensures ok { OnOk result (Holds entries.new.entries (with_pairs (numbers_in entries.old.entries) pairs.now)) }
+    ensures ok { OnOk result
+        (Holds entries.new.entries (with_pairs (numbers_in entries.old.entries) pairs.now)) }
     ensures err { OnErr result (Holds entries.new.entries (numbers_in entries.old.entries)) }
 {
     let copies = clone_pairs(alloc, pairs)?;

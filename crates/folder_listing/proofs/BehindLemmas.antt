@@ -11,18 +11,21 @@ use Rattle.notify_paths.proofs.Prefixes.{prefix_itself}
 -- behind the same parts, prefixes are those of the rest
 pub prefix-front : (p a b : PathValue) → is_prefix (p ++ a) (p ++ b) ≡ is_prefix a b
 prefix-front [] a b = refl
-prefix-front (x ∷ p) a b = let t : part_cmp x x ≡ Equal = tied_itself part_cmp_total x in rw t (prefix-front p a b)
+prefix-front (x ∷ p) a b = let t : part_cmp x x ≡ Equal = tied_itself part_cmp_total x in
+    rw t (prefix-front p a b)
 
 -- a path is a prefix of what has more parts behind it
 pub prefix-append : (p r : PathValue) → is_prefix p (p ++ r) ≡ true
 prefix-append [] [] = refl
 prefix-append [] (y ∷ r) = refl
-prefix-append (x ∷ p) r = let t : part_cmp x x ≡ Equal = tied_itself part_cmp_total x in rw t (prefix-append p r)
+prefix-append (x ∷ p) r = let t : part_cmp x x ≡ Equal = tied_itself part_cmp_total x in
+    rw t (prefix-append p r)
 
 -- .. and what has one more part is no prefix of the path
 pub longer_no_prefix : (p : PathValue) (x : PartValue) (r : PathValue) → is_prefix (p ++ x ∷ r) p ≡ false
 longer_no_prefix [] x r = refl
-longer_no_prefix (y ∷ p) x r = let t : part_cmp y y ≡ Equal = tied_itself part_cmp_total y in rw t (longer_no_prefix p x r)
+longer_no_prefix (y ∷ p) x r = let t : part_cmp y y ≡ Equal = tied_itself part_cmp_total y in
+    rw t (longer_no_prefix p x r)
 
 -- what has a path as a prefix is the path and the rest
 pub prefix-rest : (p q : PathValue) → is_prefix p q ≡ true → q ≡ p ++ drop (length p) q
@@ -30,7 +33,8 @@ prefix-rest [] q h = refl
 prefix-rest (x ∷ p) [] h = absurd (true≢false (sym h))
 prefix-rest (x ∷ p) (y ∷ q) h = by (part_cmp x y) refl (prefix-rest p q)
   where
-    by : (o : Ordering) → part_cmp x y ≡ o → (is_prefix p q ≡ true → q ≡ p ++ drop (length p) q) → y ∷ q ≡ x ∷ (p ++ drop (length p) q)
+    by : (o : Ordering) → part_cmp x y ≡ o → (is_prefix p q ≡ true → q ≡ p ++ drop (length p) q) →
+        y ∷ q ≡ x ∷ (p ++ drop (length p) q)
     by Less e more = absurd (true≢false (sym (rw e at h)))
     by Greater e more = absurd (true≢false (sym (rw e at h)))
     by Equal e more =
@@ -52,7 +56,8 @@ pub at-no_prefix : (q p : PathValue) → is_prefix p q ≡ false → is_at (path
 at-no_prefix q p h = by (is_at (path_cmp q) p) refl
   where
     by : (b : Bool) → is_at (path_cmp q) p ≡ b → b ≡ false
-    by true e = let same : q ≡ p = at-same q p e in absurd (true≢false (sym (prefix_itself p) ∙ subst (λ z. is_prefix p z ≡ false) same h))
+    by true e = let same : q ≡ p = at-same q p e in
+        absurd (true≢false (sym (prefix_itself p) ∙ subst (λ z. is_prefix p z ≡ false) same h))
     by false e = refl
 
 -- a path with one more part isn't the path
@@ -60,5 +65,7 @@ pub at-longer : (p : PathValue) (x : PartValue) (r : PathValue) → is_at (path_
 at-longer p x r = by (is_at (path_cmp (p ++ x ∷ r)) p) refl
   where
     by : (b : Bool) → is_at (path_cmp (p ++ x ∷ r)) p ≡ b → b ≡ false
-    by true e = let same : p ++ x ∷ r ≡ p = at-same (p ++ x ∷ r) p e in absurd (true≢false (sym (prefix_itself p) ∙ subst (λ z. is_prefix z p ≡ false) same (longer_no_prefix p x r)))
+    by true e = let same : p ++ x ∷ r ≡ p = at-same (p ++ x ∷ r) p e in
+        absurd (true≢false (sym (prefix_itself p)
+        ∙ subst (λ z. is_prefix z p ≡ false) same (longer_no_prefix p x r)))
     by false e = refl

@@ -49,7 +49,8 @@ filter-same p q h [] = refl
 filter-same p q h (x ∷ xs) = rw (h x) (ap (λ r. cond (q x) (x ∷ r) r) (filter-same p q h xs))
 
 -- .. by tests that are equal on the list
-filter-alike : {X : Type 0} (p q : X → Bool) (xs : List X) → AllByRecursion (λ x. p x ≡ q x) xs → filter p xs ≡ filter q xs
+filter-alike : {X : Type 0} (p q : X → Bool) (xs : List X) → AllByRecursion (λ x. p x ≡ q x) xs →
+    filter p xs ≡ filter q xs
 filter-alike p q [] h = refl
 filter-alike p q (x ∷ xs) h = rw h.0 (ap (λ r. cond (q x) (x ∷ r) r) (filter-alike p q xs h.1))
 
@@ -59,20 +60,25 @@ filter-all [] = refl
 filter-all (x ∷ xs) = ap (λ r. x ∷ r) (filter-all xs)
 
 -- one filter after the other
-filter-twice : {X : Type 0} (p q : X → Bool) (xs : List X) → filter (λ x. not (q x)) (filter (λ x. not (p x)) xs) ≡ filter (λ x. not (p x || q x)) xs
+filter-twice : {X : Type 0} (p q : X → Bool) (xs : List X) →
+    filter (λ x. not (q x)) (filter (λ x. not (p x)) xs) ≡ filter (λ x. not (p x || q x)) xs
 filter-twice p q [] = refl
 filter-twice p q (x ∷ xs) = by (p x) refl (filter-twice p q xs)
   where
-    by : (b : Bool) → p x ≡ b → filter (λ x. not (q x)) (filter (λ x. not (p x)) xs) ≡ filter (λ x. not (p x || q x)) xs → filter (λ x. not (q x)) (filter (λ x. not (p x)) (x ∷ xs)) ≡ filter (λ x. not (p x || q x)) (x ∷ xs)
+    by : (b : Bool) → p x ≡ b → filter (λ x. not (q x)) (filter (λ x. not (p x)) xs)
+        ≡ filter (λ x. not (p x || q x)) xs → filter (λ x. not (q x)) (filter (λ x. not (p x)) (x ∷ xs))
+        ≡ filter (λ x. not (p x || q x)) (x ∷ xs)
     by true h more = rw h more
     by false h more = rw h (ap (λ r. cond (not (q x)) (x ∷ r) r) more)
 
 -- what some element of a filtered list passes, some element of the list passes
-any-filter : {X : Type 0} (t p : X → Bool) (xs : List X) → list_any t (filter p xs) ≡ true → list_any t xs ≡ true
+any-filter : {X : Type 0} (t p : X → Bool) (xs : List X) → list_any t (filter p xs) ≡ true →
+    list_any t xs ≡ true
 any-filter t p [] h = h
 any-filter t p (x ∷ xs) h = by (p x) h (any-filter t p xs)
   where
-    by : (b : Bool) → list_any t (cond b (x ∷ filter p xs) (filter p xs)) ≡ true → (list_any t (filter p xs) ≡ true → list_any t xs ≡ true) → (t x || list_any t xs) ≡ true
+    by : (b : Bool) → list_any t (cond b (x ∷ filter p xs) (filter p xs)) ≡ true →
+        (list_any t (filter p xs) ≡ true → list_any t xs ≡ true) → (t x || list_any t xs) ≡ true
     by false h more = or_right (t x) (list_any t xs) (more h)
     by true h more = at (t x) h
       where
@@ -81,7 +87,8 @@ any-filter t p (x ∷ xs) h = by (p x) h (any-filter t p xs)
         at false k = more k
 
 -- what holds of each holds of each that is left
-each-filter : {X : Type 0} (P : X → Type 0) (p : X → Bool) (xs : List X) → AllByRecursion P xs → AllByRecursion P (filter p xs)
+each-filter : {X : Type 0} (P : X → Type 0) (p : X → Bool) (xs : List X) → AllByRecursion P xs →
+    AllByRecursion P (filter p xs)
 each-filter P p [] a = a
 each-filter P p (x ∷ xs) a = by (p x) (each-filter P p xs a.1)
   where
@@ -90,26 +97,31 @@ each-filter P p (x ∷ xs) a = by (p x) (each-filter P p xs a.1)
     by false h = h
 
 -- what holds of each that fails a test holds of each that is left without those that pass it
-each-left : (P : PathValue × Found → Type 0) (t : PathValue → Bool) (es : ListingValue) → AllByRecursion (λ e. t e.0 ≡ false → P e) es → AllByRecursion P (filter (λ e. not (t e.0)) es)
+each-left : (P : PathValue × Found → Type 0) (t : PathValue → Bool) (es : ListingValue) →
+    AllByRecursion (λ e. t e.0 ≡ false → P e) es → AllByRecursion P (filter (λ e. not (t e.0)) es)
 each-left P t [] a = tt
 each-left P t (e ∷ es) a = by (t e.0) refl (each-left P t es a.1)
   where
-    by : (b : Bool) → t e.0 ≡ b → AllByRecursion P (filter (λ e. not (t e.0)) es) → AllByRecursion P (filter (λ e. not (t e.0)) (e ∷ es))
+    by : (b : Bool) → t e.0 ≡ b → AllByRecursion P (filter (λ e. not (t e.0)) es) →
+        AllByRecursion P (filter (λ e. not (t e.0)) (e ∷ es))
     by true h more = rw h more
     by false h more = rw h (a.0 h, more)
 
 -- what holds of each path of entries holds of each path
-each-key : (P : PathValue → Type 0) (es : ListingValue) → AllByRecursion (λ e. P e.0) es → AllByRecursion P (keys_of es)
+each-key : (P : PathValue → Type 0) (es : ListingValue) → AllByRecursion (λ e. P e.0) es →
+    AllByRecursion P (keys_of es)
 each-key P [] a = tt
 each-key P (e ∷ es) a = (a.0, each-key P es a.1)
 
 -- a test that all paths pass
-pub each-passes : (t : PathValue → Bool) (es : ListingValue) → list_all t (keys_of es) ≡ true → AllByRecursion (λ e. t e.0 ≡ true) es
+pub each-passes : (t : PathValue → Bool) (es : ListingValue) → list_all t (keys_of es) ≡ true →
+    AllByRecursion (λ e. t e.0 ≡ true) es
 each-passes t [] h = tt
 each-passes t (e ∷ es) h = let b = and_both (t e.0) (list_all t (keys_of es)) h in (b.0, each-passes t es b.1)
 
 -- what is left fails the test
-left-fails : (t : PathValue → Bool) (es : ListingValue) → AllByRecursion (λ e. t e.0 ≡ false) (filter (λ e. not (t e.0)) es)
+left-fails : (t : PathValue → Bool) (es : ListingValue) →
+    AllByRecursion (λ e. t e.0 ≡ false) (filter (λ e. not (t e.0)) es)
 left-fails t es = each-left (λ e. t e.0 ≡ false) t es (all es)
   where
     all : (fs : ListingValue) → AllByRecursion (λ e. t e.0 ≡ false → t e.0 ≡ false) fs
@@ -128,7 +140,8 @@ pub each-there : (es : ListingValue) → AllByRecursion (λ e. has_path (keys_of
 each-there [] = tt
 each-there (e ∷ es) = (rw (at_itself e.0) refl, later es (each-there es))
   where
-    later : (fs : ListingValue) → AllByRecursion (λ f. has_path (keys_of es) f.0 ≡ true) fs → AllByRecursion (λ f. has_path (e.0 ∷ keys_of es) f.0 ≡ true) fs
+    later : (fs : ListingValue) → AllByRecursion (λ f. has_path (keys_of es) f.0 ≡ true) fs →
+        AllByRecursion (λ f. has_path (e.0 ∷ keys_of es) f.0 ≡ true) fs
     later [] a = tt
     later (f ∷ fs) a = (or_right (is_at (path_cmp f.0) e.0) (has_path (keys_of es) f.0) a.0, later fs a.1)
 
@@ -140,14 +153,16 @@ play-append paths [] ys = refl
 play-append paths (x ∷ xs) ys = play-append (play_one paths x) xs ys
 
 -- honest events, and then others that are honest behind them
-honest-append : (paths : Paths) (xs ys : List EventValue) → are_honest paths xs ≡ true → are_honest (play paths xs) ys ≡ true → are_honest paths (xs ++ ys) ≡ true
+honest-append : (paths : Paths) (xs ys : List EventValue) → are_honest paths xs ≡ true →
+    are_honest (play paths xs) ys ≡ true → are_honest paths (xs ++ ys) ≡ true
 honest-append paths [] ys h k = k
 honest-append paths (x ∷ xs) ys h k =
     let b = and_both (is_honest_event paths x) (are_honest (play_one paths x) xs) h in
     rw b.0 (honest-append (play_one paths x) xs ys b.1 k)
 
 -- an event at a path that is not empty is honest where its kind is
-honest-event : (paths : Paths) (kind : EventKind) (path : PathValue) → is_nonempty path ≡ true → is_honest_event paths (event_at kind path) ≡ is_honest_at paths kind path
+honest-event : (paths : Paths) (kind : EventKind) (path : PathValue) → is_nonempty path ≡ true →
+    is_honest_event paths (event_at kind path) ≡ is_honest_at paths kind path
 honest-event paths kind [] h = absurd (true≢false (sym h))
 honest-event paths kind (x ∷ xs) h = refl
 
@@ -163,7 +178,8 @@ play-removal paths e = by e.1.kind
     by Other = refl
 
 -- a removal is honest where its path is there
-honest-removal : (paths : Paths) (e : PathValue × Found) → is_nonempty e.0 ≡ true → is_honest_event paths (removal e) ≡ has_path paths e.0
+honest-removal : (paths : Paths) (e : PathValue × Found) → is_nonempty e.0 ≡ true →
+    is_honest_event paths (removal e) ≡ has_path paths e.0
 honest-removal paths e h = honest-event paths (removal_of e.1.kind) e.0 h ∙ by e.1.kind
   where
     by : (k : EntryKind) → is_honest_at paths (removal_of k) e.0 ≡ has_path paths e.0
@@ -172,7 +188,8 @@ honest-removal paths e h = honest-event paths (removal_of e.1.kind) e.0 h ∙ by
     by Other = refl
 
 -- removals leave what lies in none of them
-play-removals : (paths : Paths) (es : ListingValue) → play paths (map removal es) ≡ filter (λ p. not (lies_in es p)) paths
+play-removals : (paths : Paths) (es : ListingValue) → play paths (map removal es)
+    ≡ filter (λ p. not (lies_in es p)) paths
 play-removals paths [] = sym (filter-all paths)
 play-removals paths (e ∷ es) =
     ap (λ ps. play ps (map removal es)) (play-removal paths e)
@@ -184,24 +201,33 @@ AreApart [] = Unit {0}
 AreApart (e ∷ es) = AllByRecursion (λ f. is_prefix e.0 f.0 ≡ false) es × AreApart es
 
 -- removals apart from each other are honest
-honest-removals : (paths : Paths) (es : ListingValue) → AllByRecursion (λ e. is_nonempty e.0 ≡ true) es → AllByRecursion (λ e. has_path paths e.0 ≡ true) es → AreApart es → are_honest paths (map removal es) ≡ true
+honest-removals : (paths : Paths) (es : ListingValue) → AllByRecursion (λ e. is_nonempty e.0 ≡ true) es →
+    AllByRecursion (λ e. has_path paths e.0 ≡ true) es → AreApart es → are_honest paths (map removal es) ≡ true
 honest-removals paths [] n h a = refl
 honest-removals paths (e ∷ es) n h a =
     let first : is_honest_event paths (removal e) ≡ true = honest-removal paths e n.0 ∙ h.0 in
-    let rest : are_honest (without_at paths e.0) (map removal es) ≡ true = honest-removals (without_at paths e.0) es n.1 (later es h.1 a.0) a.1 in
+    let rest : are_honest (without_at paths e.0) (map removal es) ≡ true =
+    honest-removals (without_at paths e.0) es n.1 (later es h.1 a.0) a.1 in
     rw (first, play-removal paths e) rest
   where
-    later : (fs : ListingValue) → AllByRecursion (λ f. has_path paths f.0 ≡ true) fs → AllByRecursion (λ f. is_prefix e.0 f.0 ≡ false) fs → AllByRecursion (λ f. has_path (without_at paths e.0) f.0 ≡ true) fs
+    later : (fs : ListingValue) → AllByRecursion (λ f. has_path paths f.0 ≡ true) fs →
+        AllByRecursion (λ f. is_prefix e.0 f.0 ≡ false) fs →
+        AllByRecursion (λ f. has_path (without_at paths e.0) f.0 ≡ true) fs
     later [] h a = tt
-    later (f ∷ fs) h a = (has-filter (λ p. not (is_prefix e.0 p)) f.0 paths ∙ rw (a.0, h.0) refl, later fs h.1 a.1)
+    later (f ∷ fs) h a =
+        (has-filter (λ p. not (is_prefix e.0 p)) f.0 paths ∙ rw (a.0, h.0) refl, later fs h.1 a.1)
 
 -- entries below none of some entries that they are among are apart
-apart : (all es : ListingValue) → IsStrictlySortedBy path_cmp (keys_of es) → AllByRecursion (λ f. lies_below all f.0 ≡ false) es → ((q : PathValue) → lies_below es q ≡ true → lies_below all q ≡ true) → AreApart es
+apart : (all es : ListingValue) → IsStrictlySortedBy path_cmp (keys_of es) →
+    AllByRecursion (λ f. lies_below all f.0 ≡ false) es →
+    ((q : PathValue) → lies_below es q ≡ true → lies_below all q ≡ true) → AreApart es
 unfolding IsStrictlySortedBy
 apart all [] s a m = tt
-apart all (e ∷ es) s a m = (later es s.0 a.1, apart all es s.1 a.1 (λ q h. m q (or_right (is_below q e.0) (lies_below es q) h)))
+apart all (e ∷ es) s a m =
+    (later es s.0 a.1, apart all es s.1 a.1 (λ q h. m q (or_right (is_below q e.0) (lies_below es q) h)))
   where
-    later : (fs : ListingValue) → AreAbove e.0 (keys_of fs) → AllByRecursion (λ f. lies_below all f.0 ≡ false) fs → AllByRecursion (λ f. is_prefix e.0 f.0 ≡ false) fs
+    later : (fs : ListingValue) → AreAbove e.0 (keys_of fs) →
+        AllByRecursion (λ f. lies_below all f.0 ≡ false) fs → AllByRecursion (λ f. is_prefix e.0 f.0 ≡ false) fs
     later [] b a = tt
     later (f ∷ fs) b a = (at (is_prefix e.0 f.0) refl, later fs b.1 a.1)
       where
@@ -215,7 +241,9 @@ apart all (e ∷ es) s a m = (later es s.0 a.1, apart all es s.1 a.1 (λ q h. m 
 -- ---- what lies in nothing that is gone
 
 -- what lies in one of the entries lies in one that is below none
-in-tops : (all : ListingValue) (p : PathValue) (es : ListingValue) → IsStrictlySortedBy path_cmp (keys_of es) → ((q : PathValue) → is_prefix q p ≡ true → lies_below all q ≡ lies_below es q) → lies_in es p ≡ true → lies_in (filter (λ e. not (lies_below all e.0)) es) p ≡ true
+in-tops : (all : ListingValue) (p : PathValue) (es : ListingValue) → IsStrictlySortedBy path_cmp (keys_of es) →
+    ((q : PathValue) → is_prefix q p ≡ true → lies_below all q ≡ lies_below es q) → lies_in es p ≡ true →
+    lies_in (filter (λ e. not (lies_below all e.0)) es) p ≡ true
 unfolding IsStrictlySortedBy
 in-tops all p [] s m h = h
 in-tops all p (e ∷ es) s m h = by (is_prefix e.0 p) refl (in-tops all p es s.1)
@@ -224,7 +252,10 @@ in-tops all p (e ∷ es) s m h = by (is_prefix e.0 p) refl (in-tops all p es s.1
     none [] a = refl
     none (f ∷ fs) a = rw (not_below_behind e.0 f.0 a.0) (none fs a.1)
 
-    by : (b : Bool) → is_prefix e.0 p ≡ b → (((q : PathValue) → is_prefix q p ≡ true → lies_below all q ≡ lies_below es q) → lies_in es p ≡ true → lies_in (filter (λ e. not (lies_below all e.0)) es) p ≡ true) → lies_in (filter (λ e. not (lies_below all e.0)) (e ∷ es)) p ≡ true
+    by : (b : Bool) → is_prefix e.0 p ≡ b →
+        (((q : PathValue) → is_prefix q p ≡ true → lies_below all q ≡ lies_below es q) → lies_in es p ≡ true →
+        lies_in (filter (λ e. not (lies_below all e.0)) es) p ≡ true) →
+        lies_in (filter (λ e. not (lies_below all e.0)) (e ∷ es)) p ≡ true
     by true k more =
         let top : lies_below all e.0 ≡ false = m e.0 k ∙ rw (not_below_itself e.0) (none es s.0) in
         rw (top, k) refl
@@ -236,33 +267,42 @@ in-tops all p (e ∷ es) s m h = by (is_prefix e.0 p) refl (in-tops all p es s.1
           where
             under : (t : Bool) → is_below q e.0 ≡ t → lies_below all q ≡ lies_below es q
             under false j = m q i ∙ rw j refl
-            under true j = absurd (true≢false (sym (prefix-trans e.0 q p (and_both (is_prefix e.0 q) (not (path_eq q e.0)) j).0 i) ∙ k))
+            under true j =
+                absurd (true≢false
+                (sym (prefix-trans e.0 q p (and_both (is_prefix e.0 q) (not (path_eq q e.0)) j).0 i) ∙ k))
 
         rest : lies_in (filter (λ e. not (lies_below all e.0)) es) p ≡ true
         rest = more later (rw k at h)
 
-        at : (t : Bool) → lies_in (cond (not t) (e ∷ filter (λ e. not (lies_below all e.0)) es) (filter (λ e. not (lies_below all e.0)) es)) p ≡ true
+        at : (t : Bool) →
+            lies_in (cond (not t) (e ∷ filter (λ e. not (lies_below all e.0)) es)
+            (filter (λ e. not (lies_below all e.0)) es)) p ≡ true
         at true = rest
         at false = or_right (is_prefix e.0 p) (lies_in (filter (λ e. not (lies_below all e.0)) es) p) rest
 
 -- a path lies in what is gone where it lies in what is removed
-in-removed : (all : ListingValue) → IsStrictlySortedBy path_cmp (keys_of all) → (p : PathValue) → lies_in (filter (λ e. not (lies_below all e.0)) all) p ≡ lies_in all p
+in-removed : (all : ListingValue) → IsStrictlySortedBy path_cmp (keys_of all) → (p : PathValue) →
+    lies_in (filter (λ e. not (lies_below all e.0)) all) p ≡ lies_in all p
 in-removed all s p = by (lies_in all p) refl (lies_in (filter (λ e. not (lies_below all e.0)) all) p) refl
   where
-    by : (b : Bool) → lies_in all p ≡ b → (c : Bool) → lies_in (filter (λ e. not (lies_below all e.0)) all) p ≡ c → c ≡ b
+    by : (b : Bool) → lies_in all p ≡ b → (c : Bool) → lies_in (filter (λ e. not (lies_below all e.0)) all) p
+        ≡ c → c ≡ b
     by true h c k = sym k ∙ in-tops all p all s (λ q i. refl) h
     by false h false k = refl
-    by false h true k = absurd (true≢false (sym (any-filter (λ e. is_prefix e.0 p) (λ e. not (lies_below all e.0)) all k) ∙ h))
+    by false h true k =
+        absurd (true≢false (sym (any-filter (λ e. is_prefix e.0 p) (λ e. not (lies_below all e.0)) all k) ∙ h))
 
 -- ---- what stays
 
 -- of paths that are there, those that are above the first one are there behind it
-there-later : (y : PathValue) (ys xs : Paths) → AreAbove y xs → AllByRecursion (λ x. has_path (y ∷ ys) x ≡ true) xs → AllByRecursion (λ x. has_path ys x ≡ true) xs
+there-later : (y : PathValue) (ys xs : Paths) → AreAbove y xs →
+    AllByRecursion (λ x. has_path (y ∷ ys) x ≡ true) xs → AllByRecursion (λ x. has_path ys x ≡ true) xs
 there-later y ys [] a h = tt
 there-later y ys (x ∷ xs) a h = (rw (turned_less y x a.0) at h.0, there-later y ys xs a.1 h.1)
 
 -- ascending paths among others are those of the others that are among them
-among : (ys xs : Paths) → IsStrictlySortedBy path_cmp xs → IsStrictlySortedBy path_cmp ys → AllByRecursion (λ x. has_path ys x ≡ true) xs → xs ≡ filter (has_path xs) ys
+among : (ys xs : Paths) → IsStrictlySortedBy path_cmp xs → IsStrictlySortedBy path_cmp ys →
+    AllByRecursion (λ x. has_path ys x ≡ true) xs → xs ≡ filter (has_path xs) ys
 unfolding IsStrictlySortedBy
 among [] [] s t h = refl
 among [] (x ∷ xs) s t h = absurd (true≢false (sym h.0))
@@ -274,7 +314,9 @@ among (y ∷ ys) (x ∷ xs) s t h = by (path_cmp x y) refl (λ zs u k. among ys 
     skip [] a = tt
     skip (z ∷ zs) a = (rw (turned_less x z a.0) refl, skip zs a.1)
 
-    by : (o : Ordering) → path_cmp x y ≡ o → ((zs : Paths) → IsStrictlySortedBy path_cmp zs → AllByRecursion (λ z. has_path ys z ≡ true) zs → zs ≡ filter (has_path zs) ys) → x ∷ xs ≡ filter (has_path (x ∷ xs)) (y ∷ ys)
+    by : (o : Ordering) → path_cmp x y ≡ o → ((zs : Paths) → IsStrictlySortedBy path_cmp zs →
+        AllByRecursion (λ z. has_path ys z ≡ true) zs → zs ≡ filter (has_path zs) ys) →
+        x ∷ xs ≡ filter (has_path (x ∷ xs)) (y ∷ ys)
     by Less q more =
         let none : has_path (y ∷ ys) x ≡ false = rw q (has-above x ys (above-trans x y q ys t.0)) in
         absurd (true≢false (sym h.0 ∙ none))
@@ -287,8 +329,10 @@ among (y ∷ ys) (x ∷ xs) s t h = by (path_cmp x y) refl (λ zs u k. among ys 
         let same : x ≡ y = same_path x y q in
         let above : AreAbove y xs = subst (λ z. AreAbove z xs) same s.0 in
         let behind : AreAbove x ys = subst (λ z. AreAbove z ys) (sym same) t.0 in
-        let here : has_path (x ∷ xs) y ≡ true = subst (λ z. has_path (x ∷ xs) z ≡ true) same (rw (at_itself x) refl) in
-        let rest : xs ≡ filter (has_path (x ∷ xs)) ys = more xs s.1 (there-later y ys xs above h.1) ∙ filter-alike (has_path xs) (has_path (x ∷ xs)) ys (skip ys behind) in
+        let here : has_path (x ∷ xs) y ≡ true =
+        subst (λ z. has_path (x ∷ xs) z ≡ true) same (rw (at_itself x) refl) in
+        let rest : xs ≡ filter (has_path (x ∷ xs)) ys = more xs s.1 (there-later y ys xs above h.1)
+        ∙ filter-alike (has_path xs) (has_path (x ∷ xs)) ys (skip ys behind) in
         rw here (ap (λ z. z ∷ xs) same ∙ ap (λ r. y ∷ r) rest)
 
 -- something of a kind is something
@@ -298,7 +342,9 @@ of_kind-some k (Some f) h = refl
 
 module _ (old new : ListingValue) where
   -- old entries that lie in nothing that is gone are there
-  stays-there : (es : ListingValue) → ((q : PathValue) → lies_in (gone es new) q ≡ true → lies_in (gone old new) q ≡ true) → AllByRecursion (λ e. lies_in (gone old new) e.0 ≡ false → has_path (keys_of new) e.0 ≡ true) es
+  stays-there : (es : ListingValue) → ((q : PathValue) → lies_in (gone es new) q ≡ true →
+      lies_in (gone old new) q ≡ true) → AllByRecursion (λ e. lies_in (gone old new) e.0 ≡ false →
+      has_path (keys_of new) e.0 ≡ true) es
   stays-there [] m = tt
   stays-there (e ∷ es) m = (first (is_kept new e) refl, stays-there es (λ q h. m q (later q h)))
     where
@@ -309,7 +355,8 @@ module _ (old new : ListingValue) where
           at true = h
           at false = or_right (is_prefix e.0 q) (lies_in (gone es new) q) h
 
-      first : (b : Bool) → is_kept new e ≡ b → lies_in (gone old new) e.0 ≡ false → has_path (keys_of new) e.0 ≡ true
+      first : (b : Bool) → is_kept new e ≡ b → lies_in (gone old new) e.0 ≡ false → has_path (keys_of new) e.0
+          ≡ true
       first true k h = has_entry-some new e.0 ∙ of_kind-some e.1.kind (entry_at new e.0) k
       first false k h =
           let hit : lies_in (gone (e ∷ es) new) e.0 ≡ true = rw (k, prefix_itself e.0) refl in
@@ -320,10 +367,14 @@ module _ (old new : ListingValue) where
   stay_paths = keys_of (staying old new)
 
   -- the paths that stay are those of the new ones that stay
-  stay-among : IsStrictlySortedBy path_cmp (keys_of old) → IsStrictlySortedBy path_cmp (keys_of new) → stay_paths ≡ filter (has_path stay_paths) (keys_of new)
+  stay-among : IsStrictlySortedBy path_cmp (keys_of old) → IsStrictlySortedBy path_cmp (keys_of new) →
+      stay_paths ≡ filter (has_path stay_paths) (keys_of new)
   stay-among s t =
-      among (keys_of new) stay_paths (sorted-filter path_cmp_total (λ e. not (lies_in (gone old new) e.0)) old s) t
-      (each-key (λ k. has_path (keys_of new) k ≡ true) (staying old new) (each-left (λ e. has_path (keys_of new) e.0 ≡ true) (lies_in (gone old new)) old (stays-there old (λ q h. h))))
+      among (keys_of new) stay_paths (sorted-filter path_cmp_total (λ e. not (lies_in (gone old new) e.0)) old
+      s) t
+      (each-key (λ k. has_path (keys_of new) k ≡ true) (staying old new)
+      (each-left (λ e. has_path (keys_of new) e.0 ≡ true) (lies_in (gone old new)) old
+      (stays-there old (λ q h. h))))
 
 -- ---- creations
 
@@ -337,10 +388,12 @@ play-creation paths e = by e.1.kind
     by Other = refl
 
 -- a creation is honest where its path is absent and its folders are there
-honest-creation : (paths : Paths) (e : PathValue × Found) → is_nonempty e.0 ≡ true → is_honest_event paths (creation e) ≡ (not (has_path paths e.0) && has_folders paths e.0)
+honest-creation : (paths : Paths) (e : PathValue × Found) → is_nonempty e.0 ≡ true →
+    is_honest_event paths (creation e) ≡ (not (has_path paths e.0) && has_folders paths e.0)
 honest-creation paths e h = honest-event paths (creation_of e.1.kind) e.0 h ∙ by e.1.kind
   where
-    by : (k : EntryKind) → is_honest_at paths (creation_of k) e.0 ≡ (not (has_path paths e.0) && has_folders paths e.0)
+    by : (k : EntryKind) → is_honest_at paths (creation_of k) e.0
+        ≡ (not (has_path paths e.0) && has_folders paths e.0)
     by File = refl
     by Folder = refl
     by Other = refl
@@ -354,7 +407,8 @@ folders-front (x ∷ y ∷ path) = (rw tie refl, more (folders_of (y ∷ path)) 
     tie : part_cmp x x ≡ Equal
     tie = tied_itself part_cmp_total x
 
-    more : (qs : List PathValue) → AllByRecursion (λ q. path_cmp q (y ∷ path) ≡ Less) qs → AllByRecursion (λ q. path_cmp q (x ∷ y ∷ path) ≡ Less) (map (λ q. x ∷ q) qs)
+    more : (qs : List PathValue) → AllByRecursion (λ q. path_cmp q (y ∷ path) ≡ Less) qs →
+        AllByRecursion (λ q. path_cmp q (x ∷ y ∷ path) ≡ Less) (map (λ q. x ∷ q) qs)
     more [] a = tt
     more (q ∷ qs) a = (rw tie a.0, more qs a.1)
 
@@ -363,10 +417,12 @@ abbrev AreFront : PathValue → Paths → Type 0
 AreFront x ks = AllByRecursion (λ k. path_cmp k x ≡ Less) ks
 
 -- a path between others goes between them
-insert-between : (done later : Paths) (x : PathValue) → AreFront x done → AreAbove x later → with_path (done ++ later) x ≡ done ++ x ∷ later
+insert-between : (done later : Paths) (x : PathValue) → AreFront x done → AreAbove x later →
+    with_path (done ++ later) x ≡ done ++ x ∷ later
 insert-between [] [] x f a = refl
 insert-between [] (k ∷ later) x f a = rw a.0 refl
-insert-between (d ∷ done) later x f a = rw (turned_less d x f.0) (ap (λ r. d ∷ r) (insert-between done later x f.1 a))
+insert-between (d ∷ done) later x f a =
+    rw (turned_less d x f.0) (ap (λ r. d ∷ r) (insert-between done later x f.1 a))
 
 -- paths in front of one that is in front of x are in front of x
 front-trans : (x y : PathValue) → path_cmp x y ≡ Less → (ks : Paths) → AreFront x ks → AreFront y ks
@@ -388,13 +444,18 @@ above-left : (x : PathValue) (p : PathValue → Bool) (ks : Paths) → AreAbove 
 above-left x p ks a = each-filter (λ k. path_cmp x k ≡ Less) p ks a
 
 -- folders that are there, and in front of x, are there without what stands at x or behind it
-folders-there : (x : PathValue) (done later others : Paths) (qs : List PathValue) → AreAbove x later → AreFront x qs → list_all (has_path (done ++ x ∷ later)) qs ≡ true → list_all (has_path (done ++ others)) qs ≡ true
+folders-there : (x : PathValue) (done later others : Paths) (qs : List PathValue) → AreAbove x later →
+    AreFront x qs → list_all (has_path (done ++ x ∷ later)) qs ≡ true → list_all (has_path (done ++ others)) qs
+    ≡ true
 folders-there x done later others [] a f h = refl
 folders-there x done later others (q ∷ qs) a f h =
     let both = and_both (has_path (done ++ x ∷ later) q) (list_all (has_path (done ++ x ∷ later)) qs) h in
     let none : has_path (x ∷ later) q ≡ false = has-above q (x ∷ later) (f.0, above-trans q x f.0 later a) in
-    let here : has_path done q ≡ true = sym (or_no (has_path done q)) ∙ (ap (λ b. has_path done q || b) (sym none) ∙ (sym (list_any-append (is_at (path_cmp q)) done (x ∷ later)) ∙ both.0)) in
-    let there : has_path (done ++ others) q ≡ true = list_any-append (is_at (path_cmp q)) done others ∙ rw here refl in
+    let here : has_path done q ≡ true = sym (or_no (has_path done q))
+    ∙ (ap (λ b. has_path done q || b) (sym none)
+    ∙ (sym (list_any-append (is_at (path_cmp q)) done (x ∷ later)) ∙ both.0)) in
+    let there : has_path (done ++ others) q ≡ true = list_any-append (is_at (path_cmp q)) done others
+    ∙ rw here refl in
     rw there (folders-there x done later others qs a f.1 both.1)
   where
     or_no : (b : Bool) → (b || false) ≡ b
@@ -411,57 +472,84 @@ module _ (stay : Paths) where
   before done ns = done ++ filter (has_path stay) (keys_of ns)
 
   -- creations add the new paths between those that stay
-  play-creations : (done : Paths) (ns : ListingValue) → AllByRecursion (λ e. AreFront e.0 done) ns → IsStrictlySortedBy path_cmp (keys_of ns) → play (before done ns) (map creation (fresh ns)) ≡ done ++ keys_of ns
+  play-creations : (done : Paths) (ns : ListingValue) → AllByRecursion (λ e. AreFront e.0 done) ns →
+      IsStrictlySortedBy path_cmp (keys_of ns) → play (before done ns) (map creation (fresh ns)) ≡ done
+      ++ keys_of ns
   unfolding IsStrictlySortedBy
   play-creations done [] f s = refl
-  play-creations done (n ∷ ns) f s = by (has_path stay n.0) (play-creations (done ++ n.0 ∷ []) ns (later ns f.0 s.0) s.1)
+  play-creations done (n ∷ ns) f s =
+      by (has_path stay n.0) (play-creations (done ++ n.0 ∷ []) ns (later ns f.0 s.0) s.1)
     where
-      later : (ms : ListingValue) → AreFront n.0 done → AreAbove n.0 (keys_of ms) → AllByRecursion (λ e. AreFront e.0 (done ++ n.0 ∷ [])) ms
+      later : (ms : ListingValue) → AreFront n.0 done → AreAbove n.0 (keys_of ms) →
+          AllByRecursion (λ e. AreFront e.0 (done ++ n.0 ∷ [])) ms
       later [] f a = tt
       later (m ∷ ms) f a = (front-push n.0 m.0 a.0 done f, later ms f a.1)
 
       -- the state once the path is there
-      moved : (done ++ n.0 ∷ []) ++ filter (has_path stay) (keys_of ns) ≡ done ++ n.0 ∷ filter (has_path stay) (keys_of ns)
+      moved : (done ++ n.0 ∷ []) ++ filter (has_path stay) (keys_of ns) ≡ done
+          ++ n.0 ∷ filter (has_path stay) (keys_of ns)
       moved = append_assoc done (n.0 ∷ []) (filter (has_path stay) (keys_of ns))
 
       end : (done ++ n.0 ∷ []) ++ keys_of ns ≡ done ++ n.0 ∷ keys_of ns
       end = append_assoc done (n.0 ∷ []) (keys_of ns)
 
-      by : (b : Bool) → play (before (done ++ n.0 ∷ []) ns) (map creation (fresh ns)) ≡ (done ++ n.0 ∷ []) ++ keys_of ns → play (done ++ cond b (n.0 ∷ filter (has_path stay) (keys_of ns)) (filter (has_path stay) (keys_of ns))) (map creation (cond (not b) (n ∷ fresh ns) (fresh ns))) ≡ done ++ n.0 ∷ keys_of ns
+      by : (b : Bool) → play (before (done ++ n.0 ∷ []) ns) (map creation (fresh ns)) ≡ (done ++ n.0 ∷ [])
+          ++ keys_of ns →
+          play (done ++ cond b (n.0 ∷ filter (has_path stay) (keys_of ns))
+          (filter (has_path stay) (keys_of ns))) (map creation (cond (not b) (n ∷ fresh ns) (fresh ns))) ≡ done
+          ++ n.0 ∷ keys_of ns
       by true more = ap (λ ps. play ps (map creation (fresh ns))) (sym moved) ∙ (more ∙ end)
       by false more =
           ap (λ ps. play ps (map creation (fresh ns)))
-          (play-creation (done ++ filter (has_path stay) (keys_of ns)) n ∙ (insert-between done (filter (has_path stay) (keys_of ns)) n.0 f.0 (above-left n.0 (has_path stay) (keys_of ns) s.0) ∙ sym moved))
+          (play-creation (done ++ filter (has_path stay) (keys_of ns)) n
+          ∙ (insert-between done (filter (has_path stay) (keys_of ns)) n.0 f.0
+          (above-left n.0 (has_path stay) (keys_of ns) s.0) ∙ sym moved))
           ∙ (more ∙ end)
 
   -- these creations are honest, where each new path has its folders among the new paths
-  honest-creations : (all done : Paths) (ns : ListingValue) → done ++ keys_of ns ≡ all → AllByRecursion (λ e. is_nonempty e.0 ≡ true) ns → AllByRecursion (λ e. has_folders all e.0 ≡ true) ns → AllByRecursion (λ e. AreFront e.0 done) ns → IsStrictlySortedBy path_cmp (keys_of ns) → are_honest (before done ns) (map creation (fresh ns)) ≡ true
+  honest-creations : (all done : Paths) (ns : ListingValue) → done ++ keys_of ns ≡ all →
+      AllByRecursion (λ e. is_nonempty e.0 ≡ true) ns → AllByRecursion (λ e. has_folders all e.0 ≡ true) ns →
+      AllByRecursion (λ e. AreFront e.0 done) ns → IsStrictlySortedBy path_cmp (keys_of ns) →
+      are_honest (before done ns) (map creation (fresh ns)) ≡ true
   unfolding IsStrictlySortedBy
   honest-creations all done [] w e c f s = refl
-  honest-creations all done (n ∷ ns) w e c f s = by (has_path stay n.0) (honest-creations all (done ++ n.0 ∷ []) ns (append_assoc done (n.0 ∷ []) (keys_of ns) ∙ w) e.1 c.1 (later ns f.0 s.0) s.1)
+  honest-creations all done (n ∷ ns) w e c f s =
+      by (has_path stay n.0)
+      (honest-creations all (done ++ n.0 ∷ []) ns (append_assoc done (n.0 ∷ []) (keys_of ns)
+      ∙ w) e.1 c.1 (later ns f.0 s.0) s.1)
     where
-      later : (ms : ListingValue) → AreFront n.0 done → AreAbove n.0 (keys_of ms) → AllByRecursion (λ e. AreFront e.0 (done ++ n.0 ∷ [])) ms
+      later : (ms : ListingValue) → AreFront n.0 done → AreAbove n.0 (keys_of ms) →
+          AllByRecursion (λ e. AreFront e.0 (done ++ n.0 ∷ [])) ms
       later [] f a = tt
       later (m ∷ ms) f a = (front-push n.0 m.0 a.0 done f, later ms f a.1)
 
       others : Paths
       others = filter (has_path stay) (keys_of ns)
 
-      moved : (done ++ n.0 ∷ []) ++ filter (has_path stay) (keys_of ns) ≡ done ++ n.0 ∷ filter (has_path stay) (keys_of ns)
+      moved : (done ++ n.0 ∷ []) ++ filter (has_path stay) (keys_of ns) ≡ done
+          ++ n.0 ∷ filter (has_path stay) (keys_of ns)
       moved = append_assoc done (n.0 ∷ []) (filter (has_path stay) (keys_of ns))
 
-      by : (b : Bool) → are_honest (before (done ++ n.0 ∷ []) ns) (map creation (fresh ns)) ≡ true → are_honest (done ++ cond b (n.0 ∷ filter (has_path stay) (keys_of ns)) (filter (has_path stay) (keys_of ns))) (map creation (cond (not b) (n ∷ fresh ns) (fresh ns))) ≡ true
+      by : (b : Bool) → are_honest (before (done ++ n.0 ∷ []) ns) (map creation (fresh ns)) ≡ true →
+          are_honest (done
+          ++ cond b (n.0 ∷ filter (has_path stay) (keys_of ns)) (filter (has_path stay) (keys_of ns)))
+          (map creation (cond (not b) (n ∷ fresh ns) (fresh ns))) ≡ true
       by true more = ap (λ ps. are_honest ps (map creation (fresh ns))) (sym moved) ∙ more
       by false more =
-          let above : AreAbove n.0 (filter (has_path stay) (keys_of ns)) = above-left n.0 (has_path stay) (keys_of ns) s.0 in
+          let above : AreAbove n.0 (filter (has_path stay) (keys_of ns)) =
+          above-left n.0 (has_path stay) (keys_of ns) s.0 in
           let absent : has_path (done ++ filter (has_path stay) (keys_of ns)) n.0 ≡ false =
-          list_any-append (is_at (path_cmp n.0)) done (filter (has_path stay) (keys_of ns)) ∙ rw (has-front n.0 done f.0, has-above n.0 (filter (has_path stay) (keys_of ns)) above) refl in
+          list_any-append (is_at (path_cmp n.0)) done (filter (has_path stay) (keys_of ns))
+          ∙ rw (has-front n.0 done f.0, has-above n.0 (filter (has_path stay) (keys_of ns)) above) refl in
           let folders : has_folders (done ++ filter (has_path stay) (keys_of ns)) n.0 ≡ true =
-          folders-there n.0 done (keys_of ns) (filter (has_path stay) (keys_of ns)) (folders_of n.0) s.0 (folders-front n.0) (subst (λ ks. has_folders ks n.0 ≡ true) (sym w) c.0) in
+          folders-there n.0 done (keys_of ns) (filter (has_path stay) (keys_of ns)) (folders_of n.0) s.0
+          (folders-front n.0) (subst (λ ks. has_folders ks n.0 ≡ true) (sym w) c.0) in
           let first : is_honest_event (done ++ filter (has_path stay) (keys_of ns)) (creation n) ≡ true =
           honest-creation (done ++ filter (has_path stay) (keys_of ns)) n e.0 ∙ rw (absent, folders) refl in
-          let played : play_one (done ++ filter (has_path stay) (keys_of ns)) (creation n) ≡ before (done ++ n.0 ∷ []) ns =
-          play-creation (done ++ filter (has_path stay) (keys_of ns)) n ∙ (insert-between done (filter (has_path stay) (keys_of ns)) n.0 f.0 above ∙ sym moved) in
+          let played : play_one (done ++ filter (has_path stay) (keys_of ns)) (creation n)
+          ≡ before (done ++ n.0 ∷ []) ns =
+          play-creation (done ++ filter (has_path stay) (keys_of ns)) n
+          ∙ (insert-between done (filter (has_path stay) (keys_of ns)) n.0 f.0 above ∙ sym moved) in
           rw (first, played) more
 
 -- ---- other lengths
@@ -472,7 +560,8 @@ play-resizes paths [] = refl
 play-resizes paths (e ∷ es) = play-resizes paths es
 
 -- other lengths are honest
-honest-resizes : (paths : Paths) (es : ListingValue) → AllByRecursion (λ e. is_nonempty e.0 ≡ true) es → are_honest paths (map resize es) ≡ true
+honest-resizes : (paths : Paths) (es : ListingValue) → AllByRecursion (λ e. is_nonempty e.0 ≡ true) es →
+    are_honest paths (map resize es) ≡ true
 honest-resizes paths [] n = refl
 honest-resizes paths (e ∷ es) n = rw (honest-event paths (resize e).kind e.0 n.0) (honest-resizes paths es n.1)
 
@@ -485,10 +574,14 @@ front-none (n ∷ ns) = (tt, front-none ns)
 
 module _ (old new : ListingValue) where
   -- the removals leave what stays
-  removals-leave : IsStrictlySortedBy path_cmp (keys_of old) → play (keys_of old) (map removal (removed old new)) ≡ keys_of (staying old new)
+  removals-leave : IsStrictlySortedBy path_cmp (keys_of old) →
+      play (keys_of old) (map removal (removed old new)) ≡ keys_of (staying old new)
   removals-leave s =
       play-removals (keys_of old) (removed old new)
-      ∙ (filter-same (λ p. not (lies_in (removed old new) p)) (λ p. not (lies_in (gone old new) p)) (λ p. ap not (in-removed (gone old new) (sorted-filter path_cmp_total (λ e. not (is_kept new e)) old s) p)) (keys_of old)
+      ∙ (filter-same (λ p. not (lies_in (removed old new) p)) (λ p. not (lies_in (gone old new) p))
+      (λ p. ap not
+      (in-removed (gone old new) (sorted-filter path_cmp_total (λ e. not (is_kept new e)) old s) p))
+      (keys_of old)
       ∙ sym (keys_of-filter (λ p. not (lies_in (gone old new) p)) old))
 
   -- the changes between two listings lead from the old paths to the new ones
@@ -500,21 +593,41 @@ module _ (old new : ListingValue) where
       let kept = each-filter (λ e. is_nonempty e.0 ≡ true) (λ e. not (is_kept new e)) old named in
       let sorted_gone = sorted-filter path_cmp_total (λ e. not (is_kept new e)) old o.ordered in
       let there : AllByRecursion (λ e. has_path (keys_of old) e.0 ≡ true) (removed old new) =
-      each-filter (λ e. has_path (keys_of old) e.0 ≡ true) (λ e. not (lies_below (gone old new) e.0)) (gone old new) (each-filter (λ e. has_path (keys_of old) e.0 ≡ true) (λ e. not (is_kept new e)) old (each-there old)) in
+      each-filter (λ e. has_path (keys_of old) e.0 ≡ true) (λ e. not (lies_below (gone old new) e.0))
+      (gone old new) (each-filter (λ e. has_path (keys_of old) e.0 ≡ true) (λ e. not (is_kept new e)) old
+      (each-there old)) in
       let first : are_honest (keys_of old) (map removal (removed old new)) ≡ true =
-      honest-removals (keys_of old) (removed old new) (each-filter (λ e. is_nonempty e.0 ≡ true) (λ e. not (lies_below (gone old new) e.0)) (gone old new) kept) there
-      (apart (gone old new) (removed old new) (sorted-filter path_cmp_total (λ e. not (lies_below (gone old new) e.0)) (gone old new) sorted_gone) (left-fails (lies_below (gone old new)) (gone old new)) (λ q h. any-filter (λ e. is_below q e.0) (λ e. not (lies_below (gone old new) e.0)) (gone old new) h)) in
+      honest-removals (keys_of old) (removed old new)
+      (each-filter (λ e. is_nonempty e.0 ≡ true) (λ e. not (lies_below (gone old new) e.0)) (gone old new)
+      kept) there
+      (apart (gone old new) (removed old new)
+      (sorted-filter path_cmp_total (λ e. not (lies_below (gone old new) e.0)) (gone old new) sorted_gone)
+      (left-fails (lies_below (gone old new)) (gone old new))
+      (λ q h. any-filter (λ e. is_below q e.0) (λ e. not (lies_below (gone old new) e.0)) (gone old new)
+      h)) in
       let left = removals-leave o.ordered in
       let among_new = stay-among old new o.ordered n.ordered in
       let second : are_honest (keys_of (staying old new)) (map creation (created old new)) ≡ true =
       subst (λ ps. are_honest ps (map creation (created old new)) ≡ true) (sym among_new)
-      (honest-creations (keys_of (staying old new)) (keys_of new) [] new refl (each-passes is_nonempty new n.nonempty) (each-passes (has_folders (keys_of new)) new n.closed) (front-none new) n.ordered) in
+      (honest-creations (keys_of (staying old new)) (keys_of new) [] new refl
+      (each-passes is_nonempty new n.nonempty) (each-passes (has_folders (keys_of new)) new n.closed)
+      (front-none new) n.ordered) in
       let added : play (keys_of (staying old new)) (map creation (created old new)) ≡ keys_of new =
-      ap (λ ps. play ps (map creation (created old new))) among_new ∙ play-creations (keys_of (staying old new)) [] new (front-none new) n.ordered in
+      ap (λ ps. play ps (map creation (created old new))) among_new
+      ∙ play-creations (keys_of (staying old new)) [] new (front-none new) n.ordered in
       let third : are_honest (keys_of new) (map resize (resized old new)) ≡ true =
-      honest-resizes (keys_of new) (resized old new) (each-filter (λ e. is_nonempty e.0 ≡ true) (λ e. has_other_length e.1.length (entry_at new e.0)) (staying old new) (each-filter (λ e. is_nonempty e.0 ≡ true) (λ e. not (lies_in (gone old new) e.0)) old named)) in
+      honest-resizes (keys_of new) (resized old new)
+      (each-filter (λ e. is_nonempty e.0 ≡ true) (λ e. has_other_length e.1.length (entry_at new e.0))
+      (staying old new) (each-filter (λ e. is_nonempty e.0 ≡ true) (λ e. not (lies_in (gone old new) e.0))
+      old named)) in
       record {
         closed = o.closed;
-        honest = honest-append (keys_of old) (map removal (removed old new)) (map creation (created old new) ++ map resize (resized old new)) first (rw left (honest-append (keys_of (staying old new)) (map creation (created old new)) (map resize (resized old new)) second (rw added third)));
-        played = play-append (keys_of old) (map removal (removed old new)) (map creation (created old new) ++ map resize (resized old new)) ∙ rw left (play-append (keys_of (staying old new)) (map creation (created old new)) (map resize (resized old new)) ∙ rw added (play-resizes (keys_of new) (resized old new)));
+        honest = honest-append (keys_of old) (map removal (removed old new)) (map creation (created old new)
+            ++ map resize (resized old new)) first
+            (rw left (honest-append (keys_of (staying old new)) (map creation (created old new))
+            (map resize (resized old new)) second (rw added third)));
+        played = play-append (keys_of old) (map removal (removed old new)) (map creation (created old new)
+            ++ map resize (resized old new))
+            ∙ rw left (play-append (keys_of (staying old new)) (map creation (created old new))
+            (map resize (resized old new)) ∙ rw added (play-resizes (keys_of new) (resized old new)));
       }

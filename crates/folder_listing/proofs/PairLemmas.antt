@@ -21,7 +21,8 @@ abbrev pub AreAbove : PathValue → List PathValue → Type 0
 AreAbove x ks = AllByRecursion (λ k. path_cmp x k ≡ Less) ks
 
 -- what is above a greater path is above a lesser one
-pub above-trans : (x y : PathValue) → path_cmp x y ≡ Less → (ks : List PathValue) → AreAbove y ks → AreAbove x ks
+pub above-trans : (x y : PathValue) → path_cmp x y ≡ Less → (ks : List PathValue) → AreAbove y ks →
+    AreAbove x ks
 above-trans x y q [] a = a
 above-trans x y q (k ∷ ks) a = (path_cmp_total.trans x y k q a.0, above-trans x y q ks a.1)
 
@@ -54,17 +55,22 @@ above-new x [] a = a
 above-new x (n ∷ ns) a = (a.0, above-new x ns a.1)
 
 -- .. with one old entry
-above-into : (x : PathValue) (o : PathValue × Found) (os : ListingValue) → path_cmp x o.0 ≡ Less → ((ns : ListingValue) → AreAbove x (keys_of ns) → IsAbove x (paired os ns)) → (ns : ListingValue) → AreAbove x (keys_of ns) → IsAbove x (paired_into o (paired os) ns)
+above-into : (x : PathValue) (o : PathValue × Found) (os : ListingValue) → path_cmp x o.0 ≡ Less →
+    ((ns : ListingValue) → AreAbove x (keys_of ns) → IsAbove x (paired os ns)) → (ns : ListingValue) →
+    AreAbove x (keys_of ns) → IsAbove x (paired_into o (paired os) ns)
 above-into x o os first rest [] a = (first, rest [] a)
 above-into x o os first rest (n ∷ ns) a = by (path_cmp o.0 n.0) (above-into x o os first rest ns a.1)
   where
-    by : (r : Ordering) → IsAbove x (paired_into o (paired os) ns) → IsAbove x (match_ordering r (only_old o ∷ paired os (n ∷ ns)) (both o n ∷ paired os ns) (only_new n ∷ paired_into o (paired os) ns))
+    by : (r : Ordering) → IsAbove x (paired_into o (paired os) ns) →
+        IsAbove x (match_ordering r (only_old o ∷ paired os (n ∷ ns)) (both o n ∷ paired os ns)
+        (only_new n ∷ paired_into o (paired os) ns))
     by Less more = (first, rest (n ∷ ns) a)
     by Equal more = (first, rest ns a.1)
     by Greater more = (a.0, more)
 
 -- entries above x are above it side by side
-above-paired : (x : PathValue) (os ns : ListingValue) → AreAbove x (keys_of os) → AreAbove x (keys_of ns) → IsAbove x (paired os ns)
+above-paired : (x : PathValue) (os ns : ListingValue) → AreAbove x (keys_of os) → AreAbove x (keys_of ns) →
+    IsAbove x (paired os ns)
 above-paired x [] ns b a = above-new x ns a
 above-paired x (o ∷ os) ns b a = above-into x o os b.0 (λ ms c. above-paired x os ms b.1 c) ns a
 
@@ -75,20 +81,34 @@ ascend-new [] s = tt
 ascend-new (n ∷ ns) s = (above-new n.0 ns s.0, ascend-new ns s.1)
 
 -- .. with one old entry
-ascend-into : (o : PathValue × Found) (os : ListingValue) → AreAbove o.0 (keys_of os) → ((ns : ListingValue) → IsStrictlySortedBy path_cmp (keys_of ns) → Ascend (paired os ns)) → (ns : ListingValue) → IsStrictlySortedBy path_cmp (keys_of ns) → Ascend (paired_into o (paired os) ns)
+ascend-into : (o : PathValue × Found) (os : ListingValue) → AreAbove o.0 (keys_of os) →
+    ((ns : ListingValue) → IsStrictlySortedBy path_cmp (keys_of ns) → Ascend (paired os ns)) →
+    (ns : ListingValue) → IsStrictlySortedBy path_cmp (keys_of ns) → Ascend (paired_into o (paired os) ns)
 unfolding IsStrictlySortedBy
 ascend-into o os b rest [] s = (above-paired o.0 os [] b tt, rest [] s)
 ascend-into o os b rest (n ∷ ns) s = by (path_cmp o.0 n.0) refl (ascend-into o os b rest ns s.1)
   where
-    by : (r : Ordering) → path_cmp o.0 n.0 ≡ r → Ascend (paired_into o (paired os) ns) → Ascend (match_ordering r (only_old o ∷ paired os (n ∷ ns)) (both o n ∷ paired os ns) (only_new n ∷ paired_into o (paired os) ns))
-    by Less q more = (above-paired o.0 os (n ∷ ns) b (q, above-trans o.0 n.0 q (keys_of ns) s.0), rest (n ∷ ns) s)
-    by Equal q more = (above-paired o.0 os ns b (subst (λ x. AreAbove x (keys_of ns)) (sym (same_path o.0 n.0 q)) s.0), rest ns s.1)
+    by : (r : Ordering) → path_cmp o.0 n.0 ≡ r → Ascend (paired_into o (paired os) ns) →
+        Ascend (match_ordering r (only_old o ∷ paired os (n ∷ ns)) (both o n ∷ paired os ns)
+        (only_new n ∷ paired_into o (paired os) ns))
+    by Less q more = (
+      above-paired o.0 os (n ∷ ns) b (q, above-trans o.0 n.0 q (keys_of ns) s.0),
+      rest (n ∷ ns) s,
+    )
+    by Equal q more = (
+      above-paired o.0 os ns b (subst (λ x. AreAbove x (keys_of ns)) (sym (same_path o.0 n.0 q)) s.0),
+      rest ns s.1,
+    )
     by Greater q more =
-        let less = turned o.0 n.0 q in
-        (above-into n.0 o os less (λ ms c. above-paired n.0 os ms (above-trans n.0 o.0 less (keys_of os) b) c) ns s.0, more)
+        let less = turned o.0 n.0 q in (
+          above-into n.0 o os less (λ ms c. above-paired n.0 os ms (above-trans n.0 o.0 less (keys_of os) b) c)
+              ns s.0,
+          more,
+        )
 
 -- ascending entries ascend side by side
-pub ascend-paired : (os ns : ListingValue) → IsStrictlySortedBy path_cmp (keys_of os) → IsStrictlySortedBy path_cmp (keys_of ns) → Ascend (paired os ns)
+pub ascend-paired : (os ns : ListingValue) → IsStrictlySortedBy path_cmp (keys_of os) →
+    IsStrictlySortedBy path_cmp (keys_of ns) → Ascend (paired os ns)
 unfolding IsStrictlySortedBy
 ascend-paired [] ns b s = ascend-new ns s
 ascend-paired (o ∷ os) ns b s = ascend-into o os b.0 (λ ms c. ascend-paired os ms b.1 c) ns s
@@ -119,11 +139,15 @@ olds_of-new [] = refl
 olds_of-new (n ∷ ns) = olds_of-new ns
 
 -- .. with one old entry
-olds_of-into : (o : PathValue × Found) (os : ListingValue) → ((ns : ListingValue) → olds_of (paired os ns) ≡ os) → (ns : ListingValue) → olds_of (paired_into o (paired os) ns) ≡ o ∷ os
+olds_of-into : (o : PathValue × Found) (os : ListingValue) →
+    ((ns : ListingValue) → olds_of (paired os ns) ≡ os) → (ns : ListingValue) →
+    olds_of (paired_into o (paired os) ns) ≡ o ∷ os
 olds_of-into o os rest [] = ap (λ r. o ∷ r) (rest [])
 olds_of-into o os rest (n ∷ ns) = by (path_cmp o.0 n.0) (olds_of-into o os rest ns)
   where
-    by : (r : Ordering) → olds_of (paired_into o (paired os) ns) ≡ o ∷ os → olds_of (match_ordering r (only_old o ∷ paired os (n ∷ ns)) (both o n ∷ paired os ns) (only_new n ∷ paired_into o (paired os) ns)) ≡ o ∷ os
+    by : (r : Ordering) → olds_of (paired_into o (paired os) ns) ≡ o ∷ os →
+        olds_of (match_ordering r (only_old o ∷ paired os (n ∷ ns)) (both o n ∷ paired os ns)
+        (only_new n ∷ paired_into o (paired os) ns)) ≡ o ∷ os
     by Less more = ap (λ r. o ∷ r) (rest (n ∷ ns))
     by Equal more = ap (λ r. o ∷ r) (rest ns)
     by Greater more = more
@@ -139,13 +163,18 @@ news_of-new [] = refl
 news_of-new (n ∷ ns) = ap (λ r. n ∷ r) (news_of-new ns)
 
 -- .. with one old entry
-news_of-into : (o : PathValue × Found) (os : ListingValue) → ((ns : ListingValue) → news_of (paired os ns) ≡ ns) → (ns : ListingValue) → news_of (paired_into o (paired os) ns) ≡ ns
+news_of-into : (o : PathValue × Found) (os : ListingValue) →
+    ((ns : ListingValue) → news_of (paired os ns) ≡ ns) → (ns : ListingValue) →
+    news_of (paired_into o (paired os) ns) ≡ ns
 news_of-into o os rest [] = rest []
 news_of-into o os rest (n ∷ ns) = by (path_cmp o.0 n.0) refl (news_of-into o os rest ns)
   where
-    by : (r : Ordering) → path_cmp o.0 n.0 ≡ r → news_of (paired_into o (paired os) ns) ≡ ns → news_of (match_ordering r (only_old o ∷ paired os (n ∷ ns)) (both o n ∷ paired os ns) (only_new n ∷ paired_into o (paired os) ns)) ≡ n ∷ ns
+    by : (r : Ordering) → path_cmp o.0 n.0 ≡ r → news_of (paired_into o (paired os) ns) ≡ ns →
+        news_of (match_ordering r (only_old o ∷ paired os (n ∷ ns)) (both o n ∷ paired os ns)
+        (only_new n ∷ paired_into o (paired os) ns)) ≡ n ∷ ns
     by Less q more = rest (n ∷ ns)
-    by Equal q more = ap (λ x. (x, n.1) ∷ news_of (paired os ns)) (same_path o.0 n.0 q) ∙ ap (λ r. n ∷ r) (rest ns)
+    by Equal q more = ap (λ x. (x, n.1) ∷ news_of (paired os ns)) (same_path o.0 n.0 q)
+        ∙ ap (λ r. n ∷ r) (rest ns)
     by Greater q more = ap (λ r. n ∷ r) more
 
 -- the new side is the new listing
@@ -161,7 +190,8 @@ module _ (side : PairValue → Option Found) where
   above-side x [] a = tt
   above-side x (p ∷ ps) a = by (side p) (above-side x ps a.1)
     where
-      by : (o : Option Found) → AreAbove x (keys_of (side_of side ps)) → AreAbove x (keys_of (entry_cons p.path o (side_of side ps)))
+      by : (o : Option Found) → AreAbove x (keys_of (side_of side ps)) →
+          AreAbove x (keys_of (entry_cons p.path o (side_of side ps)))
       by None more = more
       by (Some f) more = (a.0, more)
 
@@ -171,21 +201,33 @@ entry_at-above x [] a = refl
 entry_at-above x (e ∷ es) a = rw a.0 (entry_at-above x es a.1)
 
 -- in front of a path nothing counts that stands at a lesser one
-entry_at-behind : (x y : PathValue) (o : Option Found) (es : ListingValue) → path_cmp x y ≡ Less → entry_at (entry_cons x o es) y ≡ entry_at es y
+entry_at-behind : (x y : PathValue) (o : Option Found) (es : ListingValue) → path_cmp x y ≡ Less →
+    entry_at (entry_cons x o es) y ≡ entry_at es y
 entry_at-behind x y None es q = refl
 entry_at-behind x y (Some f) es q = rw (turned_less x y q) refl
 
 -- at the path of the first entry that entry stands
-entry_at-first : (x : PathValue) (o : Option Found) (es : ListingValue) → AreAbove x (keys_of es) → entry_at (entry_cons x o es) x ≡ o
+entry_at-first : (x : PathValue) (o : Option Found) (es : ListingValue) → AreAbove x (keys_of es) →
+    entry_at (entry_cons x o es) x ≡ o
 entry_at-first x None es a = entry_at-above x es a
 entry_at-first x (Some f) es a = rw (at_itself x) refl
 
 module _ (side : PairValue → Option Found) where
   -- what stands at the paths of the pairs is their side
-  pub entry_at-side : (ps : List PairValue) → Ascend ps → AllByRecursion (λ p. entry_at (side_of side ps) p.path ≡ side p) ps
+  pub entry_at-side : (ps : List PairValue) → Ascend ps →
+      AllByRecursion (λ p. entry_at (side_of side ps) p.path ≡ side p) ps
   entry_at-side [] s = tt
-  entry_at-side (p ∷ ps) s = (entry_at-first p.path (side p) (side_of side ps) (above-side side p.path ps s.0), later ps s.0 (entry_at-side ps s.1))
+  entry_at-side (p ∷ ps) s = (
+    entry_at-first p.path (side p) (side_of side ps) (above-side side p.path ps s.0),
+    later ps s.0 (entry_at-side ps s.1),
+  )
     where
-      later : (qs : List PairValue) → IsAbove p.path qs → AllByRecursion (λ q. entry_at (side_of side ps) q.path ≡ side q) qs → AllByRecursion (λ q. entry_at (side_of side (p ∷ ps)) q.path ≡ side q) qs
+      later : (qs : List PairValue) → IsAbove p.path qs →
+          AllByRecursion (λ q. entry_at (side_of side ps) q.path ≡ side q) qs →
+          AllByRecursion (λ q. entry_at (side_of side (p ∷ ps)) q.path ≡ side q) qs
       later [] a h = tt
-      later (q ∷ qs) a h = (entry_at-behind p.path q.path (side p) (side_of side ps) a.0 ∙ h.0, later qs a.1 h.1)
+      later (q ∷ qs) a h = (
+        entry_at-behind p.path q.path (side p) (side_of side ps) a.0
+            ∙ h.0,
+        later qs a.1 h.1,
+      )

@@ -41,21 +41,28 @@ module _ (ks : Paths) (each : (q : PathValue) → has_path ks q ≡ true → has
   all_folders (suc n) (x ∷ y ∷ r) l h =
       let s = split_last x y r in
       let whole : y ∷ r ≡ s.1.0 ++ s.0 ∷ [] = s.1.1 in
-      let parent : has_path ks (x ∷ s.1.0) ≡ true = ap (has_this ks) (sym (ap (λ t. parent_of (x ∷ t)) whole ∙ parent-push x s.1.0 s.0)) ∙ each (x ∷ y ∷ r) h in
+      let parent : has_path ks (x ∷ s.1.0) ≡ true =
+      ap (has_this ks) (sym (ap (λ t. parent_of (x ∷ t)) whole ∙ parent-push x s.1.0 s.0))
+      ∙ each (x ∷ y ∷ r) h in
       let long : length (y ∷ r) ≡ length s.1.0 + 1 = ap length whole ∙ length-append s.1.0 (s.0 ∷ []) in
-      let above : has_folders ks (x ∷ s.1.0) ≡ true = all_folders n (x ∷ s.1.0) (omega (arith, l, long)) parent in
+      let above : has_folders ks (x ∷ s.1.0) ≡ true =
+      all_folders n (x ∷ s.1.0) (omega (arith, l, long)) parent in
       ap (λ t. has_folders ks (x ∷ t)) whole
-      ∙ (ap (list_all (has_path ks)) (folders_of-push x s.1.0 s.0) ∙ all-push (has_path ks) (folders_of (x ∷ s.1.0)) (x ∷ s.1.0) above parent)
+      ∙ (ap (list_all (has_path ks)) (folders_of-push x s.1.0 s.0)
+      ∙ all-push (has_path ks) (folders_of (x ∷ s.1.0)) (x ∷ s.1.0) above parent)
 
 -- a test of all paths that are there is one of each
-pub each_there : (t : PathValue → Bool) (ks : Paths) → list_all t ks ≡ true → (q : PathValue) → has_path ks q ≡ true → t q ≡ true
+pub each_there : (t : PathValue → Bool) (ks : Paths) → list_all t ks ≡ true → (q : PathValue) →
+    has_path ks q ≡ true → t q ≡ true
 each_there t [] h q k = absurd (true≢false (sym k))
-each_there t (p ∷ ks) h q k = by (is_at (path_cmp q) p) refl k (each_there t ks (and_both (t p) (list_all t ks) h).1 q)
+each_there t (p ∷ ks) h q k =
+    by (is_at (path_cmp q) p) refl k (each_there t ks (and_both (t p) (list_all t ks) h).1 q)
   where
     two : (t p ≡ true) × (list_all t ks ≡ true)
     two = and_both (t p) (list_all t ks) h
 
-    by : (b : Bool) → is_at (path_cmp q) p ≡ b → (b || has_path ks q) ≡ true → (has_path ks q ≡ true → t q ≡ true) → t q ≡ true
+    by : (b : Bool) → is_at (path_cmp q) p ≡ b → (b || has_path ks q) ≡ true →
+        (has_path ks q ≡ true → t q ≡ true) → t q ≡ true
     by true e k more = let same : q ≡ p = (path_eq_decides q p).0 (path_matches_eq q p ∙ e) in ap t same ∙ two.0
     by false e k more = more k
 
@@ -66,20 +73,27 @@ folders_parent ks (x ∷ []) h = refl
 folders_parent ks (x ∷ y ∷ r) h =
     let s = split_last x y r in
     let whole : y ∷ r ≡ s.1.0 ++ s.0 ∷ [] = s.1.1 in
-    let all : list_all (has_path ks) (folders_of (x ∷ s.1.0) ++ (x ∷ s.1.0) ∷ []) ≡ true = ap (list_all (has_path ks)) (sym (folders_of-push x s.1.0 s.0)) ∙ (ap (λ t. has_folders ks (x ∷ t)) (sym whole) ∙ h) in
-    ap (has_this ks) (ap (λ t. parent_of (x ∷ t)) whole ∙ parent-push x s.1.0 s.0) ∙ last_passes (has_path ks) (folders_of (x ∷ s.1.0)) (x ∷ s.1.0) all
+    let all : list_all (has_path ks) (folders_of (x ∷ s.1.0) ++ (x ∷ s.1.0) ∷ []) ≡ true =
+    ap (list_all (has_path ks)) (sym (folders_of-push x s.1.0 s.0))
+    ∙ (ap (λ t. has_folders ks (x ∷ t)) (sym whole) ∙ h) in
+    ap (has_this ks) (ap (λ t. parent_of (x ∷ t)) whole ∙ parent-push x s.1.0 s.0)
+    ∙ last_passes (has_path ks) (folders_of (x ∷ s.1.0)) (x ∷ s.1.0) all
   where
-    last_passes : (t : PathValue → Bool) (qs : List PathValue) (q : PathValue) → list_all t (qs ++ q ∷ []) ≡ true → t q ≡ true
+    last_passes : (t : PathValue → Bool) (qs : List PathValue) (q : PathValue) → list_all t (qs ++ q ∷ [])
+        ≡ true → t q ≡ true
     last_passes t [] q h = (and_both (t q) true h).0
     last_passes t (p ∷ qs) q h = last_passes t qs q (and_both (t p) (list_all t (qs ++ q ∷ [])) h).1
 
 -- one test of all paths gives another
-pub all_from : (s t : PathValue → Bool) → ((q : PathValue) → s q ≡ true → t q ≡ true) → (ks : Paths) → list_all s ks ≡ true → list_all t ks ≡ true
+pub all_from : (s t : PathValue → Bool) → ((q : PathValue) → s q ≡ true → t q ≡ true) → (ks : Paths) →
+    list_all s ks ≡ true → list_all t ks ≡ true
 all_from s t f [] h = refl
-all_from s t f (k ∷ ks) h = let two = and_both (s k) (list_all s ks) h in rw (f k two.0) (all_from s t f ks two.1)
+all_from s t f (k ∷ ks) h = let two = and_both (s k) (list_all s ks) h in
+    rw (f k two.0) (all_from s t f ks two.1)
 
 -- both of two tests of all paths
-all_both : (s t : PathValue → Bool) (ks : Paths) → list_all s ks ≡ true → list_all t ks ≡ true → list_all (λ q. s q && t q) ks ≡ true
+all_both : (s t : PathValue → Bool) (ks : Paths) → list_all s ks ≡ true → list_all t ks ≡ true →
+    list_all (λ q. s q && t q) ks ≡ true
 all_both s t [] h k = refl
 all_both s t (p ∷ ks) h k =
     let a = and_both (s p) (list_all s ks) h in
@@ -108,12 +122,14 @@ parents_tell es = by (have_parents ks ks) (is_listing es) refl refl
     down h =
         let parents : list_all (has_parent ks) ks ≡ true = all_second is_nonempty (has_parent ks) ks h in
         let folders = all_folders ks (each_there (has_parent ks) ks parents) in
-        all_both is_nonempty (has_folders ks) ks (all_first is_nonempty (has_parent ks) ks h) (all_from (has_path ks) (has_folders ks) (λ q. folders (length q) q (omega arith)) ks there)
+        all_both is_nonempty (has_folders ks) ks (all_first is_nonempty (has_parent ks) ks h)
+        (all_from (has_path ks) (has_folders ks) (λ q. folders (length q) q (omega arith)) ks there)
 
     up : is_listing es ≡ true → have_parents ks ks ≡ true
     up h =
         all_both is_nonempty (has_parent ks) ks (all_first is_nonempty (has_folders ks) ks h)
-        (all_from (has_folders ks) (has_parent ks) (folders_parent ks) ks (all_second is_nonempty (has_folders ks) ks h))
+        (all_from (has_folders ks) (has_parent ks) (folders_parent ks) ks
+        (all_second is_nonempty (has_folders ks) ks h))
 
     by : (a b : Bool) → have_parents ks ks ≡ a → is_listing es ≡ b → a ≡ b
     by true true h k = refl
@@ -122,12 +138,21 @@ parents_tell es = by (have_parents ks ks) (is_listing es) refl refl
     by false true h k = sym h ∙ up k
 
 -- entries that ascend and pass the test are a listing
-pub made_of : (es : ListingValue) → IsStrictlySortedBy path_cmp (keys_of es) → is_listing es ≡ true → IsListing es
-made_of es s h = record { ordered = s; nonempty = all_first is_nonempty (has_folders (keys_of es)) (keys_of es) h; closed = all_second is_nonempty (has_folders (keys_of es)) (keys_of es) h }
+pub made_of : (es : ListingValue) → IsStrictlySortedBy path_cmp (keys_of es) → is_listing es ≡ true →
+    IsListing es
+made_of es s h =
+    record {
+      ordered = s;
+      nonempty = all_first is_nonempty (has_folders (keys_of es)) (keys_of es) h;
+      closed =
+          all_second is_nonempty (has_folders (keys_of es)) (keys_of es) h;
+    }
 
 -- what is found in entries that are put in one after the other
-pub found_last : (es : ListingValue) (entries : List (PathValue × EntryKind × ℕ)) (path : PathValue) → entry_at (put_all es entries) path ≡ last_or (entry_at es path) entries path
+pub found_last : (es : ListingValue) (entries : List (PathValue × EntryKind × ℕ)) (path : PathValue) →
+    entry_at (put_all es entries) path ≡ last_or (entry_at es path) entries path
 found_last es [] path = refl
 found_last es (x ∷ xs) path =
     found_last (insert_entry path_cmp es x.0 (record { kind = x.1; length = x.2 })) xs path
-    ∙ ap (λ o. last_or o xs path) (entry_at-insert es x.0 path (record { kind = x.1; length = x.2 }) (is_at (path_cmp path) x.0) refl)
+    ∙ ap (λ o. last_or o xs path) (entry_at-insert es x.0 path (record { kind = x.1; length = x.2 })
+    (is_at (path_cmp path) x.0) refl)

@@ -20,13 +20,15 @@ prefix_not_behind (x ∷ p) (y ∷ k) b g = by (part_cmp x y) refl (prefix_not_b
     by Equal q more = more (rw q at b) (rw q at g)
 
 -- behind p, what does not have p as a prefix stands behind all that does
-pub run_ends : (p a b : PathValue) → (path_cmp p a ≡ Greater → ⊥) → is_prefix p a ≡ false → path_cmp a b ≡ Less → is_prefix p b ≡ false
+pub run_ends : (p a b : PathValue) → (path_cmp p a ≡ Greater → ⊥) → is_prefix p a ≡ false →
+    path_cmp a b ≡ Less → is_prefix p b ≡ false
 run_ends [] a b from none up = absurd (true≢false none)
 run_ends (x ∷ p) [] b from none up = absurd (from refl)
 run_ends (x ∷ p) (y ∷ a) [] from none up = cc
 run_ends (x ∷ p) (y ∷ a) (z ∷ b) from none up = by (part_cmp x z) refl (run_ends p a b)
   where
-    by : (o : Ordering) → part_cmp x z ≡ o → ((path_cmp p a ≡ Greater → ⊥) → is_prefix p a ≡ false → path_cmp a b ≡ Less → is_prefix p b ≡ false) → is_prefix (x ∷ p) (z ∷ b) ≡ false
+    by : (o : Ordering) → part_cmp x z ≡ o → ((path_cmp p a ≡ Greater → ⊥) → is_prefix p a ≡ false →
+        path_cmp a b ≡ Less → is_prefix p b ≡ false) → is_prefix (x ∷ p) (z ∷ b) ≡ false
     by Less q more = rw q refl
     by Greater q more = rw q refl
     by Equal q more = at (part_cmp x y) refl
@@ -35,7 +37,8 @@ run_ends (x ∷ p) (y ∷ a) (z ∷ b) from none up = by (part_cmp x z) refl (ru
         same = (part_eq_decides x z).0 (rw q refl)
 
         at : (r : Ordering) → part_cmp x y ≡ r → is_prefix (x ∷ p) (z ∷ b) ≡ false
-        at Less r = let back : part_cmp y z ≡ Greater = rw (← same) (part_cmp_total.antisymm y x ∙ rw r refl) in cc (rw back at up)
+        at Less r = let back : part_cmp y z ≡ Greater = rw (← same) (part_cmp_total.antisymm y x ∙ rw r refl) in
+            cc (rw back at up)
         at Greater r = absurd (from (rw r refl))
         at Equal r =
             let here : part_cmp y z ≡ Equal = rw (← same) (part_cmp_total.antisymm y x ∙ rw r refl) in
@@ -56,8 +59,10 @@ prefix-trans (x ∷ a) [] c h k = absurd (true≢false (sym h))
 prefix-trans (x ∷ a) (y ∷ b) [] h k = absurd (true≢false (sym k))
 prefix-trans (x ∷ a) (y ∷ b) (z ∷ c) h k = by (part_eq x y) (part_eq y z) refl refl (prefix-trans a b c)
   where
-    by : (s t : Bool) → part_eq x y ≡ s → part_eq y z ≡ t → (is_prefix a b ≡ true → is_prefix b c ≡ true → is_prefix a c ≡ true) → is_prefix (x ∷ a) (z ∷ c) ≡ true
-    by true true p q more = let same : x ≡ z = (part_eq_decides x y).0 p ∙ (part_eq_decides y z).0 q in rw ((part_eq_decides x z).1 same) (more (rw p at h) (rw q at k))
+    by : (s t : Bool) → part_eq x y ≡ s → part_eq y z ≡ t →
+        (is_prefix a b ≡ true → is_prefix b c ≡ true → is_prefix a c ≡ true) → is_prefix (x ∷ a) (z ∷ c) ≡ true
+    by true true p q more = let same : x ≡ z = (part_eq_decides x y).0 p ∙ (part_eq_decides y z).0 q in
+        rw ((part_eq_decides x z).1 same) (more (rw p at h) (rw q at k))
     by true false p q more = absurd (true≢false (sym (rw q at k)))
     by false t p q more = absurd (true≢false (sym (rw p at h)))
 

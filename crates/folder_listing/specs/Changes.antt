@@ -92,7 +92,8 @@ resize entry = event_at resizing entry.0
 
 -- all changes: removals, creations and other lengths, each in the order of their paths
 abbrev pub changes : ListingValue → ListingValue → List EventValue
-changes old new = map removal (removed old new) ++ (map creation (created old new) ++ map resize (resized old new))
+changes old new = map removal (removed old new)
+    ++ (map creation (created old new) ++ map resize (resized old new))
 
 -- from the old paths on the events are honest, and played on them they leave the new paths
 pub record LeadsTo (old new : Paths) (events : List EventValue) : Type 0 where

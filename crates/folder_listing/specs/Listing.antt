@@ -38,7 +38,8 @@ is_nonempty (part ∷ parts) = true
 -- the entries are put in one after the other, so that a later one of a path wins
 abbrev pub put_all : ListingValue → List (PathValue × EntryKind × ℕ) → ListingValue
 put_all listing [] = listing
-put_all listing (entry ∷ entries) = put_all (insert_entry path_cmp listing entry.0 (record { kind = entry.1; length = entry.2 })) entries
+put_all listing (entry ∷ entries) =
+    put_all (insert_entry path_cmp listing entry.0 (record { kind = entry.1; length = entry.2 })) entries
 
 -- no path is empty, and the folders of each are there
 abbrev pub is_listing : ListingValue → Bool
@@ -52,7 +53,8 @@ listing_of entries = if is_listing (put_all [] entries) then Some (put_all [] en
 abbrev pub last_or : Option Found → List (PathValue × EntryKind × ℕ) → PathValue → Option Found
 last_or known [] path = known
 last_or known (entry ∷ entries) path =
-    last_or (if is_at (path_cmp path) entry.0 then Some (record { kind = entry.1; length = entry.2 }) else known) entries path
+    last_or (if is_at (path_cmp path) entry.0 then Some (record { kind = entry.1; length = entry.2 })
+    else known) entries path
 
 -- at each path there is what its last entry says, and nothing if it has none
 abbrev pub HasLast : List (PathValue × EntryKind × ℕ) → ListingValue → Type 0

@@ -7,7 +7,8 @@ use Rattle.folder_listing.specs.Listing.{ListingValue, entry_at}
 
 -- at each path there is what the first listing has, or else what the other one has
 abbrev pub IsMerged : ListingValue → ListingValue → ListingValue → Type 0
-IsMerged first other merged = (path : PathValue) → entry_at merged path ≡ option_or (entry_at first path) (entry_at other path)
+IsMerged first other merged = (path : PathValue) → entry_at merged path
+    ≡ option_or (entry_at first path) (entry_at other path)
 
 -- the entries are put in one after the other
 abbrev pub put_over : ListingValue → ListingValue → ListingValue

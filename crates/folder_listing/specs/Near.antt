@@ -1,4 +1,5 @@
--- Which paths a watched root shows, as far as a path tells: the root, what lies above it, and what lies below it, as deep as its mode says.
+-- Which paths a watched root shows, as far as a path tells: the root, what lies above it, and what lies below it, as
+-- deep as its mode says.
 use Rattle.std.specs.Prelude.{ℕ, zero, suc, Bool, true, false, ◌&&◌, ◌||◌, List, [], ◌∷◌, length, drop, filter}
 use Rattle.std.specs.List.{list_any}
 use Rattle.notify_paths.specs.Path.{PathValue, PartValue, RootPart, CurPart, ParentPart, NamePart, is_prefix}
@@ -27,7 +28,8 @@ are_names (suc depth) (part ∷ parts) = is_name_part part && are_names depth pa
 
 -- the path is the root or lies above it, or lies below it as deep as the mode says, by names alone
 abbrev pub is_near : PathValue → RecursiveMode → PathValue → Bool
-is_near root mode path = is_prefix path root || (is_prefix root path && are_names (depth_of mode) (drop (length root) path))
+is_near root mode path =
+    is_prefix path root || (is_prefix root path && are_names (depth_of mode) (drop (length root) path))
 
 -- one of the roots, which isn't empty, is near the path
 abbrev pub is_seen : List (PathValue × RecursiveMode) → PathValue → Bool

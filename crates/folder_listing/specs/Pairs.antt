@@ -30,7 +30,9 @@ both o n = record { path = o.0; before = Some o.1; after = Some n.1 }
 -- the old entry in its place among the new ones, if `next` pairs the other old ones
 abbrev pub paired_into : PathValue × Found → (ListingValue → List PairValue) → ListingValue → List PairValue
 paired_into o next [] = only_old o ∷ next []
-paired_into o next (n ∷ ns) = match_ordering (path_cmp o.0 n.0) (only_old o ∷ next (n ∷ ns)) (both o n ∷ next ns) (only_new n ∷ paired_into o next ns)
+paired_into o next (n ∷ ns) =
+    match_ordering (path_cmp o.0 n.0) (only_old o ∷ next (n ∷ ns)) (both o n ∷ next ns)
+    (only_new n ∷ paired_into o next ns)
 
 -- the entries of both, in the order of their paths, those of one path together
 abbrev pub paired : ListingValue → ListingValue → List PairValue
@@ -81,13 +83,23 @@ no_parts = record { removed = []; created = []; resized = [] }
 
 -- some events, and then others
 abbrev pub joined : PartsValue → PartsValue → PartsValue
-joined a b = record { removed = a.removed ++ b.removed; created = a.created ++ b.created; resized = a.resized ++ b.resized }
+joined a b = record {
+  removed = a.removed ++ b.removed;
+  created = a.created ++ b.created;
+  resized =
+      a.resized ++ b.resized;
+}
 
 -- the events of one change
 abbrev pub parts_of : Change → PathValue → PartsValue
 parts_of (Removed k) path = record no_parts { removed = event_at (removal_of k) path ∷ [] }
 parts_of (Created k) path = record no_parts { created = event_at (creation_of k) path ∷ [] }
-parts_of (Replaced j k) path = record { removed = event_at (removal_of j) path ∷ []; created = event_at (creation_of k) path ∷ []; resized = [] }
+parts_of (Replaced j k) path = record {
+  removed = event_at (removal_of j) path ∷ [];
+  created =
+      event_at (creation_of k) path ∷ [];
+  resized = [];
+}
 parts_of Resized path = record no_parts { resized = event_at resizing path ∷ [] }
 parts_of Same path = no_parts
 

@@ -30,7 +30,11 @@ impl<A: Allocator> Model for Parts<A> {
 
     ghost Value = { PartsValue };
 
-    ghost view = { λ a. record { removed = a.removed.items; created = a.created.items; resized = a.resized.items } };
+    ghost view = { λ a. record {
+      removed = a.removed.items;
+      created = a.created.items;
+      resized = a.resized.items;
+    } };
 }
 
 impl<A: Allocator + Copy> Parts<A> {
@@ -65,7 +69,8 @@ impl<A: Allocator + Copy> Parts<A> {
 
     /// Returns all events: removals, creations and other lengths.
     fn into_events(self) -> Result<Vec<Event<A>, A>, AllocError>
-        ensures { IfOk result (λ events. events.items ≡ self.removed ++ (self.created ++ self.resized)) }
+        ensures { IfOk result (λ events. events.items ≡ self.removed
+            ++ (self.created ++ self.resized)) }
     {
         let Parts {
             mut removed,
@@ -103,7 +108,8 @@ pub fn compare<A: Allocator + Copy>(
 ) -> Result<Vec<Event<A>, A>, Error<A>>
     ensures ok { IfOk result (λ events. events.items ≡ changes old.now new.now) }
     // Who plays the events on the old paths has the new ones.
-    ensures honest { IfOk result (λ events. LeadsTo (keys_of old.now) (keys_of new.now) events.items) }
+    ensures honest { IfOk result (λ events.
+        LeadsTo (keys_of old.now) (keys_of new.now) events.items) }
     ensures err { IfErr result (λ e. e ≡ out_of_memory) }
 {
     compare_entries(alloc, &old.entries, &new.entries).map_err(|_| Error::out_of_memory(alloc))
@@ -116,7 +122,8 @@ fn compare_entries<A: Allocator + Copy>(
 ) -> Result<Vec<Event<A>, A>, AllocError>
     requires { IsListing old.now.entries × IsListing new.now.entries }
     ensures ok { IfOk result (λ events. events.items ≡ changes old.now.entries new.now.entries) }
-    ensures honest { IfOk result (λ events. LeadsTo (keys_of old.now.entries) (keys_of new.now.entries) events.items) }
+    ensures honest { IfOk result (λ events.
+        LeadsTo (keys_of old.now.entries) (keys_of new.now.entries) events.items) }
 {
     let mut parts = Parts::new(alloc);
     let mut pairs = Pairs::new(old, new);

@@ -70,7 +70,8 @@ impl<A: Allocator + Copy> Listing<A> {
         ensures unchanged { OnErr result (self.new ≡ self.old) }
         ensures err { IfErr result (λ e. e ≡ out_of_memory) }
         ensures here { OnOk result (has_entry self.new path.now ≡ true) }
-        ensures grows { (q : PathValue) → has_entry self.old q ≡ true → has_entry self.new q ≡ true }
+        ensures grows { (q : PathValue) → has_entry self.old q ≡ true → has_entry self.new q
+            ≡ true }
     {
         let path = path.try_clone()?;
         let Ok(_) = self.entries.insert(path, found) else {
@@ -191,7 +192,8 @@ fn gather<A: Allocator + Copy>(
 fn have_parents<A: Allocator + Copy>(
     entries: &BTreeMap<PathBuf<A>, Found, A>,
 ) -> Result<bool, AllocError>
-    ensures ok { IfOk result (λ b. b ≡ have_parents (keys_of entries.now.entries) (keys_of entries.now.entries)) }
+    ensures ok { IfOk result (λ b. b
+        ≡ have_parents (keys_of entries.now.entries) (keys_of entries.now.entries)) }
     ensures ordered { IsStrictlySortedBy path_cmp (keys_of entries.now.entries) }
 {
     let mut rest = entries.iter();

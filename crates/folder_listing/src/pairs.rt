@@ -109,7 +109,8 @@ impl<'a, A: Allocator> Model for Pairs<'a, A> {
 
     ghost Value = { List PairValue };
 
-    ghost view = { λ a. paired (with_head (option_map deref_pair a.before) a.olds) (with_head (option_map deref_pair a.after) a.news) };
+    ghost view = { λ a. paired (with_head (option_map deref_pair a.before) a.olds)
+        (with_head (option_map deref_pair a.after) a.news) };
 }
 
 impl<'a, A: Allocator> Pairs<'a, A> {

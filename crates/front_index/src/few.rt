@@ -49,8 +49,10 @@ fn lend_at<'a, A: Allocator + Copy>(
     path: &PathBuf<A>,
     due: Due,
 ) -> Result<(), AllocError>
-    ensures places { OnOk result (borrowed places.new.items ≡ borrowed places.old.items ++ emitted_of due (queue_at map.now.entries path.now)) }
-    ensures later { OnOk result (later.new.items ≡ later.old.items ++ pair_of (front_after due (queue_at map.now.entries path.now)) path.now) }
+    ensures places { OnOk result (borrowed places.new.items ≡ borrowed places.old.items
+        ++ emitted_of due (queue_at map.now.entries path.now)) }
+    ensures later { OnOk result (later.new.items ≡ later.old.items
+        ++ pair_of (front_after due (queue_at map.now.entries path.now)) path.now) }
 {
     let Some(queue) = map.get(path) else {
         return Ok(());
@@ -68,7 +70,8 @@ pub(crate) fn lend_few<'a, A: Allocator + Copy>(
     due: Due,
 ) -> Result<Pairs<A>, AllocError>
     requires { ArePathsDue due map.now.entries paths.now }
-    ensures places { OnOk result (borrowed places.new.items ≡ borrowed places.old.items ++ place_list (is_due due) map.now.entries) }
+    ensures places { OnOk result (borrowed places.new.items ≡ borrowed places.old.items
+        ++ place_list (is_due due) map.now.entries) }
     ensures later { IfOk result (λ later. AreLater due map.now.entries later.items) }
 {
     // The proof reads here that the paths ascend, in the map and in the set.
@@ -90,8 +93,10 @@ fn give_at<A: Allocator + Copy>(
     out: &mut Vec<DebouncedEvent<A>, A>,
 )
     requires there { is_some (queue_at map.old.entries path) ≡ true }
-    requires room { vec_len out.old + length (emitted_of due (queue_at map.old.entries path)) ≤ vec_capacity out.old }
-    ensures moved { out.new.items ≡ out.old.items ++ emitted_of due (queue_at map.old.entries path) }
+    requires room { vec_len out.old + length (emitted_of due (queue_at map.old.entries path))
+        ≤ vec_capacity out.old }
+    ensures moved { out.new.items ≡ out.old.items
+        ++ emitted_of due (queue_at map.old.entries path) }
     ensures capacity { vec_capacity out.new ≡ vec_capacity out.old }
     ensures taken { map.new.entries ≡ trimmed_at due map.old.entries path }
 {
@@ -118,7 +123,8 @@ fn give_few<A: Allocator + Copy>(
     out: &mut Vec<DebouncedEvent<A>, A>,
 )
     requires there { AreThere due map.old.entries paths.keys }
-    requires room { vec_len out.old + length (given_at due map.old.entries paths.keys) ≤ vec_capacity out.old }
+    requires room { vec_len out.old + length (given_at due map.old.entries paths.keys)
+        ≤ vec_capacity out.old }
     ensures moved { out.new.items ≡ out.old.items ++ given_at due map.old.entries paths.keys }
     ensures capacity { vec_capacity out.new ≡ vec_capacity out.old }
     ensures taken { map.new.entries ≡ taken_at due map.old.entries paths.keys }
@@ -149,8 +155,10 @@ pub(crate) fn take_few<A: Allocator + Copy>(
     requires indexed { IsIndexed fronts.old map.old.entries }
     requires paths { ArePathsDue due map.old.entries paths }
     requires later { AreLater due map.old.entries later.items }
-    requires room { vec_len out.old + length (place_list (is_due due) map.old.entries) ≤ vec_capacity out.old }
-    ensures moved { OnOk result (out.new.items ≡ out.old.items ++ place_list (is_due due) map.old.entries) }
+    requires room { vec_len out.old + length (place_list (is_due due) map.old.entries)
+        ≤ vec_capacity out.old }
+    ensures moved { OnOk result (out.new.items ≡ out.old.items
+        ++ place_list (is_due due) map.old.entries) }
     ensures capacity { vec_capacity out.new ≡ vec_capacity out.old }
     ensures count { IfOk result (λ count. count ≡ due_fronts (is_due due) map.old.entries) }
     ensures left { OnOk result (map.new.entries ≡ rests (is_due due) map.old.entries) }

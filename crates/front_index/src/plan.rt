@@ -94,7 +94,8 @@ impl<A: Allocator + Copy> Plan<A> {
         due: Due,
     ) -> Result<(), AllocError>
         requires { IsPlan due map.now.entries self.old }
-        ensures places { OnOk result (borrowed places.new.items ≡ borrowed places.old.items ++ place_list (is_due due) map.now.entries) }
+        ensures places { OnOk result (borrowed places.new.items ≡ borrowed places.old.items
+            ++ place_list (is_due due) map.now.entries) }
         ensures lent { OnOk result (IsLent due map.now.entries self.new) }
         ensures same { moves self.new ≡ moves self.old }
     {
@@ -120,8 +121,10 @@ impl<A: Allocator + Copy> Plan<A> {
         requires indexed { IsIndexed fronts.old map.old.entries }
         requires lent { IsLent due map.old.entries self }
         requires moves { moves self ≡ true }
-        requires room { vec_len out.old + length (place_list (is_due due) map.old.entries) ≤ vec_capacity out.old }
-        ensures moved { OnOk result (out.new.items ≡ out.old.items ++ place_list (is_due due) map.old.entries) }
+        requires room { vec_len out.old + length (place_list (is_due due) map.old.entries)
+            ≤ vec_capacity out.old }
+        ensures moved { OnOk result (out.new.items ≡ out.old.items
+            ++ place_list (is_due due) map.old.entries) }
         ensures capacity { vec_capacity out.new ≡ vec_capacity out.old }
         ensures count { IfOk result (λ count. count ≡ due_fronts (is_due due) map.old.entries) }
         ensures left { OnOk result (map.new.entries ≡ rests (is_due due) map.old.entries) }

@@ -117,7 +117,8 @@ impl<A: Allocator + Copy> IndexedQueues<A> {
     /// allocation fails, nothing has changed.
     pub fn put_alone(&mut self, event: DebouncedEvent<A>) -> Result<(), AllocError>
         requires { 0 < length event.event.paths }
-        ensures ok { OnOk result (self.new ≡ with_queue self.old (first_of event.event.paths) (event ∷ [])) }
+        ensures ok { OnOk result (self.new
+            ≡ with_queue self.old (first_of event.event.paths) (event ∷ [])) }
         ensures unchanged { OnErr result (self.new ≡ self.old) }
     {
         let path = first_path(&event).clone()?;
@@ -212,8 +213,10 @@ impl<A: Allocator + Copy> IndexedQueues<A> {
     ) -> Result<usize, AllocError>
         requires lent { IsLent due self.old plan }
         requires moves { moves plan ≡ true }
-        requires room { vec_len out.old + length (place_list (is_due due) self.old) ≤ vec_capacity out.old }
-        ensures moved { OnOk result (out.new.items ≡ out.old.items ++ place_list (is_due due) self.old) }
+        requires room { vec_len out.old + length (place_list (is_due due) self.old)
+            ≤ vec_capacity out.old }
+        ensures moved { OnOk result (out.new.items ≡ out.old.items
+            ++ place_list (is_due due) self.old) }
         ensures capacity { vec_capacity out.new ≡ vec_capacity out.old }
         ensures count { IfOk result (λ count. count ≡ due_fronts (is_due due) self.old) }
         ensures left { OnOk result (self.new ≡ rests (is_due due) self.old) }

@@ -34,7 +34,8 @@ pub(crate) fn add_front_at<A: Allocator + Copy>(
     map: &QueueMap<A>,
     path: &PathBuf<A>,
 ) -> Result<(), AllocError>
-    ensures { OnOk result (pairs.new.items ≡ pairs.old.items ++ front_pair map.now.entries path.now) }
+    ensures { OnOk result (pairs.new.items ≡ pairs.old.items
+        ++ front_pair map.now.entries path.now) }
 {
     add_pair(pairs, front_of(map.get(path)), path)
 }
@@ -107,7 +108,8 @@ pub(crate) fn settle<A: Allocator>(
 
 /// Takes out of the index whatever is no front.
 pub(crate) fn tidy<A: Allocator>(map: &QueueMap<A>, fronts: &mut Fronts<A>)
-    requires covered { (t : ℕ) (p : PathValue) → is_front map.now.entries t p ≡ true → has fronts.old t p ≡ true }
+    requires covered { (t : ℕ) (p : PathValue) → is_front map.now.entries t p ≡ true →
+        has fronts.old t p ≡ true }
     ensures { (t : ℕ) (p : PathValue) → has fronts.new t p ≡ is_front map.now.entries t p }
 {
     fronts.retain(|front| is_front(map, &front.1, front.0));

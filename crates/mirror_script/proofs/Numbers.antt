@@ -14,22 +14,29 @@ pub numerals : IsNumeralModel (λ ds. all_ascii_digits ds ≡ true) (digits_valu
 numerals = numerals_by_value (λ ds. all_ascii_digits ds ≡ true) tells_all_ascii_digits
 
 -- digits that write a number of so many bits are a number
-is_number_from : (bits : ℕ) (bs : List ℕ) → all_ascii_digits bs ≡ true → 0 < length bs → digits_value 10 bs < 2 ^ bits → is_number bits bs ≡ true
+is_number_from : (bits : ℕ) (bs : List ℕ) → all_ascii_digits bs ≡ true → 0 < length bs →
+    digits_value 10 bs < 2 ^ bits → is_number bits bs ≡ true
 is_number_from bits bs digits some fits =
     let nonempty : not (length bs == 0) ≡ true = grind (arith, nat_tests) in
     let small : nat_lt (digits_value 10 bs) (2 ^ bits) ≡ true = grind (arith, nat_tests) in
     rw (digits, nonempty, small) refl
 
 -- a number is made of digits, and fits its bits
-number_facts : (bits : ℕ) (bs : List ℕ) → is_number bits bs ≡ true → (all_ascii_digits bs ≡ true) × (0 < length bs) × (digits_value 10 bs < 2 ^ bits)
+number_facts : (bits : ℕ) (bs : List ℕ) → is_number bits bs ≡ true → (all_ascii_digits bs ≡ true)
+    × (0 < length bs) × (digits_value 10 bs < 2 ^ bits)
 number_facts bits bs h =
-    let one = and_parts (all_ascii_digits bs) (not (length bs == 0) && nat_lt (digits_value 10 bs) (2 ^ bits)) h in
+    let one = and_parts (all_ascii_digits bs) (not (length bs == 0) && nat_lt (digits_value 10 bs) (2 ^ bits))
+    h in
     let two = and_parts (not (length bs == 0)) (nat_lt (digits_value 10 bs) (2 ^ bits)) one.1 in
     let nonempty : not (length bs == 0) ≡ true = two.0 in
     let small : nat_lt (digits_value 10 bs) (2 ^ bits) ≡ true = two.1 in
     (one.0, grind (arith, nat_tests), grind (arith, nat_tests))
 
 -- what `parse` answered, where it read digits alone
-pub number_read : {E : Type 0} (bits : ℕ) (bs : List ℕ) (r : Result ℕ E) → OkIff r ((all_ascii_digits bs ≡ true) × (0 < length bs) × (digits_value 10 bs < 2 ^ bits)) (digits_value 10 bs) → result_ok r ≡ number_of bits bs
-number_read bits bs (Ok x) h = ap Some h.1 ∙ sym (cond-true (is_number bits bs) _ _ (is_number_from bits bs h.0.0 h.0.1 h.0.2))
-number_read bits bs (Err e) h = cond_both (is_number bits bs) _ _ (λ o. None ≡ o) (λ q. absurd (h (number_facts bits bs q))) (λ q. refl)
+pub number_read : {E : Type 0} (bits : ℕ) (bs : List ℕ) (r : Result ℕ E) →
+    OkIff r ((all_ascii_digits bs ≡ true) × (0 < length bs) × (digits_value 10 bs < 2 ^ bits))
+    (digits_value 10 bs) → result_ok r ≡ number_of bits bs
+number_read bits bs (Ok x) h = ap Some h.1
+    ∙ sym (cond-true (is_number bits bs) _ _ (is_number_from bits bs h.0.0 h.0.1 h.0.2))
+number_read bits bs (Err e) h =
+    cond_both (is_number bits bs) _ _ (λ o. None ≡ o) (λ q. absurd (h (number_facts bits bs q))) (λ q. refl)

@@ -21,7 +21,8 @@ abbrev pub fault_line : List ℕ → Fault → List ℕ
 fault_line name Usage = codes "usage: mirror SCRIPT | --check SCRIPT | --threads SCRIPT.. | --watch DIR TICKS\n"
 fault_line name NotUtf8 = codes "mirror: an argument is not UTF-8\n"
 fault_line name CannotRead = codes "mirror: cannot read " ++ (name ++ (10 ∷ []))
-fault_line name (NotCommand line) = codes "mirror: " ++ (name ++ (codes ": line " ++ (decimal line ++ codes ": not a command\n")))
+fault_line name (NotCommand line) =
+    codes "mirror: " ++ (name ++ (codes ": line " ++ (decimal line ++ codes ": not a command\n")))
 fault_line name Memory = codes "mirror: out of memory\n"
 fault_line name CannotWatch = codes "mirror: cannot watch " ++ (name ++ (10 ∷ []))
 fault_line name OutputFailed = []

@@ -45,7 +45,8 @@ is_empty text = length text == 0
 
 -- one decimal digit or more, without a sign, that write a number of so many bits
 abbrev pub is_number : ℕ → List ℕ → Bool
-is_number bits digits = all_ascii_digits digits && (not (is_empty digits) && nat_lt (digits_value 10 digits) (2 ^ bits))
+is_number bits digits =
+    all_ascii_digits digits && (not (is_empty digits) && nat_lt (digits_value 10 digits) (2 ^ bits))
 
 -- the number that a text writes, of so many bits
 abbrev pub number_of : ℕ → List ℕ → Option ℕ
@@ -125,7 +126,8 @@ behind beginning word = drop (length beginning) word
 -- the options with `tracker=N` or `info=W` too
 abbrev pub with_assignment : OptionsValue → List ℕ → Option OptionsValue
 with_assignment options word =
-    if starts_with nat_eq word (codes "tracker=") then with_tracker options (number_of 64 (behind (codes "tracker=") word))
+    if starts_with nat_eq word (codes "tracker=")
+    then with_tracker options (number_of 64 (behind (codes "tracker=") word))
     else (if starts_with nat_eq word (codes "info=") then with_info options (behind (codes "info=") word)
     else None)
 
@@ -147,7 +149,8 @@ words_of field = slice_split (λ b. b == 44) field
 
 -- the options of a field: `-` for none, or words between commas, each at most once
 abbrev pub options_of : List ℕ → Option OptionsValue
-options_of field = if bytes_eq field (codes "-") then Some no_options else with_words no_options (words_of field)
+options_of field = if bytes_eq field (codes "-") then Some no_options
+    else with_words no_options (words_of field)
 
 -- ---- what a line says
 
@@ -193,12 +196,14 @@ abbrev pub event_command : List (List ℕ) → Option CommandValue
 event_command [] = None
 event_command (moment ∷ []) = None
 event_command (moment ∷ kind ∷ []) = None
-event_command (moment ∷ kind ∷ options ∷ paths) = event_with (moment_of moment) (kind_of kind) (options_of options) (map path_of paths)
+event_command (moment ∷ kind ∷ options ∷ paths) =
+    event_with (moment_of moment) (kind_of kind) (options_of options) (map path_of paths)
 
 -- `error WORD`, by the fields after its word
 abbrev pub error_command : List (List ℕ) → Option CommandValue
 error_command [] = None
-error_command (kind ∷ []) = option_map (λ k. ErrorCommand (record { kind = k; paths = [] })) (error_kind_of kind)
+error_command (kind ∷ []) =
+    option_map (λ k. ErrorCommand (record { kind = k; paths = [] })) (error_kind_of kind)
 error_command (kind ∷ next ∷ fields) = None
 
 -- `root MODE P`, by the fields after its word
@@ -268,16 +273,21 @@ said Timeout s (StartLine path) = None
 said Timeout s (CommandLine command) = None
 said Counts s (TimeoutLine timeout) = None
 said Counts s (CountsLine counts) = Some (record { stage = Starts; script = record s { counts = counts } })
-said Counts s (StartLine path) = Some (record { stage = Starts; script = record s { start = s.start ++ path ∷ [] } })
-said Counts s (CommandLine command) = Some (record { stage = Commands; script = record s { commands = s.commands ++ command ∷ [] } })
+said Counts s (StartLine path) =
+    Some (record { stage = Starts; script = record s { start = s.start ++ path ∷ [] } })
+said Counts s (CommandLine command) =
+    Some (record { stage = Commands; script = record s { commands = s.commands ++ command ∷ [] } })
 said Starts s (TimeoutLine timeout) = None
 said Starts s (CountsLine counts) = None
-said Starts s (StartLine path) = Some (record { stage = Starts; script = record s { start = s.start ++ path ∷ [] } })
-said Starts s (CommandLine command) = Some (record { stage = Commands; script = record s { commands = s.commands ++ command ∷ [] } })
+said Starts s (StartLine path) =
+    Some (record { stage = Starts; script = record s { start = s.start ++ path ∷ [] } })
+said Starts s (CommandLine command) =
+    Some (record { stage = Commands; script = record s { commands = s.commands ++ command ∷ [] } })
 said Commands s (TimeoutLine timeout) = None
 said Commands s (CountsLine counts) = None
 said Commands s (StartLine path) = None
-said Commands s (CommandLine command) = Some (record { stage = Commands; script = record s { commands = s.commands ++ command ∷ [] } })
+said Commands s (CommandLine command) =
+    Some (record { stage = Commands; script = record s { commands = s.commands ++ command ∷ [] } })
 
 -- .. if the line says anything
 abbrev pub said_if : ReadingValue → Option LineValue → Option ReadingValue
@@ -291,7 +301,8 @@ is_skipped (b ∷ bs) = b == 35
 
 -- the reading after one more line, which is to be UTF-8
 abbrev pub after_line : ReadingValue → List ℕ → Option ReadingValue
-after_line r line = if not (is_utf8 line) then None else (if is_skipped line then Some r else said_if r (line_of line))
+after_line r line = if not (is_utf8 line) then None
+    else (if is_skipped line then Some r else said_if r (line_of line))
 
 -- a text is a script, or fails at the line of this number
 pub data Outcome : Type 0 where
@@ -317,7 +328,8 @@ read_on n r (line ∷ lines) = or_fails n (after_line r line) (λ t. read_on (n 
 
 -- nothing was said
 abbrev pub nothing_read : ReadingValue
-nothing_read = record { stage = Timeout; script = record { timeout = 0; counts = no_counts; start = []; commands = [] } }
+nothing_read =
+    record { stage = Timeout; script = record { timeout = 0; counts = no_counts; start = []; commands = [] } }
 
 -- what a text says
 abbrev pub script_of : List ℕ → Outcome

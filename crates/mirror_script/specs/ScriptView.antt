@@ -27,7 +27,13 @@ module _ {Z : Type 0} where
 
   -- a script of the code as a value
   abbrev pub script_value : Script Z → ScriptValue
-  script_value script = record { timeout = script.timeout; counts = script.counts; start = script.start.items; commands = command_values script.commands.items }
+  script_value script = record {
+    timeout = script.timeout;
+    counts = script.counts;
+    start =
+        script.start.items;
+    commands = command_values script.commands.items;
+  }
 
   -- a reading of the code as a value
   abbrev pub reading_value : Reading Z → ReadingValue

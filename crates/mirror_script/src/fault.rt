@@ -50,7 +50,8 @@ impl Fault {
     /// Writes the fault's line, for a script or a folder of this name. If the output failed, there is none.
     pub fn write<E: Write>(self, name: &str, err: &mut E) -> io::Result<()>
         ensures silent { self ≡ Fault.OutputFailed → E.contents err.new ≡ E.contents err.old }
-        ensures line { OnOk result (Appends (E.contents err.old) (E.contents err.new) (fault_line name.now self)) }
+        ensures line { OnOk result (Appends (E.contents err.old) (E.contents err.new)
+            (fault_line name.now self)) }
     {
         match self {
             Fault::Usage => writeln!(

@@ -80,8 +80,10 @@ impl<A: Allocator> Options<A> {
     }
 
     fn take_info(&mut self, alloc: A, info: &str) -> Result<(), LineFault>
-        ensures ok { OnOk result (with_info (options_value self.old) info.now ≡ Some (options_value self.new)) }
-        ensures err { IfErr result (λ e. e ≡ NotCommand → with_info (options_value self.old) info.now ≡ None) }
+        ensures ok { OnOk result (with_info (options_value self.old) info.now
+            ≡ Some (options_value self.new)) }
+        ensures err { IfErr result (λ e. e ≡ NotCommand →
+            with_info (options_value self.old) info.now ≡ None) }
     {
         if info.is_empty() || self.attrs.info.is_some() {
             return Err(LineFault::NotCommand);
@@ -91,7 +93,8 @@ impl<A: Allocator> Options<A> {
     }
 
     fn take_rescan(&mut self) -> Result<(), LineFault>
-        ensures ok { OnOk result (with_rescan (options_value self.old) ≡ Some (options_value self.new)) }
+        ensures ok { OnOk result (with_rescan (options_value self.old)
+            ≡ Some (options_value self.new)) }
         ensures err { IfErr result (λ e. with_rescan (options_value self.old) ≡ None) }
     {
         if self.attrs.flag.is_some() {
@@ -102,7 +105,8 @@ impl<A: Allocator> Options<A> {
     }
 
     fn take_exists(&mut self) -> Result<(), LineFault>
-        ensures ok { OnOk result (with_exists (options_value self.old) ≡ Some (options_value self.new)) }
+        ensures ok { OnOk result (with_exists (options_value self.old)
+            ≡ Some (options_value self.new)) }
         ensures err { IfErr result (λ e. with_exists (options_value self.old) ≡ None) }
     {
         if self.exists {
@@ -114,8 +118,10 @@ impl<A: Allocator> Options<A> {
 
     /// Takes one word more that gives a value.
     fn take_assignment(&mut self, alloc: A, word: &str) -> Result<(), LineFault>
-        ensures ok { OnOk result (with_assignment (options_value self.old) word.now ≡ Some (options_value self.new)) }
-        ensures err { IfErr result (λ e. e ≡ NotCommand → with_assignment (options_value self.old) word.now ≡ None) }
+        ensures ok { OnOk result (with_assignment (options_value self.old) word.now
+            ≡ Some (options_value self.new)) }
+        ensures err { IfErr result (λ e. e ≡ NotCommand →
+            with_assignment (options_value self.old) word.now ≡ None) }
     {
         if let Some(digits) = word.strip_prefix("tracker=") {
             return self.take_tracker(digits);
@@ -128,8 +134,10 @@ impl<A: Allocator> Options<A> {
 
     /// Takes one word more.
     fn take_word(&mut self, alloc: A, word: &str) -> Result<(), LineFault>
-        ensures ok { OnOk result (with_word (options_value self.old) word.now ≡ Some (options_value self.new)) }
-        ensures err { IfErr result (λ e. e ≡ NotCommand → with_word (options_value self.old) word.now ≡ None) }
+        ensures ok { OnOk result (with_word (options_value self.old) word.now
+            ≡ Some (options_value self.new)) }
+        ensures err { IfErr result (λ e. e ≡ NotCommand →
+            with_word (options_value self.old) word.now ≡ None) }
     {
         match word {
             "rescan" => self.take_rescan(),
@@ -265,7 +273,8 @@ fn read_start<A: Allocator + Copy>(alloc: A, fields: &[&str]) -> Result<Line<A>,
 }
 
 fn read_event<A: Allocator + Copy>(alloc: A, fields: &[&str]) -> Result<Command<A>, LineFault>
-    ensures ok { IfOk result (λ command. event_command (texts fields.now) ≡ Some (command_value command)) }
+    ensures ok { IfOk result (λ command. event_command (texts fields.now)
+        ≡ Some (command_value command)) }
     ensures err { IfErr result (λ e. e ≡ NotCommand → event_command (texts fields.now) ≡ None) }
 {
     let [moment, kind, options, names @ ..] = fields else {
@@ -280,7 +289,8 @@ fn read_event<A: Allocator + Copy>(alloc: A, fields: &[&str]) -> Result<Command<
 }
 
 fn read_error<A: Allocator + Copy>(alloc: A, fields: &[&str]) -> Result<Command<A>, LineFault>
-    ensures ok { IfOk result (λ command. error_command (texts fields.now) ≡ Some (command_value command)) }
+    ensures ok { IfOk result (λ command. error_command (texts fields.now)
+        ≡ Some (command_value command)) }
     ensures err { IfErr result (λ e. error_command (texts fields.now) ≡ None) }
 {
     match fields {
@@ -290,7 +300,8 @@ fn read_error<A: Allocator + Copy>(alloc: A, fields: &[&str]) -> Result<Command<
 }
 
 fn read_root<A: Allocator + Copy>(alloc: A, fields: &[&str]) -> Result<Command<A>, LineFault>
-    ensures ok { IfOk result (λ command. root_command (texts fields.now) ≡ Some (command_value command)) }
+    ensures ok { IfOk result (λ command. root_command (texts fields.now)
+        ≡ Some (command_value command)) }
     ensures err { IfErr result (λ e. e ≡ NotCommand → root_command (texts fields.now) ≡ None) }
 {
     let [mode, name] = fields else {
@@ -301,7 +312,8 @@ fn read_root<A: Allocator + Copy>(alloc: A, fields: &[&str]) -> Result<Command<A
 }
 
 fn read_unroot<A: Allocator + Copy>(alloc: A, fields: &[&str]) -> Result<Command<A>, LineFault>
-    ensures ok { IfOk result (λ command. unroot_command (texts fields.now) ≡ Some (command_value command)) }
+    ensures ok { IfOk result (λ command. unroot_command (texts fields.now)
+        ≡ Some (command_value command)) }
     ensures err { IfErr result (λ e. e ≡ NotCommand → unroot_command (texts fields.now) ≡ None) }
 {
     match fields {
@@ -311,7 +323,8 @@ fn read_unroot<A: Allocator + Copy>(alloc: A, fields: &[&str]) -> Result<Command
 }
 
 fn read_errors<A: Allocator>(fields: &[&str]) -> Result<Command<A>, LineFault>
-    ensures ok { IfOk result (λ command. errors_command (texts fields.now) ≡ Some (command_value command)) }
+    ensures ok { IfOk result (λ command. errors_command (texts fields.now)
+        ≡ Some (command_value command)) }
     ensures err { IfErr result (λ e. errors_command (texts fields.now) ≡ None) }
 {
     match fields {
@@ -321,7 +334,8 @@ fn read_errors<A: Allocator>(fields: &[&str]) -> Result<Command<A>, LineFault>
 }
 
 fn read_tick<A: Allocator>(fields: &[&str]) -> Result<Command<A>, LineFault>
-    ensures ok { IfOk result (λ command. tick_command (texts fields.now) ≡ Some (command_value command)) }
+    ensures ok { IfOk result (λ command. tick_command (texts fields.now)
+        ≡ Some (command_value command)) }
     ensures err { IfErr result (λ e. tick_command (texts fields.now) ≡ None) }
 {
     match fields {
@@ -336,8 +350,10 @@ fn read_command<A: Allocator + Copy>(
     word: &str,
     fields: &[&str],
 ) -> Result<Command<A>, LineFault>
-    ensures ok { IfOk result (λ command. worded_command word.now (texts fields.now) ≡ Some (command_value command)) }
-    ensures err { IfErr result (λ e. e ≡ NotCommand → worded_command word.now (texts fields.now) ≡ None) }
+    ensures ok { IfOk result (λ command. worded_command word.now (texts fields.now)
+        ≡ Some (command_value command)) }
+    ensures err { IfErr result (λ e. e ≡ NotCommand → worded_command word.now (texts fields.now)
+        ≡ None) }
 {
     match word {
         "event" => read_event(alloc, fields),
@@ -356,8 +372,10 @@ fn read_worded<A: Allocator + Copy>(
     word: &str,
     fields: &[&str],
 ) -> Result<Line<A>, LineFault>
-    ensures ok { IfOk result (λ line. worded_line word.now (texts fields.now) ≡ Some (line_value line)) }
-    ensures err { IfErr result (λ e. e ≡ NotCommand → worded_line word.now (texts fields.now) ≡ None) }
+    ensures ok { IfOk result (λ line. worded_line word.now (texts fields.now)
+        ≡ Some (line_value line)) }
+    ensures err { IfErr result (λ e. e ≡ NotCommand → worded_line word.now (texts fields.now)
+        ≡ None) }
 {
     match word {
         "timeout" => read_timeout(fields),

@@ -23,7 +23,8 @@ pub fn read_script<A: Allocator + Copy, R: Read>(
 
 /// The bytes that the reader gives, up to its end.
 fn read_whole<A: Allocator, R: Read>(alloc: A, reader: &mut R) -> Result<Vec<u8, A>, Fault>
-    ensures ok { IfOk result (λ bytes. IfSome (R.remaining reader.old) (λ given. bytes.items ≡ given)) }
+    ensures ok { IfOk result (λ bytes. IfSome (R.remaining reader.old) (λ given. bytes.items
+        ≡ given)) }
     ensures err { IfErr result (λ fault. (fault ≡ Fault.CannotRead) ⊎ (fault ≡ Fault.Memory)) }
 {
     let mut bytes = Vec::new(alloc);

@@ -84,8 +84,10 @@ impl<A: Allocator + Copy> Reading<A> {
 
     /// Takes a line without its end.
     fn take_bytes(&mut self, alloc: A, bytes: &[u8]) -> Result<(), LineFault>
-        ensures ok { OnOk result (after_line (reading_value self.old) bytes.now ≡ Some (reading_value self.new)) }
-        ensures err { IfErr result (λ e. e ≡ NotCommand → after_line (reading_value self.old) bytes.now ≡ None) }
+        ensures ok { OnOk result (after_line (reading_value self.old) bytes.now
+            ≡ Some (reading_value self.new)) }
+        ensures err { IfErr result (λ e. e ≡ NotCommand →
+            after_line (reading_value self.old) bytes.now ≡ None) }
     {
         let Ok(line) = str::from_utf8(bytes) else {
             return Err(LineFault::NotCommand);

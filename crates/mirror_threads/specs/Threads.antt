@@ -45,7 +45,9 @@ last_word same = if same then codes "same" else codes "differs"
 -- the three lines of a run
 abbrev pub threads_lines : ℕ → ℕ → Bool → List ℕ
 threads_lines commands events same =
-    codes "entries " ++ (decimal commands ++ (codes "\ntaken " ++ (decimal events ++ (codes "\nreplay " ++ (last_word same ++ codes "\n")))))
+    codes "entries "
+    ++ (decimal commands
+    ++ (codes "\ntaken " ++ (decimal events ++ (codes "\nreplay " ++ (last_word same ++ codes "\n")))))
 
 -- the three lines were printed, for some numbers of commands and of events among them
 abbrev pub PrintsLines : Option (List ℕ) → Option (List ℕ) → Bool → Type 0

@@ -111,7 +111,8 @@ fn write_lines<O: Write>(
     same: bool,
     out: &mut O,
 ) -> Result<(), Fault>
-    ensures ok { OnOk result (Appends (O.contents out.old) (O.contents out.new) (threads_lines commands events same)) }
+    ensures ok { OnOk result (Appends (O.contents out.old) (O.contents out.new)
+        (threads_lines commands events same)) }
     ensures err { IfErr result (λ fault. fault ≡ Fault.OutputFailed) }
 {
     let word = if same { "same" } else { "differs" };

@@ -14,7 +14,8 @@ given_script None script h = h
 given_script (Some given) script h = (script, h)
 
 -- bytes that are none
-given_faulty : (bytes : Option (List ℕ)) (line : ℕ) → IfSome bytes (λ given. script_of given ≡ Fails line) → IfSome bytes IsFaulty
+given_faulty : (bytes : Option (List ℕ)) (line : ℕ) → IfSome bytes (λ given. script_of given ≡ Fails line) →
+    IfSome bytes IsFaulty
 given_faulty None line h = h
 given_faulty (Some given) line h = (line, h)
 
@@ -92,7 +93,8 @@ module _ {A : Type 0} (report : Report) (bytes old new : Option (List ℕ)) wher
   at_0_or_6 r h (inr s) = let p = at_6 r h s in given_script bytes p.0 p.1
 
   -- there is no other status
-  pub at_any : (r : Result A Fault) → IsRun r → (status_of r ≡ 0) ⊎ ((status_of r ≡ 1) ⊎ ((status_of r ≡ 3) ⊎ ((status_of r ≡ 4) ⊎ (status_of r ≡ 6))))
+  pub at_any : (r : Result A Fault) → IsRun r →
+      (status_of r ≡ 0) ⊎ ((status_of r ≡ 1) ⊎ ((status_of r ≡ 3) ⊎ ((status_of r ≡ 4) ⊎ (status_of r ≡ 6))))
   at_any (Ok x) h = inl refl
   at_any (Err Usage) h = absurd (h.1)
   at_any (Err NotUtf8) h = absurd (h.1)

@@ -19,7 +19,8 @@ IsRunStatus n = (n ≡ 0) ⊎ ((n ≡ 1) ⊎ ((n ≡ 3) ⊎ ((n ≡ 4) ⊎ (n �
 -- what has been printed of the bytes' script if a run stops because of this fault: nothing, or a beginning
 abbrev pub IsStopped : Report → Option (List ℕ) → Option (List ℕ) → Option (List ℕ) → Fault → Type 0
 IsStopped report bytes old new CannotRead = new ≡ old
-IsStopped report bytes old new (NotCommand line) = (new ≡ old) × IfSome bytes (λ given. script_of given ≡ Fails line)
+IsStopped report bytes old new (NotCommand line) =
+    (new ≡ old) × IfSome bytes (λ given. script_of given ≡ Fails line)
 IsStopped report bytes old new Memory = StopsRun report bytes old new
 IsStopped report bytes old new OutputFailed = BeginsRun report bytes old new
 IsStopped report bytes old new other = ⊥

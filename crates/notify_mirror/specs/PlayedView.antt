@@ -44,7 +44,8 @@ module _ {Z : Type 0} where
   -- the options with this tracker
   abbrev pub tracked_field : ℕ → Option (String Z) → Option Flag → List ℕ
   tracked_field tracker info flag =
-      words_field (tracker_words (Some tracker) ++ (info_words (option_map string_bytes info) ++ rescan_words flag))
+      words_field (tracker_words (Some tracker)
+      ++ (info_words (option_map string_bytes info) ++ rescan_words flag))
 
   -- what the replies print
   abbrev pub printed_replies : List (Command Z) → List (Reply Z) → List ℕ

@@ -44,7 +44,8 @@ words_field (word ∷ words) = join_with_byte 44 (word ∷ words)
 
 -- the options of an event: tracker, info and flag, in this order
 abbrev pub options_field : AttributesValue → List ℕ
-options_field attrs = words_field (tracker_words attrs.tracker ++ (info_words attrs.info ++ rescan_words attrs.flag))
+options_field attrs =
+    words_field (tracker_words attrs.tracker ++ (info_words attrs.info ++ rescan_words attrs.flag))
 
 -- ---- the lines
 
@@ -82,7 +83,9 @@ refused_line kind = codes "refused " ++ (error_word kind ++ (10 ∷ []))
 -- how many events were taken, how many were given out, and how many wait
 abbrev pub counts_line : ℕ → ℕ → ℕ → List ℕ
 counts_line taken given waiting =
-    codes "taken " ++ (decimal taken ++ (codes " given " ++ (decimal given ++ (codes " waiting " ++ (decimal waiting ++ (10 ∷ []))))))
+    codes "taken "
+    ++ (decimal taken
+    ++ (codes " given " ++ (decimal given ++ (codes " waiting " ++ (decimal waiting ++ (10 ∷ []))))))
 
 -- a list of paths after this word
 abbrev pub paths_line : List ℕ → List PathValue → List ℕ
@@ -121,7 +124,8 @@ reply_lines command UnrootedReply = []
 
 -- what the commands print by their replies, in order
 abbrev pub replies_lines : List CommandValue → List ReplyValue → List ℕ
-replies_lines (command ∷ commands) (reply ∷ replies) = reply_lines command reply ++ replies_lines commands replies
+replies_lines (command ∷ commands) (reply ∷ replies) =
+    reply_lines command reply ++ replies_lines commands replies
 replies_lines commands replies = []
 
 -- the answer to a question

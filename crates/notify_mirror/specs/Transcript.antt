@@ -30,7 +30,8 @@ pub record PlayedValue : Type 0 where
 
 -- the counts, and what waits
 abbrev pub state_lines : PlayedValue → List ℕ
-state_lines p = counts_line p.state.taken p.state.given (waiting p.state) ++ event_lines (codes "wait") p.outlook
+state_lines p = counts_line p.state.taken p.state.given (waiting p.state)
+    ++ event_lines (codes "wait") p.outlook
 
 -- the reader's set after the batches, and then after what waits too
 abbrev pub reader_lines : PlayedValue → List ℕ
@@ -58,7 +59,8 @@ abbrev pub transcript : Report → PlayedValue → List ℕ
 transcript report p = replies_lines p.commands p.replies ++ ending_lines report p
 
 -- from s, with no numbers of files, the commands ran and left t
-pub record IsRunFrom {C : Type 0} (s : Core C) (from : Paths) (asked : List CommandValue) (t : Core C) (p : PlayedValue)
+pub record IsRunFrom {C : Type 0} (s : Core C) (from : Paths) (asked : List CommandValue) (t : Core C)
+    (p : PlayedValue)
     : Type 0 where
   pub start : p.start ≡ from
   pub commands : p.commands ≡ asked

@@ -35,9 +35,11 @@ fn write_bytes<O: Write>(bytes: &[u8], out: &mut O) -> Result<(), Fault>
 
 /// Writes the text out, and empties it.
 fn write_out<A: Allocator, O: Write>(text: &mut String<A>, out: &mut O) -> Result<(), Fault>
-    ensures written { OnOk result (Appends (O.contents out.old) (O.contents out.new) (string_bytes text.old)) }
+    ensures written { OnOk result (Appends (O.contents out.old) (O.contents out.new)
+        (string_bytes text.old)) }
     ensures emptied { OnOk result (string_bytes text.new ≡ []) }
-    ensures begun { OnErr result (Begins (O.contents out.old) (string_bytes text.old) (O.contents out.new) []) }
+    ensures begun { OnErr result (Begins (O.contents out.old) (string_bytes text.old)
+        (O.contents out.new) []) }
     ensures err { IfErr result (λ e. e ≡ Fault.OutputFailed) }
 {
     write_bytes(text.as_bytes(), out)?;
@@ -51,9 +53,11 @@ pub(crate) fn write_full<A: Allocator, O: Write>(
     out: &mut O,
 ) -> Result<(), Fault>
     // What is written, with the text after it, stays.
-    ensures kept { OnOk result (PrintsText (O.contents out.old) text.old (O.contents out.new) text.new []) }
+    ensures kept { OnOk result (PrintsText (O.contents out.old) text.old
+        (O.contents out.new) text.new []) }
     ensures short { OnOk result (string_len text.new < 65536) }
-    ensures begun { OnErr result (Begins (O.contents out.old) (string_bytes text.old) (O.contents out.new) []) }
+    ensures begun { OnErr result (Begins (O.contents out.old) (string_bytes text.old)
+        (O.contents out.new) []) }
     ensures err { IfErr result (λ e. e ≡ Fault.OutputFailed) }
 {
     if text.len() < FULL {
@@ -67,8 +71,10 @@ pub(crate) fn write_last<A: Allocator, O: Write>(
     text: &mut String<A>,
     out: &mut O,
 ) -> Result<(), Fault>
-    ensures written { OnOk result (Appends (O.contents out.old) (O.contents out.new) (string_bytes text.old)) }
-    ensures begun { OnErr result (Begins (O.contents out.old) (string_bytes text.old) (O.contents out.new) []) }
+    ensures written { OnOk result (Appends (O.contents out.old) (O.contents out.new)
+        (string_bytes text.old)) }
+    ensures begun { OnErr result (Begins (O.contents out.old) (string_bytes text.old)
+        (O.contents out.new) []) }
     ensures err { IfErr result (λ e. e ≡ Fault.OutputFailed) }
 {
     write_out(text, out)?;

@@ -21,8 +21,10 @@ pub(crate) fn play_script<A: Allocator + Copy, O: Write>(
     script: Script<A>,
     out: &mut O,
 ) -> Result<(), Fault>
-    ensures ok { OnOk result (IsPrinted report (IsPlayed script) (O.contents out.old) (O.contents out.new)) }
-    ensures begun { IfErr result (BeginsOrNot report (IsPlayed script) (O.contents out.old) (O.contents out.new)) }
+    ensures ok { OnOk result (IsPrinted report (IsPlayed script) (O.contents out.old)
+        (O.contents out.new)) }
+    ensures begun { IfErr result (BeginsOrNot report (IsPlayed script) (O.contents out.old)
+        (O.contents out.new)) }
     ensures err { IfErr result (λ e. (e ≡ Fault.Memory) ⊎ (e ≡ Fault.OutputFailed)) }
 {
     let Script {
@@ -56,8 +58,14 @@ fn play_from<A: Allocator + Copy, O: Write>(
     commands: Vec<Command<A>, A>,
     out: &mut O,
 ) -> Result<(), Fault>
-    ensures ok { OnOk result (IsPrinted report (IsCarriedOut core.old (with_paths [] start.items) commands.items core.new) (O.contents out.old) (O.contents out.new)) }
-    ensures begun { IfErr result (BeginsOrNot report (IsCarriedOut core.old (with_paths [] start.items) commands.items core.new) (O.contents out.old) (O.contents out.new)) }
+    ensures ok { OnOk result
+        (IsPrinted report
+        (IsCarriedOut core.old (with_paths [] start.items) commands.items core.new)
+        (O.contents out.old) (O.contents out.new)) }
+    ensures begun { IfErr result
+        (BeginsOrNot report
+        (IsCarriedOut core.old (with_paths [] start.items) commands.items core.new)
+        (O.contents out.old) (O.contents out.new)) }
     ensures err { IfErr result (λ e. (e ≡ Fault.Memory) ⊎ (e ≡ Fault.OutputFailed)) }
 {
     let start = PathSet::from_paths(*commands.allocator(), start)?;
@@ -72,8 +80,12 @@ fn play_commands<A: Allocator + Copy, O: Write>(
     commands: Vec<Command<A>, A>,
     out: &mut O,
 ) -> Result<(), Fault>
-    ensures ok { OnOk result (IsPrinted report (IsCarriedOut core.old start.now commands.items core.new) (O.contents out.old) (O.contents out.new)) }
-    ensures begun { IfErr result (BeginsOrNot report (IsCarriedOut core.old start.now commands.items core.new) (O.contents out.old) (O.contents out.new)) }
+    ensures ok { OnOk result
+        (IsPrinted report (IsCarriedOut core.old start.now commands.items core.new)
+        (O.contents out.old) (O.contents out.new)) }
+    ensures begun { IfErr result
+        (BeginsOrNot report (IsCarriedOut core.old start.now commands.items core.new)
+        (O.contents out.old) (O.contents out.new)) }
     ensures err { IfErr result (λ e. (e ≡ Fault.Memory) ⊎ (e ≡ Fault.OutputFailed)) }
 {
     let alloc = *commands.allocator();

@@ -24,9 +24,12 @@ pub fn script_run<A: Allocator + Copy, R: Read, O: Write, E: Write>(
     out: &mut O,
     err: &mut E,
 ) -> u8
-    ensures prints { result ≡ 0 → PrintsRun Plain (R.remaining reader.old) (O.contents out.old) (O.contents out.new) }
-    ensures begins { result ≡ 6 → BeginsRun Plain (R.remaining reader.old) (O.contents out.old) (O.contents out.new) }
-    ensures stops { result ≡ 4 → StopsRun Plain (R.remaining reader.old) (O.contents out.old) (O.contents out.new) }
+    ensures prints { result ≡ 0 →
+        PrintsRun Plain (R.remaining reader.old) (O.contents out.old) (O.contents out.new) }
+    ensures begins { result ≡ 6 →
+        BeginsRun Plain (R.remaining reader.old) (O.contents out.old) (O.contents out.new) }
+    ensures stops { result ≡ 4 →
+        StopsRun Plain (R.remaining reader.old) (O.contents out.old) (O.contents out.new) }
     ensures untouched { (result ≡ 1) ⊎ (result ≡ 3) → O.contents out.new ≡ O.contents out.old }
     ensures reads { (result ≡ 0) ⊎ (result ≡ 6) → IfSome (R.remaining reader.old) IsScript }
     ensures fails { result ≡ 3 → IfSome (R.remaining reader.old) IsFaulty }
@@ -47,9 +50,12 @@ pub fn check_run<A: Allocator + Copy, R: Read, O: Write, E: Write>(
     out: &mut O,
     err: &mut E,
 ) -> u8
-    ensures prints { result ≡ 0 → PrintsRun Check (R.remaining reader.old) (O.contents out.old) (O.contents out.new) }
-    ensures begins { result ≡ 6 → BeginsRun Check (R.remaining reader.old) (O.contents out.old) (O.contents out.new) }
-    ensures stops { result ≡ 4 → StopsRun Check (R.remaining reader.old) (O.contents out.old) (O.contents out.new) }
+    ensures prints { result ≡ 0 →
+        PrintsRun Check (R.remaining reader.old) (O.contents out.old) (O.contents out.new) }
+    ensures begins { result ≡ 6 →
+        BeginsRun Check (R.remaining reader.old) (O.contents out.old) (O.contents out.new) }
+    ensures stops { result ≡ 4 →
+        StopsRun Check (R.remaining reader.old) (O.contents out.old) (O.contents out.new) }
     ensures untouched { (result ≡ 1) ⊎ (result ≡ 3) → O.contents out.new ≡ O.contents out.old }
     ensures reads { (result ≡ 0) ⊎ (result ≡ 6) → IfSome (R.remaining reader.old) IsScript }
     ensures fails { result ≡ 3 → IfSome (R.remaining reader.old) IsFaulty }
@@ -67,8 +73,10 @@ fn play<A: Allocator + Copy, R: Read, O: Write>(
     reader: &mut R,
     out: &mut O,
 ) -> Result<(), Fault>
-    ensures ok { OnOk result (PrintsRun report (R.remaining reader.old) (O.contents out.old) (O.contents out.new)) }
-    ensures err { IfErr result (IsStopped report (R.remaining reader.old) (O.contents out.old) (O.contents out.new)) }
+    ensures ok { OnOk result (PrintsRun report (R.remaining reader.old) (O.contents out.old)
+        (O.contents out.new)) }
+    ensures err { IfErr result (IsStopped report (R.remaining reader.old) (O.contents out.old)
+        (O.contents out.new)) }
 {
     let script = read_script(alloc, reader)?;
     play_script(alloc, report, script, out)

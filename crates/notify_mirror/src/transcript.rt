@@ -42,8 +42,10 @@ pub(crate) fn print_run<A: Allocator + Copy, O: Write>(
     played: &Played<'_, A>,
     out: &mut O,
 ) -> Result<(), Fault>
-    ensures ok { OnOk result (Appends (O.contents out.old) (O.contents out.new) (printed_run report played.now)) }
-    ensures begun { OnErr result (Begins (O.contents out.old) [] (O.contents out.new) (printed_run report played.now)) }
+    ensures ok { OnOk result (Appends (O.contents out.old) (O.contents out.new)
+        (printed_run report played.now)) }
+    ensures begun { OnErr result (Begins (O.contents out.old) [] (O.contents out.new)
+        (printed_run report played.now)) }
     ensures err { IfErr result (λ e. (e ≡ Fault.Memory) ⊎ (e ≡ Fault.OutputFailed)) }
 {
     let mut text = String::new(alloc);
@@ -59,8 +61,10 @@ fn print_replies<A: Allocator, O: Write>(
     replies: &[Reply<A>],
     out: &mut O,
 ) -> Result<(), Fault>
-    ensures ok { OnOk result (PrintsText (O.contents out.old) text.old (O.contents out.new) text.new (printed_replies commands.now replies.now)) }
-    ensures begun { OnErr result (BeginsText (O.contents out.old) text.old (O.contents out.new) (printed_replies commands.now replies.now)) }
+    ensures ok { OnOk result (PrintsText (O.contents out.old) text.old
+        (O.contents out.new) text.new (printed_replies commands.now replies.now)) }
+    ensures begun { OnErr result (BeginsText (O.contents out.old) text.old (O.contents out.new)
+        (printed_replies commands.now replies.now)) }
     ensures err { IfErr result (λ e. (e ≡ Fault.Memory) ⊎ (e ≡ Fault.OutputFailed)) }
 {
     for (command, reply) in commands.iter().zip(replies) {
@@ -76,7 +80,8 @@ fn push_ending<A: Allocator + Copy>(
     report: Report,
     played: &Played<'_, A>,
 ) -> Result<(), Fault>
-    ensures ok { OnOk result (string_bytes text.new ≡ string_bytes text.old ++ printed_ending report played.now) }
+    ensures ok { OnOk result (string_bytes text.new ≡ string_bytes text.old
+        ++ printed_ending report played.now) }
     ensures err { IfErr result (λ e. e ≡ Fault.Memory) }
 {
     push_state(text, played)?;
@@ -90,7 +95,8 @@ fn push_state<A: Allocator + Copy>(
     text: &mut String<A>,
     played: &Played<'_, A>,
 ) -> Result<(), Fault>
-    ensures ok { OnOk result (string_bytes text.new ≡ string_bytes text.old ++ state_lines (played_value played.now)) }
+    ensures ok { OnOk result (string_bytes text.new ≡ string_bytes text.old
+        ++ state_lines (played_value played.now)) }
     ensures err { IfErr result (λ e. e ≡ Fault.Memory) }
 {
     let core = played.core;
@@ -103,7 +109,8 @@ fn push_reader<A: Allocator + Copy>(
     text: &mut String<A>,
     played: &Played<'_, A>,
 ) -> Result<(), Fault>
-    ensures ok { OnOk result (string_bytes text.new ≡ string_bytes text.old ++ reader_lines (played_value played.now)) }
+    ensures ok { OnOk result (string_bytes text.new ≡ string_bytes text.old
+        ++ reader_lines (played_value played.now)) }
     ensures err { IfErr result (λ e. e ≡ Fault.Memory) }
 {
     let mut reader = played.start.try_clone()?;
@@ -115,7 +122,8 @@ fn push_reader<A: Allocator + Copy>(
 
 /// Appends the paths after the events as they came.
 fn push_raw<A: Allocator + Copy>(text: &mut String<A>, played: &Played<'_, A>) -> Result<(), Fault>
-    ensures ok { OnOk result (string_bytes text.new ≡ string_bytes text.old ++ raw_line (played_value played.now)) }
+    ensures ok { OnOk result (string_bytes text.new ≡ string_bytes text.old
+        ++ raw_line (played_value played.now)) }
     ensures err { IfErr result (λ e. e ≡ Fault.Memory) }
 {
     let mut raw = played.start.try_clone()?;
@@ -129,7 +137,8 @@ fn push_set<A: Allocator + Copy>(
     word: &str,
     set: &PathSet<A>,
 ) -> Result<(), Fault>
-    ensures ok { OnOk result (string_bytes text.new ≡ string_bytes text.old ++ paths_line word.now set.now) }
+    ensures ok { OnOk result (string_bytes text.new ≡ string_bytes text.old
+        ++ paths_line word.now set.now) }
     ensures err { IfErr result (λ e. e ≡ Fault.Memory) }
 {
     let paths = set.to_list()?;
@@ -142,7 +151,8 @@ fn push_checks<A: Allocator + Copy>(
     report: Report,
     played: &Played<'_, A>,
 ) -> Result<(), Fault>
-    ensures ok { OnOk result (string_bytes text.new ≡ string_bytes text.old ++ check_lines report (played_value played.now)) }
+    ensures ok { OnOk result (string_bytes text.new ≡ string_bytes text.old
+        ++ check_lines report (played_value played.now)) }
     ensures err { IfErr result (λ e. e ≡ Fault.Memory) }
 {
     if report == Report::Plain {

@@ -78,7 +78,8 @@ fn watch<
     ticks: u64,
 ) -> Result<u64, Fault>
     requires takes { (feed : _) → T.takes feed }
-    ensures { IfErr result (λ e. (e ≡ Fault.Memory) ⊎ ((e ≡ Fault.CannotWatch) ⊎ (e ≡ Fault.NoThread))) }
+    ensures { IfErr result (λ e. (e ≡ Fault.Memory) ⊎ ((e ≡ Fault.CannotWatch) ⊎ (e
+        ≡ Fault.NoThread))) }
 {
     let path = PathBuf::parse(alloc, folder)?;
     let mut debouncer = start::<T, R, A>(rt, alloc, sender)?;
@@ -150,7 +151,8 @@ fn push_report<A: Allocator, B: Allocator>(
     text: &mut String<A>,
     report: &DebounceEventResult<B>,
 ) -> Result<(), AllocError>
-    ensures { OnOk result (string_bytes text.new ≡ string_bytes text.old ++ report_lines report.now) }
+    ensures { OnOk result (string_bytes text.new ≡ string_bytes text.old
+        ++ report_lines report.now) }
 {
     match report {
         Ok(batch) => push_events(text, "event", batch.as_slice()),

@@ -62,7 +62,8 @@ cmp_suc : (m n : ℕ) → nat_cmp (m + 1) (n + 1) ≡ nat_cmp m n
 cmp_suc m n = grind arith
 
 -- .. nor does the rank, apart from slashes
-rank_cmp : (x y : ℕ) → eqb x slash ≡ false → eqb y slash ≡ false → nat_cmp (text_rank x) (text_rank y) ≡ nat_cmp x y
+rank_cmp : (x y : ℕ) → eqb x slash ≡ false → eqb y slash ≡ false → nat_cmp (text_rank x) (text_rank y)
+    ≡ nat_cmp x y
 rank_cmp x y h k = ap₂ nat_cmp (cond-false (eqb x slash) _ _ h) (cond-false (eqb y slash) _ _ k) ∙ cmp_suc x y
 
 pub then_unequal : (o p : Ordering) → is_eq o ≡ false → ordering_then o p ≡ o
@@ -92,37 +93,46 @@ same_front [] r s = refl
 same_front (x ∷ t) r s = cond-true (eqb x x) _ _ (eq-eqb x x refl) ∙ same_front t r s
 
 -- both answers, the other way round
-at_back : (s t : Bool) (o w : Ordering) (u : Ordering) → u ≡ ordering_reverse o → Says (cond (s || t) None (Some o)) w → Says (cond (t || s) None (Some u)) (ordering_reverse w)
+at_back : (s t : Bool) (o w : Ordering) (u : Ordering) → u ≡ ordering_reverse o →
+    Says (cond (s || t) None (Some o)) w → Says (cond (t || s) None (Some u)) (ordering_reverse w)
 at_back true true o w u q h = tt
 at_back true false o w u q h = tt
 at_back false true o w u q h = tt
 at_back false false o w u q h = q ∙ ap ordering_reverse h
 
-pub back : (xs ys : List ℕ) (w : Ordering) → Says (order_text xs ys) w → Says (order_text ys xs) (ordering_reverse w)
+pub back : (xs ys : List ℕ) (w : Ordering) → Says (order_text xs ys) w →
+    Says (order_text ys xs) (ordering_reverse w)
 back [] [] w h = ap ordering_reverse h
 back [] (y ∷ ys) w h = ap ordering_reverse h
 back (x ∷ xs) [] w h = ap ordering_reverse h
 back (x ∷ xs) (y ∷ ys) w h = by (eqb x y) refl (back xs ys w)
   where
-    by : (t : Bool) → eqb x y ≡ t → (Says (order_text xs ys) w → Says (order_text ys xs) (ordering_reverse w)) → Says (order_text (y ∷ ys) (x ∷ xs)) (ordering_reverse w)
+    by : (t : Bool) → eqb x y ≡ t → (Says (order_text xs ys) w → Says (order_text ys xs) (ordering_reverse w)) →
+        Says (order_text (y ∷ ys) (x ∷ xs)) (ordering_reverse w)
     by true e more = rw (eq-eqb y x (sym (eqb-true x y e))) (more (rw e at h))
     by false e more =
         rw (ne_eqb y x (λ q. false≢true (sym e ∙ eq-eqb x y (sym q))))
-        (at_back (is_dots (x ∷ xs)) (is_dots (y ∷ ys)) _ w _ (nat_cmp_total.antisymm (text_rank y) (text_rank x)) (rw e at h))
+        (at_back (is_dots (x ∷ xs)) (is_dots (y ∷ ys)) _ w _
+        (nat_cmp_total.antisymm (text_rank y) (text_rank x)) (rw e at h))
 
 -- two names
-names : (a b : List ℕ) (r s : Option (List ℕ)) → has_no_slash a ≡ true → has_no_slash b ≡ true → (a ≡ b → ⊥) → Says (order_text (a ++ tail r) (b ++ tail s)) (slice_cmp nat_cmp a b)
+names : (a b : List ℕ) (r s : Option (List ℕ)) → has_no_slash a ≡ true → has_no_slash b ≡ true → (a ≡ b → ⊥) →
+    Says (order_text (a ++ tail r) (b ++ tail s)) (slice_cmp nat_cmp a b)
 names [] [] r s h k n = absurd (n refl)
 names [] (y ∷ b) None s h k n = refl
 names [] (y ∷ b) (Some r) s h k n = slash_first r (b ++ tail s) y (no_slash_parts y b k).0
 names (x ∷ a) [] r None h k n = refl
-names (x ∷ a) [] r (Some s) h k n = back (slash ∷ s) ((x ∷ a) ++ tail r) Less (slash_first s (a ++ tail r) x (no_slash_parts x a h).0)
+names (x ∷ a) [] r (Some s) h k n =
+    back (slash ∷ s) ((x ∷ a) ++ tail r) Less (slash_first s (a ++ tail r) x (no_slash_parts x a h).0)
 names (x ∷ a) (y ∷ b) r s h k n =
     let one = no_slash_parts x a h in
     let two = no_slash_parts y b k in
     cond_both (eqb x y) _ _ (λ o. Says o (slice_cmp nat_cmp (x ∷ a) (y ∷ b)))
-    (λ e. let q = eqb-true x y e in rw (is_equal (nat_cmp x y) (unsigned_tied x y ∙ e)) (names a b r s one.1 two.1 (λ f. n (ap₂ (λ u v. u ∷ v) q f))))
-    (λ e. cond_both (is_dots ((x ∷ a) ++ tail r) || is_dots ((y ∷ b) ++ tail s)) None _ (λ o. Says o (slice_cmp nat_cmp (x ∷ a) (y ∷ b))) (λ _. tt)
+    (λ e. let q = eqb-true x y e in
+    rw (is_equal (nat_cmp x y) (unsigned_tied x y ∙ e))
+    (names a b r s one.1 two.1 (λ f. n (ap₂ (λ u v. u ∷ v) q f))))
+    (λ e. cond_both (is_dots ((x ∷ a) ++ tail r) || is_dots ((y ∷ b) ++ tail s)) None
+    _ (λ o. Says o (slice_cmp nat_cmp (x ∷ a) (y ∷ b))) (λ _. tt)
     (λ _. rank_cmp x y one.0 two.0 ∙ sym (then_unequal (nat_cmp x y) _ (unsigned_tied x y ∙ e))))
 
 -- `..` stands before each name
@@ -135,36 +145,46 @@ cur_dots None = refl
 cur_dots (Some r) = refl
 
 -- a part that ends stands before one that goes on
-ends_first : (r : Option (List ℕ)) (y : ℕ) (ys : List ℕ) → eqb y slash ≡ false → Says (order_text (tail r) (y ∷ ys)) Less
+ends_first : (r : Option (List ℕ)) (y : ℕ) (ys : List ℕ) → eqb y slash ≡ false →
+    Says (order_text (tail r) (y ∷ ys)) Less
 ends_first None y ys e = refl
 ends_first (Some r) y ys e = slash_first r ys y e
 
 -- a name is not dots
 not_cur : (c : ℕ) → is_proper_name (c ∷ []) ≡ true → eqb dot c ≡ true → ⊥
-not_cur c h e = false≢true (sym (name_facts (c ∷ []) (proper_facts (c ∷ []) h).0).1 ∙ ap (λ b. bytes_eq (b ∷ []) cur_dir) (sym (eqb-true dot c e)))
+not_cur c h e = false≢true (sym (name_facts (c ∷ []) (proper_facts (c ∷ []) h).0).1
+    ∙ ap (λ b. bytes_eq (b ∷ []) cur_dir) (sym (eqb-true dot c e)))
 
 not_parent : (c d : ℕ) → is_proper_name (c ∷ d ∷ []) ≡ true → eqb dot c ≡ true → eqb dot d ≡ true → ⊥
-not_parent c d h e f = false≢true (sym (proper_facts (c ∷ d ∷ []) h).1 ∙ ap₂ (λ a b. bytes_eq (a ∷ b ∷ []) parent_dir) (sym (eqb-true dot c e)) (sym (eqb-true dot d f)))
+not_parent c d h e f =
+    false≢true (sym (proper_facts (c ∷ d ∷ []) h).1
+    ∙ ap₂ (λ a b. bytes_eq (a ∷ b ∷ []) parent_dir) (sym (eqb-true dot c e)) (sym (eqb-true dot d f)))
 
-parent_name : (b : List ℕ) (r s : Option (List ℕ)) → is_proper_name b ≡ true → Says (order_text (dot ∷ dot ∷ tail r) (b ++ tail s)) Less
+parent_name : (b : List ℕ) (r s : Option (List ℕ)) → is_proper_name b ≡ true →
+    Says (order_text (dot ∷ dot ∷ tail r) (b ++ tail s)) Less
 parent_name [] r s h = absurd (false≢true h)
 parent_name (c ∷ []) r s h =
-    cond_both (eqb dot c) _ _ (λ o. Says o Less) (λ e. absurd (not_cur c h e)) (λ _. dots_left (dot ∷ dot ∷ tail r) (c ∷ tail s) Less (parent_dots r))
+    cond_both (eqb dot c) _ _ (λ o. Says o Less) (λ e. absurd (not_cur c h e))
+    (λ _. dots_left (dot ∷ dot ∷ tail r) (c ∷ tail s) Less (parent_dots r))
 parent_name (c ∷ d ∷ []) r s h =
     cond_both (eqb dot c) _ _ (λ o. Says o Less)
-    (λ e. cond_both (eqb dot d) _ _ (λ o. Says o Less) (λ f. absurd (not_parent c d h e f)) (λ _. dots_left (dot ∷ tail r) (d ∷ tail s) Less (cur_dots r)))
+    (λ e. cond_both (eqb dot d) _ _ (λ o. Says o Less) (λ f. absurd (not_parent c d h e f))
+    (λ _. dots_left (dot ∷ tail r) (d ∷ tail s) Less (cur_dots r)))
     (λ _. dots_left (dot ∷ dot ∷ tail r) (c ∷ d ∷ tail s) Less (parent_dots r))
 parent_name (c ∷ d ∷ x ∷ b) r s h =
     let one = no_slash_parts c (d ∷ x ∷ b) (proper_facts (c ∷ d ∷ x ∷ b) h).2 in
     let two = no_slash_parts d (x ∷ b) one.1 in
     cond_both (eqb dot c) _ _ (λ o. Says o Less)
-    (λ e. cond_both (eqb dot d) _ _ (λ o. Says o Less) (λ f. ends_first r x (b ++ tail s) (no_slash_parts x b two.1).0) (λ _. dots_left (dot ∷ tail r) (d ∷ x ∷ b ++ tail s) Less (cur_dots r)))
+    (λ e. cond_both (eqb dot d) _ _ (λ o. Says o Less) (λ f. ends_first r x (b ++ tail s)
+    (no_slash_parts x b two.1).0) (λ _. dots_left (dot ∷ tail r) (d ∷ x ∷ b ++ tail s) Less (cur_dots r)))
     (λ _. dots_left (dot ∷ dot ∷ tail r) (c ∷ d ∷ x ∷ b ++ tail s) Less (parent_dots r))
 
-cur_name : (b : List ℕ) (r s : Option (List ℕ)) → is_proper_name b ≡ true → Says (order_text (dot ∷ tail r) (b ++ tail s)) Less
+cur_name : (b : List ℕ) (r s : Option (List ℕ)) → is_proper_name b ≡ true →
+    Says (order_text (dot ∷ tail r) (b ++ tail s)) Less
 cur_name [] r s h = absurd (false≢true h)
 cur_name (c ∷ []) r s h =
-    cond_both (eqb dot c) _ _ (λ o. Says o Less) (λ e. absurd (not_cur c h e)) (λ _. dots_left (dot ∷ tail r) (c ∷ tail s) Less (cur_dots r))
+    cond_both (eqb dot c) _ _ (λ o. Says o Less) (λ e. absurd (not_cur c h e)) (λ _. dots_left (dot ∷ tail r)
+    (c ∷ tail s) Less (cur_dots r))
 cur_name (c ∷ d ∷ b) r s h =
     let one = no_slash_parts c (d ∷ b) (proper_facts (c ∷ d ∷ b) h).2 in
     cond_both (eqb dot c) _ _ (λ o. Says o Less)
@@ -172,7 +192,8 @@ cur_name (c ∷ d ∷ b) r s h =
     (λ _. dots_left (dot ∷ tail r) (c ∷ d ∷ b ++ tail s) Less (cur_dots r))
 
 -- two parts that are not the same
-distinct : (x y : PartValue) (r s : Option (List ℕ)) → is_plain x ≡ true → is_plain y ≡ true → (x ≡ y → ⊥) → Says (order_text (part_text x ++ tail r) (part_text y ++ tail s)) (part_cmp x y)
+distinct : (x y : PartValue) (r s : Option (List ℕ)) → is_plain x ≡ true → is_plain y ≡ true → (x ≡ y → ⊥) →
+    Says (order_text (part_text x ++ tail r) (part_text y ++ tail s)) (part_cmp x y)
 distinct RootPart y r s h k n = absurd (false≢true h)
 distinct CurPart RootPart r s h k n = absurd (false≢true k)
 distinct ParentPart RootPart r s h k n = absurd (false≢true k)
@@ -180,33 +201,45 @@ distinct (NamePart a) RootPart r s h k n = absurd (false≢true k)
 distinct CurPart CurPart r s h k n = absurd (n refl)
 distinct CurPart ParentPart r s h k n = ends_first r dot (tail s) refl
 distinct CurPart (NamePart b) r s h k n = cur_name b r s k
-distinct ParentPart CurPart r s h k n = back (dot ∷ tail s) (dot ∷ dot ∷ tail r) Less (ends_first s dot (tail r) refl)
+distinct ParentPart CurPart r s h k n =
+    back (dot ∷ tail s) (dot ∷ dot ∷ tail r) Less (ends_first s dot (tail r) refl)
 distinct ParentPart ParentPart r s h k n = absurd (n refl)
 distinct ParentPart (NamePart b) r s h k n = parent_name b r s k
 distinct (NamePart a) CurPart r s h k n = back (dot ∷ tail s) (a ++ tail r) Less (cur_name a s r h)
 distinct (NamePart a) ParentPart r s h k n = back (dot ∷ dot ∷ tail s) (a ++ tail r) Less (parent_name a s r h)
-distinct (NamePart a) (NamePart b) r s h k n = names a b r s (proper_facts a h).2 (proper_facts b k).2 (λ e. n (ap NamePart e))
+distinct (NamePart a) (NamePart b) r s h k n =
+    names a b r s (proper_facts a h).2 (proper_facts b k).2 (λ e. n (ap NamePart e))
 
 -- paths that begin with no root, where what stands behind their first parts is ordered
-plain : (x y : PartValue) (p q : PathValue) → is_plain x ≡ true → is_plain y ≡ true → Says (order_text (text_after true p) (text_after true q)) (path_cmp p q)
-    → Says (order_text (part_text x ++ text_after true p) (part_text y ++ text_after true q)) (path_cmp (x ∷ p) (y ∷ q))
+plain : (x y : PartValue) (p q : PathValue) → is_plain x ≡ true → is_plain y ≡ true →
+    Says (order_text (text_after true p) (text_after true q)) (path_cmp p q)
+    → Says (order_text (part_text x ++ text_after true p) (part_text y ++ text_after true q))
+    (path_cmp (x ∷ p) (y ∷ q))
 plain x y p q h k more = by (part_eq x y) refl
   where
-    by : (t : Bool) → part_eq x y ≡ t → Says (order_text (part_text x ++ text_after true p) (part_text y ++ text_after true q)) (path_cmp (x ∷ p) (y ∷ q))
-    by true e = rw (is_equal (part_cmp x y) e, ← (part_eq_decides x y).0 e, same_front (part_text x) (text_after true p) (text_after true q)) more
+    by : (t : Bool) → part_eq x y ≡ t →
+        Says (order_text (part_text x ++ text_after true p) (part_text y ++ text_after true q))
+        (path_cmp (x ∷ p) (y ∷ q))
+    by true e = rw (
+      is_equal (part_cmp x y) e,
+      ← (part_eq_decides x y).0 e,
+      same_front (part_text x) (text_after true p) (text_after true q),
+    ) more
     by false e =
         rw (then_unequal (part_cmp x y) (path_cmp p q) e, tail_is p, tail_is q)
         (distinct x y (tail_of p) (tail_of q) h k (λ g. false≢true (sym e ∙ (part_eq_decides x y).1 g)))
 
 -- behind equal parts
-after : (p q : PathValue) → all_inner p ≡ true → all_inner q ≡ true → Says (order_text (text_after true p) (text_after true q)) (path_cmp p q)
+after : (p q : PathValue) → all_inner p ≡ true → all_inner q ≡ true →
+    Says (order_text (text_after true p) (text_after true q)) (path_cmp p q)
 after [] [] h k = refl
 after [] (y ∷ q) h k = refl
 after (x ∷ p) [] h k = refl
 after (x ∷ p) (y ∷ q) h k =
     let one = inner_parts x p h in
     let two = inner_parts y q k in
-    rw (inner_wants x one.0, inner_wants y two.0) (plain x y p q (plain_inner x one.0) (plain_inner y two.0) (after p q one.1 two.1))
+    rw (inner_wants x one.0, inner_wants y two.0) (plain x y p q (plain_inner x one.0) (plain_inner y two.0)
+    (after p q one.1 two.1))
 
 -- the empty path stands first
 empty_first : (y : PartValue) (q : PathValue) → IsPath (y ∷ q) → Says (order_text [] (text_of (y ∷ q))) Less
@@ -217,43 +250,62 @@ empty_first (NamePart []) q h = absurd (false≢true h)
 empty_first (NamePart (c ∷ b)) q h = refl
 
 -- behind the root
-inner : (p q : PathValue) → all_inner p ≡ true → all_inner q ≡ true → Says (order_text (text_of p) (text_of q)) (path_cmp p q)
+inner : (p q : PathValue) → all_inner p ≡ true → all_inner q ≡ true →
+    Says (order_text (text_of p) (text_of q)) (path_cmp p q)
 inner [] [] h k = refl
 inner [] (y ∷ q) h k = empty_first y q (inner_path (y ∷ q) k)
 inner (x ∷ p) [] h k = back [] (text_of (x ∷ p)) Less (empty_first x p (inner_path (x ∷ p) h))
 inner (x ∷ p) (y ∷ q) h k =
     let one = inner_parts x p h in
     let two = inner_parts y q k in
-    rw (inner_wants x one.0, inner_wants y two.0) (plain x y p q (plain_inner x one.0) (plain_inner y two.0) (after p q one.1 two.1))
+    rw (inner_wants x one.0, inner_wants y two.0) (plain x y p q (plain_inner x one.0) (plain_inner y two.0)
+    (after p q one.1 two.1))
 
 -- the root stands before each other part
-root_first : (xs s : List ℕ) (y : PartValue) → is_plain y ≡ true → Says (order_text (slash ∷ xs) (part_text y ++ s)) Less
+root_first : (xs s : List ℕ) (y : PartValue) → is_plain y ≡ true →
+    Says (order_text (slash ∷ xs) (part_text y ++ s)) Less
 root_first xs s RootPart h = absurd (false≢true h)
 root_first xs s CurPart h = slash_first xs s dot refl
 root_first xs s ParentPart h = slash_first xs (dot ∷ s) dot refl
 root_first xs s (NamePart []) h = absurd (false≢true h)
-root_first xs s (NamePart (c ∷ b)) h = slash_first xs (b ++ s) c (no_slash_parts c b (proper_facts (c ∷ b) h).2).0
+root_first xs s (NamePart (c ∷ b)) h =
+    slash_first xs (b ++ s) c (no_slash_parts c b (proper_facts (c ∷ b) h).2).0
 
 -- the order of paths, by their texts
-pub order_is : (p q : PathValue) → IsPath p → IsPath q → Says (order_text (text_of p) (text_of q)) (path_cmp p q)
+pub order_is : (p q : PathValue) → IsPath p → IsPath q →
+    Says (order_text (text_of p) (text_of q)) (path_cmp p q)
 order_is [] [] h k = refl
 order_is [] (y ∷ q) h k = empty_first y q k
 order_is (x ∷ p) [] h k = back [] (text_of (x ∷ p)) Less (empty_first x p h)
 order_is (RootPart ∷ p) (RootPart ∷ q) h k = inner p q h k
 order_is (RootPart ∷ p) (CurPart ∷ q) h k = root_first (text_after false p) (text_after true q) CurPart refl
-order_is (RootPart ∷ p) (ParentPart ∷ q) h k = root_first (text_after false p) (text_after true q) ParentPart refl
-order_is (RootPart ∷ p) (NamePart b ∷ q) h k = root_first (text_after false p) (text_after true q) (NamePart b) (and_parts (is_proper_name b) (all_inner q) k).0
-order_is (CurPart ∷ p) (RootPart ∷ q) h k = back (slash ∷ text_after false q) (text_of (CurPart ∷ p)) Less (root_first (text_after false q) (text_after true p) CurPart refl)
-order_is (ParentPart ∷ p) (RootPart ∷ q) h k = back (slash ∷ text_after false q) (text_of (ParentPart ∷ p)) Less (root_first (text_after false q) (text_after true p) ParentPart refl)
-order_is (NamePart a ∷ p) (RootPart ∷ q) h k = back (slash ∷ text_after false q) (text_of (NamePart a ∷ p)) Less (root_first (text_after false q) (text_after true p) (NamePart a) (and_parts (is_proper_name a) (all_inner p) h).0)
+order_is (RootPart ∷ p) (ParentPart ∷ q) h k =
+    root_first (text_after false p) (text_after true q) ParentPart refl
+order_is (RootPart ∷ p) (NamePart b ∷ q) h k =
+    root_first (text_after false p) (text_after true q) (NamePart b)
+    (and_parts (is_proper_name b) (all_inner q) k).0
+order_is (CurPart ∷ p) (RootPart ∷ q) h k =
+    back (slash ∷ text_after false q) (text_of (CurPart ∷ p)) Less
+    (root_first (text_after false q) (text_after true p) CurPart refl)
+order_is (ParentPart ∷ p) (RootPart ∷ q) h k =
+    back (slash ∷ text_after false q) (text_of (ParentPart ∷ p)) Less
+    (root_first (text_after false q) (text_after true p) ParentPart refl)
+order_is (NamePart a ∷ p) (RootPart ∷ q) h k =
+    back (slash ∷ text_after false q) (text_of (NamePart a ∷ p)) Less
+    (root_first (text_after false q) (text_after true p) (NamePart a)
+    (and_parts (is_proper_name a) (all_inner p) h).0)
 order_is (CurPart ∷ p) (CurPart ∷ q) h k = plain CurPart CurPart p q refl refl (after p q h k)
 order_is (CurPart ∷ p) (ParentPart ∷ q) h k = plain CurPart ParentPart p q refl refl (after p q h k)
-order_is (CurPart ∷ p) (NamePart b ∷ q) h k = let two = and_parts (is_proper_name b) (all_inner q) k in plain CurPart (NamePart b) p q refl two.0 (after p q h two.1)
+order_is (CurPart ∷ p) (NamePart b ∷ q) h k = let two = and_parts (is_proper_name b) (all_inner q) k in
+    plain CurPart (NamePart b) p q refl two.0 (after p q h two.1)
 order_is (ParentPart ∷ p) (CurPart ∷ q) h k = plain ParentPart CurPart p q refl refl (after p q h k)
 order_is (ParentPart ∷ p) (ParentPart ∷ q) h k = plain ParentPart ParentPart p q refl refl (after p q h k)
-order_is (ParentPart ∷ p) (NamePart b ∷ q) h k = let two = and_parts (is_proper_name b) (all_inner q) k in plain ParentPart (NamePart b) p q refl two.0 (after p q h two.1)
-order_is (NamePart a ∷ p) (CurPart ∷ q) h k = let one = and_parts (is_proper_name a) (all_inner p) h in plain (NamePart a) CurPart p q one.0 refl (after p q one.1 k)
-order_is (NamePart a ∷ p) (ParentPart ∷ q) h k = let one = and_parts (is_proper_name a) (all_inner p) h in plain (NamePart a) ParentPart p q one.0 refl (after p q one.1 k)
+order_is (ParentPart ∷ p) (NamePart b ∷ q) h k = let two = and_parts (is_proper_name b) (all_inner q) k in
+    plain ParentPart (NamePart b) p q refl two.0 (after p q h two.1)
+order_is (NamePart a ∷ p) (CurPart ∷ q) h k = let one = and_parts (is_proper_name a) (all_inner p) h in
+    plain (NamePart a) CurPart p q one.0 refl (after p q one.1 k)
+order_is (NamePart a ∷ p) (ParentPart ∷ q) h k = let one = and_parts (is_proper_name a) (all_inner p) h in
+    plain (NamePart a) ParentPart p q one.0 refl (after p q one.1 k)
 order_is (NamePart a ∷ p) (NamePart b ∷ q) h k =
     let one = and_parts (is_proper_name a) (all_inner p) h in
     let two = and_parts (is_proper_name b) (all_inner q) k in
@@ -262,31 +314,40 @@ order_is (NamePart a ∷ p) (NamePart b ∷ q) h k =
 -- equal bytes in front say nothing of the order
 pub skip_same : (a b : List ℕ) (i : ℕ) → take i a ≡ take i b → order_text a b ≡ order_text (drop i a) (drop i b)
 skip_same a b i h =
-    ap₂ order_text (sym (take-append-drop i a)) (sym (take-append-drop i b) ∙ ap (λ t. t ++ drop i b) (sym h)) ∙ same_front (take i a) (drop i a) (drop i b)
+    ap₂ order_text (sym (take-append-drop i a)) (sym (take-append-drop i b) ∙ ap (λ t. t ++ drop i b) (sym h))
+    ∙ same_front (take i a) (drop i a) (drop i b)
 
 -- the rest of a text, as a slice has it
 pub rest_is : (a : List ℕ) (i : ℕ) → take (length a - i) (drop i a) ≡ drop i a
 rest_is a i = take_all (length a - i) (drop i a) (rw (length-drop i a) (omega arith))
 
 -- where one of the texts is at its end
-pub order_short : (a b : List ℕ) → (eqb (length a) 0 || eqb (length b) 0) ≡ true → order_text a b ≡ Some (nat_cmp (length a) (length b))
+pub order_short : (a b : List ℕ) → (eqb (length a) 0 || eqb (length b) 0) ≡ true →
+    order_text a b ≡ Some (nat_cmp (length a) (length b))
 order_short [] [] h = refl
 order_short [] (y ∷ b) h = ap Some (sym (cmp_less 0 (length (y ∷ b)) (omega arith)))
 order_short (x ∷ a) [] h = ap Some (sym (cmp_greater (length (x ∷ a)) 0 (omega arith)))
-order_short (x ∷ a) (y ∷ b) h = absurd (false≢true (sym (or_from (eqb (length (x ∷ a)) 0) (eqb (length (y ∷ b)) 0) (ne_eqb (length (x ∷ a)) 0 (λ q. omega (arith, q))) (ne_eqb (length (y ∷ b)) 0 (λ q. omega (arith, q)))) ∙ h))
+order_short (x ∷ a) (y ∷ b) h =
+    absurd (false≢true
+    (sym (or_from (eqb (length (x ∷ a)) 0) (eqb (length (y ∷ b)) 0)
+    (ne_eqb (length (x ∷ a)) 0 (λ q. omega (arith, q))) (ne_eqb (length (y ∷ b)) 0 (λ q. omega (arith, q))))
+    ∙ h))
 
 -- where the first bytes differ
-pub order_differs : (a b : List ℕ) → 0 < length a → 0 < length b → (get_or a 0 0 ≡ get_or b 0 0 → ⊥) → order_text a b ≡ order_at a b
+pub order_differs : (a b : List ℕ) → 0 < length a → 0 < length b → (get_or a 0 0 ≡ get_or b 0 0 → ⊥) →
+    order_text a b ≡ order_at a b
 order_differs [] b h k n = absurd (omega arith)
 order_differs (x ∷ a) [] h k n = absurd (omega arith)
 order_differs (x ∷ a) (y ∷ b) h k n = cond-false (eqb x y) _ _ (ne_eqb x y n)
 
 -- where the first bytes differ, and one text may stand in dots
-pub order_dots : (a b : List ℕ) → 0 < length a → 0 < length b → (get_or a 0 0 ≡ get_or b 0 0 → ⊥) → (is_dots a || is_dots b) ≡ true → order_text a b ≡ None
+pub order_dots : (a b : List ℕ) → 0 < length a → 0 < length b → (get_or a 0 0 ≡ get_or b 0 0 → ⊥) →
+    (is_dots a || is_dots b) ≡ true → order_text a b ≡ None
 order_dots a b h k n e = order_differs a b h k n ∙ cond-true (is_dots a || is_dots b) _ _ e
 
 -- what the texts say of the paths
-pub order_says : (a b : List ℕ) (o : Ordering) → IsNormal a → IsNormal b → Some o ≡ order_text a b → o ≡ path_cmp (parts_of a) (parts_of b)
+pub order_says : (a b : List ℕ) (o : Ordering) → IsNormal a → IsNormal b → Some o ≡ order_text a b →
+    o ≡ path_cmp (parts_of a) (parts_of b)
 order_says a b o h k e =
     let says : Says (order_text a b) (path_cmp (parts_of a) (parts_of b)) =
     subst (λ t. Says (order_text t b) (path_cmp (parts_of a) (parts_of b))) h

@@ -35,13 +35,15 @@ prefix_not_behind (x ∷ p) (y ∷ k) b g = by (part_cmp x y) refl (prefix_not_b
     by Equal q more = more (rw q at b) (rw q at g)
 
 -- behind p, what does not have p as a prefix stands behind all that does
-pub run_ends : (p a b : PathValue) → (path_cmp p a ≡ Greater → ⊥) → is_prefix p a ≡ false → path_cmp a b ≡ Less → is_prefix p b ≡ false
+pub run_ends : (p a b : PathValue) → (path_cmp p a ≡ Greater → ⊥) → is_prefix p a ≡ false →
+    path_cmp a b ≡ Less → is_prefix p b ≡ false
 run_ends [] a b from none up = absurd (true≢false none)
 run_ends (x ∷ p) [] b from none up = absurd (from refl)
 run_ends (x ∷ p) (y ∷ a) [] from none up = cc
 run_ends (x ∷ p) (y ∷ a) (z ∷ b) from none up = by (part_cmp x z) refl (run_ends p a b)
   where
-    by : (o : Ordering) → part_cmp x z ≡ o → ((path_cmp p a ≡ Greater → ⊥) → is_prefix p a ≡ false → path_cmp a b ≡ Less → is_prefix p b ≡ false) → is_prefix (x ∷ p) (z ∷ b) ≡ false
+    by : (o : Ordering) → part_cmp x z ≡ o → ((path_cmp p a ≡ Greater → ⊥) → is_prefix p a ≡ false →
+        path_cmp a b ≡ Less → is_prefix p b ≡ false) → is_prefix (x ∷ p) (z ∷ b) ≡ false
     by Less q more = rw q refl
     by Greater q more = rw q refl
     by Equal q more = at (part_cmp x y) refl
@@ -50,7 +52,8 @@ run_ends (x ∷ p) (y ∷ a) (z ∷ b) from none up = by (part_cmp x z) refl (ru
         same = (part_eq_decides x z).0 (rw q refl)
 
         at : (r : Ordering) → part_cmp x y ≡ r → is_prefix (x ∷ p) (z ∷ b) ≡ false
-        at Less r = let back : part_cmp y z ≡ Greater = rw (← same) (part_cmp_total.antisymm y x ∙ rw r refl) in cc (rw back at up)
+        at Less r = let back : part_cmp y z ≡ Greater = rw (← same) (part_cmp_total.antisymm y x ∙ rw r refl) in
+            cc (rw back at up)
         at Greater r = absurd (from (rw r refl))
         at Equal r =
             let here : part_cmp y z ≡ Equal = rw (← same) (part_cmp_total.antisymm y x ∙ rw r refl) in
@@ -61,8 +64,11 @@ abbrev is_behind : PathValue → PathValue → Bool
 is_behind p k = range_contains path_cmp (Excluded p) Unbounded k
 
 -- whether a path lies strictly below p, by how p compares to it
-below_by_order : (p k : PathValue) (o : Ordering) → path_cmp p k ≡ o → is_below k p ≡ (is_prefix p k && not (is_eq (ordering_reverse o)))
-below_by_order p k o q = ap (λ b. is_prefix p k && not b) (path_matches_eq k p ∙ ap is_eq (path_cmp_total.antisymm k p ∙ ap ordering_reverse q))
+below_by_order : (p k : PathValue) (o : Ordering) → path_cmp p k ≡ o →
+    is_below k p ≡ (is_prefix p k && not (is_eq (ordering_reverse o)))
+below_by_order p k o q =
+    ap (λ b. is_prefix p k && not b) (path_matches_eq k p
+    ∙ ap is_eq (path_cmp_total.antisymm k p ∙ ap ordering_reverse q))
 
 -- a test and true
 pub and_true : (b : Bool) → (b && true) ≡ b
@@ -115,19 +121,25 @@ module _ {X : Type 0} (p : PathValue) where
   run_below (e ∷ es) = if is_prefix p e.0 then e ∷ run_below es else []
 
   -- behind what does not have p as a prefix, nothing lies below p
-  none_below : (k : PathValue) (es : List (PathValue × X)) → (path_cmp p k ≡ Greater → ⊥) → is_prefix p k ≡ false → AllByRecursion (λ y. path_cmp k y ≡ Less) (keys_of es) → filter (λ e. is_below e.0 p) es ≡ []
+  none_below : (k : PathValue) (es : List (PathValue × X)) → (path_cmp p k ≡ Greater → ⊥) →
+      is_prefix p k ≡ false → AllByRecursion (λ y. path_cmp k y ≡ Less) (keys_of es) →
+      filter (λ e. is_below e.0 p) es ≡ []
   none_below k [] from none up = refl
   none_below k (e ∷ es) from none up =
       let no : is_prefix p e.0 ≡ false = run_ends p k e.0 from none up.0 in
       rw no (none_below k es from none up.1)
 
   -- of ascending entries, those that lie strictly below p are the first behind it
-  pub run_is_below : (es : List (PathValue × X)) → IsStrictlySortedBy path_cmp (keys_of es) → run_below (entries_behind es) ≡ filter (λ e. is_below e.0 p) es
+  pub run_is_below : (es : List (PathValue × X)) → IsStrictlySortedBy path_cmp (keys_of es) →
+      run_below (entries_behind es) ≡ filter (λ e. is_below e.0 p) es
   unfolding IsStrictlySortedBy
   run_is_below [] s = refl
   run_is_below (e ∷ es) s = by (is_behind p e.0) (is_prefix p e.0) refl refl (run_is_below es s.1)
     where
-      by : (b c : Bool) → is_behind p e.0 ≡ b → is_prefix p e.0 ≡ c → run_below (entries_behind es) ≡ filter (λ e. is_below e.0 p) es → run_below (entries_behind (e ∷ es)) ≡ filter (λ e. is_below e.0 p) (e ∷ es)
+      by : (b c : Bool) → is_behind p e.0 ≡ b → is_prefix p e.0 ≡ c → run_below (entries_behind es)
+          ≡ filter (λ e. is_below e.0 p) es → run_below (entries_behind (e ∷ es))
+          ≡ filter (λ e. is_below e.0 p) (e ∷ es)
       by false c i q more = rw (behind_below p e.0, i) more
       by true true i q more = rw (behind_below p e.0, i, q) (ap (λ r. e ∷ r) more)
-      by true false i q more = rw (behind_below p e.0, i, q) (sym (none_below e.0 es (behind_not_front p e.0 i) q s.0))
+      by true false i q more =
+          rw (behind_below p e.0, i, q) (sym (none_below e.0 es (behind_not_front p e.0 i) q s.0))

@@ -13,7 +13,8 @@ use mathlib.Core.Path.{ap₂}
 use mathlib.Core.List.{append-nil}
 
 -- what makes a name proper
-pub proper_facts : (b : List ℕ) → is_proper_name b ≡ true → (is_name b ≡ true) × (bytes_eq b parent_dir ≡ false) × (has_no_slash b ≡ true)
+pub proper_facts : (b : List ℕ) → is_proper_name b ≡ true → (is_name b ≡ true) × (bytes_eq b parent_dir ≡ false)
+    × (has_no_slash b ≡ true)
 proper_facts b h =
     let one = and_parts (is_name b) (not (bytes_eq b parent_dir) && has_no_slash b) h in
     let two = and_parts (not (bytes_eq b parent_dir)) (has_no_slash b) one.1 in
@@ -21,16 +22,19 @@ proper_facts b h =
 
 -- what makes a name
 pub name_facts : (b : List ℕ) → is_name b ≡ true → (eqb (length b) 0 ≡ false) × (bytes_eq b cur_dir ≡ false)
-name_facts b h = or_parts (eqb (length b) 0) (bytes_eq b cur_dir) (not-true (eqb (length b) 0 || bytes_eq b cur_dir) h)
+name_facts b h =
+    or_parts (eqb (length b) 0) (bytes_eq b cur_dir) (not-true (eqb (length b) 0 || bytes_eq b cur_dir) h)
 
 -- a text without a slash, letter by letter
-pub no_slash_parts : (x : ℕ) (xs : List ℕ) → has_no_slash (x ∷ xs) ≡ true → (eqb x slash ≡ false) × (has_no_slash xs ≡ true)
+pub no_slash_parts : (x : ℕ) (xs : List ℕ) → has_no_slash (x ∷ xs) ≡ true → (eqb x slash ≡ false)
+    × (has_no_slash xs ≡ true)
 no_slash_parts x xs h =
     let two = and_parts (not (eqb x slash)) (has_no_slash xs) h in
     (not-true (eqb x slash) two.0, two.1)
 
 -- inner parts, one by one
-pub inner_parts : (p : PartValue) (ps : PathValue) → all_inner (p ∷ ps) ≡ true → (is_inner p ≡ true) × (all_inner ps ≡ true)
+pub inner_parts : (p : PartValue) (ps : PathValue) → all_inner (p ∷ ps) ≡ true → (is_inner p ≡ true)
+    × (all_inner ps ≡ true)
 inner_parts p ps h = and_parts (is_inner p) (all_inner ps) h
 
 -- a text without a slash is not the root
@@ -80,7 +84,8 @@ first-append (x ∷ xs) rest h =
     cond-false (eqb x slash) _ _ two.0 ∙ ap (λ l. x ∷ l) (first-append xs rest two.1)
 
 -- .. and the others begin there
-later-append : (t rest : List ℕ) → has_no_slash t ≡ true → later_pieces (t ++ slash ∷ rest) ≡ first_piece rest ∷ later_pieces rest
+later-append : (t rest : List ℕ) → has_no_slash t ≡ true → later_pieces (t ++ slash ∷ rest)
+    ≡ first_piece rest ∷ later_pieces rest
 later-append [] rest h = refl
 later-append (x ∷ xs) rest h =
     let two = no_slash_parts x xs h in
@@ -101,14 +106,22 @@ later_none (x ∷ xs) h =
     cond-false (eqb x slash) _ _ two.0 ∙ later_none xs two.1
 
 -- behind a piece without slashes, the pieces are the parts' texts
-pieces_behind : (ps : PathValue) → all_inner ps ≡ true → (t : List ℕ) → has_no_slash t ≡ true → (first_piece (t ++ text_after true ps) ≡ t) × (later_pieces (t ++ text_after true ps) ≡ map part_text ps)
-pieces_behind [] h t s = (ap first_piece (append-nil t) ∙ first_whole t s, ap later_pieces (append-nil t) ∙ later_none t s)
+pieces_behind : (ps : PathValue) → all_inner ps ≡ true → (t : List ℕ) → has_no_slash t ≡ true →
+    (first_piece (t ++ text_after true ps) ≡ t) × (later_pieces (t ++ text_after true ps) ≡ map part_text ps)
+pieces_behind [] h t s = (
+  ap first_piece (append-nil t) ∙ first_whole t s,
+  ap later_pieces (append-nil t)
+      ∙ later_none t s,
+)
 pieces_behind (p ∷ ps) h t s =
     let two = inner_parts p ps h in
     let more = pieces_behind ps two.1 (part_text p) (inner_slashless p two.0) in
     let wants = inner_wants p two.0 in
-    let e = ap (λ b. part_text p ++ text_after b ps) wants in
-    (first-append t _ s, later-append t _ s ∙ ap₂ (λ a b. a ∷ b) (ap first_piece e ∙ more.0) (ap later_pieces e ∙ more.1))
+    let e = ap (λ b. part_text p ++ text_after b ps) wants in (
+      first-append t _ s,
+      later-append t _ s ∙ ap₂ (λ a b. a ∷ b) (ap first_piece e ∙ more.0) (ap later_pieces e
+          ∙ more.1),
+    )
 
 -- no inner part is skipped
 kept : (ps : PathValue) → all_inner ps ≡ true → filter is_name (map part_text ps) ≡ map part_text ps
@@ -144,18 +157,23 @@ leading-none (b ∷ c ∷ bs) r n s =
     right false y e = refl
 
 -- the names of a text that is these inner parts
-names_of_parts : (p : PartValue) (ps : PathValue) → all_inner (p ∷ ps) ≡ true → filter is_name (first_piece (part_text p ++ text_after true ps) ∷ later_pieces (part_text p ++ text_after true ps)) ≡ map part_text (p ∷ ps)
+names_of_parts : (p : PartValue) (ps : PathValue) → all_inner (p ∷ ps) ≡ true →
+    filter is_name (first_piece (part_text p ++ text_after true ps) ∷ later_pieces (part_text p
+    ++ text_after true ps)) ≡ map part_text (p ∷ ps)
 names_of_parts p ps h =
     let two = inner_parts p ps h in
     let both = pieces_behind ps two.1 (part_text p) (inner_slashless p two.0) in
     ap (filter is_name) (ap₂ (λ a b. a ∷ b) both.0 both.1) ∙ kept (p ∷ ps) h
 
 -- a path of inner parts is read back
-inner_again : (p : PartValue) (ps : PathValue) → all_inner (p ∷ ps) ≡ true → parts_of (part_text p ++ text_after true ps) ≡ p ∷ ps
+inner_again : (p : PartValue) (ps : PathValue) → all_inner (p ∷ ps) ≡ true →
+    parts_of (part_text p ++ text_after true ps) ≡ p ∷ ps
 unfolding path_components path_names
 inner_again p ps h =
     let two = inner_parts p ps h in
-    ap (map part_of) (ap₂ (λ a b. a ++ b) (leading-none (part_text p) (text_after true ps) (inner_name p two.0) (inner_slashless p two.0)) (names_of_parts p ps h)) ∙ back (p ∷ ps) h
+    ap (map part_of)
+    (ap₂ (λ a b. a ++ b) (leading-none (part_text p) (text_after true ps) (inner_name p two.0)
+    (inner_slashless p two.0)) (names_of_parts p ps h)) ∙ back (p ∷ ps) h
 
 -- reading what a path prints gives the path again
 pub text_again : (ps : PathValue) → IsPath ps → parts_of (text_of ps) ≡ ps
@@ -178,7 +196,10 @@ text_again (NamePart b ∷ ps) h = inner_again (NamePart b) ps h
 -- what is read is a path
 pub first_slashless : (xs : List ℕ) → has_no_slash (first_piece xs) ≡ true
 first_slashless [] = refl
-first_slashless (x ∷ xs) = cond_both (eqb x slash) _ _ (λ l. has_no_slash l ≡ true) (λ e. refl) (λ e. and_from (not (eqb x slash)) (has_no_slash (first_piece xs)) (ap not e) (first_slashless xs))
+first_slashless (x ∷ xs) =
+    cond_both (eqb x slash) _ _ (λ l. has_no_slash l
+    ≡ true) (λ e. refl) (λ e. and_from (not (eqb x slash)) (has_no_slash (first_piece xs)) (ap not e)
+    (first_slashless xs))
 
 -- no piece holds a slash
 abbrev all_slashless : List (List ℕ) → Bool
@@ -188,7 +209,10 @@ all_slashless (piece ∷ pieces) = has_no_slash piece && all_slashless pieces
 -- the later pieces hold no slash
 later_slashless : (xs : List ℕ) → all_slashless (later_pieces xs) ≡ true
 later_slashless [] = refl
-later_slashless (x ∷ xs) = cond_both (eqb x slash) _ _ (λ l. all_slashless l ≡ true) (λ e. and_from (has_no_slash (first_piece xs)) (all_slashless (later_pieces xs)) (first_slashless xs) (later_slashless xs)) (λ e. later_slashless xs)
+later_slashless (x ∷ xs) =
+    cond_both (eqb x slash) _ _ (λ l. all_slashless l
+    ≡ true) (λ e. and_from (has_no_slash (first_piece xs)) (all_slashless (later_pieces xs))
+    (first_slashless xs) (later_slashless xs)) (λ e. later_slashless xs)
 
 -- a name without a slash is read as an inner part
 inner_part_of : (b : List ℕ) → is_name b ≡ true → has_no_slash b ≡ true → is_inner (part_of b) ≡ true
@@ -198,16 +222,19 @@ inner_part_of b n s =
     by : (r : Bool) → bytes_eq b parent_dir ≡ r → is_inner (part_of b) ≡ true
     by true e = rw (not_root b s, (name_facts b n).1, e) refl
     by false e =
-        let good = and_from (is_name b) (not (bytes_eq b parent_dir) && has_no_slash b) n (and_from (not (bytes_eq b parent_dir)) (has_no_slash b) (ap not e) s) in
+        let good = and_from (is_name b) (not (bytes_eq b parent_dir) && has_no_slash b) n
+        (and_from (not (bytes_eq b parent_dir)) (has_no_slash b) (ap not e) s) in
         ap is_inner (part_of-name b good) ∙ good
 
 -- names without slashes are read as inner parts
-names_inner : (pieces : List (List ℕ)) → all_slashless pieces ≡ true → all_inner (map part_of (filter is_name pieces)) ≡ true
+names_inner : (pieces : List (List ℕ)) → all_slashless pieces ≡ true →
+    all_inner (map part_of (filter is_name pieces)) ≡ true
 names_inner [] h = refl
 names_inner (piece ∷ pieces) h =
     let two = and_parts (has_no_slash piece) (all_slashless pieces) h in
     cond_both (is_name piece) _ _ (λ l. all_inner (map part_of l) ≡ true)
-    (λ e. and_from (is_inner (part_of piece)) (all_inner (map part_of (filter is_name pieces))) (inner_part_of piece e two.0) (names_inner pieces two.1))
+    (λ e. and_from (is_inner (part_of piece)) (all_inner (map part_of (filter is_name pieces)))
+    (inner_part_of piece e two.0) (names_inner pieces two.1))
     (λ e. names_inner pieces two.1)
 
 -- inner parts are a path
@@ -222,9 +249,13 @@ inner_path (NamePart b ∷ ps) h = h
 pub parts_of_is_path : (text : List ℕ) → IsPath (parts_of text)
 unfolding path_components path_names
 parts_of_is_path text =
-    let names = names_inner (first_piece text ∷ later_pieces text) (and_from (has_no_slash (first_piece text)) (all_slashless (later_pieces text)) (first_slashless text) (later_slashless text)) in
-    cond_both (eqb (get_or text 0 0) slash) _ _ (λ l. is_path (map part_of (l ++ path_names text)) ≡ true) (λ e. names)
-    (λ e. cond_both (is_dot_at text 0) _ _ (λ l. is_path (map part_of (l ++ path_names text)) ≡ true) (λ f. names) (λ f. inner_path (map part_of (path_names text)) names))
+    let names = names_inner (first_piece text ∷ later_pieces text)
+    (and_from (has_no_slash (first_piece text)) (all_slashless (later_pieces text)) (first_slashless text)
+    (later_slashless text)) in
+    cond_both (eqb (get_or text 0 0) slash) _ _ (λ l. is_path (map part_of (l ++ path_names text))
+    ≡ true) (λ e. names)
+    (λ e. cond_both (is_dot_at text 0) _ _ (λ l. is_path (map part_of (l ++ path_names text))
+    ≡ true) (λ f. names) (λ f. inner_path (map part_of (path_names text)) names))
 
 -- the empty text is the empty path
 pub empty_parts : parts_of [] ≡ []

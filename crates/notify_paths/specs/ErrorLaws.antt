@@ -31,8 +31,10 @@ io_kind_eq_decides a b = (same_true the_type tt a b, true_same the_type a b)
 
 -- the test of what went wrong decides whether it is one
 pub error_kind_eq_decides : (a b : ErrorKindValue) → Decides (error_kind_eq a b) (a ≡ b)
-error_kind_eq_decides (GenericKind x) (GenericKind y) = (λ h. ap GenericKind ((bytes_decides x y).0 h), λ e. (bytes_decides x y).1 cc)
-error_kind_eq_decides (IoKind x) (IoKind y) = (λ h. ap IoKind ((io_kind_eq_decides x y).0 h), λ e. (io_kind_eq_decides x y).1 cc)
+error_kind_eq_decides (GenericKind x) (GenericKind y) =
+    (λ h. ap GenericKind ((bytes_decides x y).0 h), λ e. (bytes_decides x y).1 cc)
+error_kind_eq_decides (IoKind x) (IoKind y) =
+    (λ h. ap IoKind ((io_kind_eq_decides x y).0 h), λ e. (io_kind_eq_decides x y).1 cc)
 error_kind_eq_decides PathNotFoundKind PathNotFoundKind = Decides-true refl
 error_kind_eq_decides WatchNotFoundKind WatchNotFoundKind = Decides-true refl
 error_kind_eq_decides FullKind FullKind = Decides-true refl

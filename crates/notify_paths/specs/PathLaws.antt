@@ -59,9 +59,11 @@ then_both Greater p h = absurd (true≢false (sym h))
 pub part_eq_decides : (a b : PartValue) → Decides (part_eq a b) (a ≡ b)
 part_eq_decides a b = (
   λ h.
-      let two = then_both (nat_cmp (part_rank a) (part_rank b)) (slice_cmp nat_cmp (part_bytes a) (part_bytes b)) h in
+      let two = then_both (nat_cmp (part_rank a) (part_rank b))
+      (slice_cmp nat_cmp (part_bytes a) (part_bytes b)) h in
       part_from_both a b
-      ((unsigned_Decides (part_rank a) (part_rank b)).0 (sym (unsigned_tied (part_rank a) (part_rank b)) ∙ two.0))
+      ((unsigned_Decides (part_rank a) (part_rank b)).0 (sym (unsigned_tied (part_rank a) (part_rank b))
+      ∙ two.0))
       (same_text (part_bytes a) (part_bytes b) (sym (texts_ties (part_bytes a) (part_bytes b) ∙ two.1))),
   λ e. rw e (part_eq_equiv.refl b),
 )

@@ -12,7 +12,8 @@ use Rattle.std.specs.declared.cmp.Ordering.TheVariants.{Less, Equal, Greater}
 abbrev pub eight_bytes : List ℕ → ℕ → List ℕ
 eight_bytes text i =
     slice_index text i ∷ slice_index text (i + 1) ∷ slice_index text (i + 2) ∷ slice_index text (i + 3)
-    ∷ slice_index text (i + 4) ∷ slice_index text (i + 5) ∷ slice_index text (i + 6) ∷ slice_index text (i + 7) ∷ []
+    ∷ slice_index text (i + 4) ∷ slice_index text (i + 5) ∷ slice_index text (i + 6) ∷ slice_index text
+    (i + 7) ∷ []
 
 -- .. as a number
 abbrev pub word_in : List ℕ → ℕ → ℕ
@@ -20,7 +21,9 @@ word_in text i = from_le_bytes w64 (eight_bytes text i)
 
 -- the text begins with `.` or `..`, and a slash or the end follows
 abbrev pub is_dots : List ℕ → Bool
-is_dots text = slice_index_or text 0 slash == dot && (slice_index_or text 1 slash == slash || (slice_index_or text 1 slash == dot && slice_index_or text 2 slash == slash))
+is_dots text = slice_index_or text 0 slash == dot
+    && (slice_index_or text 1 slash == slash
+    || (slice_index_or text 1 slash == dot && slice_index_or text 2 slash == slash))
 
 -- a slash stands before each other byte
 abbrev pub text_rank : ℕ → ℕ
@@ -28,7 +31,8 @@ text_rank byte = if byte == slash then 0 else byte + 1
 
 -- the order of two texts that differ in their first bytes, unless these may stand in a `.` or a `..`
 abbrev pub order_at : List ℕ → List ℕ → Option Ordering
-order_at a b = if is_dots a || is_dots b then None else Some (nat_cmp (text_rank (slice_index a 0)) (text_rank (slice_index b 0)))
+order_at a b = if is_dots a || is_dots b then None
+    else Some (nat_cmp (text_rank (slice_index a 0)) (text_rank (slice_index b 0)))
 
 -- the order of two texts, by the first bytes that differ
 abbrev pub order_text : List ℕ → List ℕ → Option Ordering
@@ -43,11 +47,13 @@ is_root text = length text == 1 && slice_index text 0 == slash
 
 -- the text begins with the base, and a part ends there
 abbrev pub begins_with : List ℕ → List ℕ → Bool
-begins_with base text = starts_with nat_eq text base && ((length base == 0 || is_root base) || slice_index_or text (length base) slash == slash)
+begins_with base text = starts_with nat_eq text base
+    && ((length base == 0 || is_root base) || slice_index_or text (length base) slash == slash)
 
 -- the text begins with a name: neither a slash or the end, nor a `.` that one of these follows
 abbrev pub begins_name : List ℕ → Bool
-begins_name text = not (slice_index_or text 0 slash == slash) && not (slice_index_or text 0 slash == dot && slice_index_or text 1 slash == slash)
+begins_name text = not (slice_index_or text 0 slash == slash)
+    && not (slice_index_or text 0 slash == dot && slice_index_or text 1 slash == slash)
 
 -- a name follows each slash
 abbrev pub names_follow : List ℕ → Bool

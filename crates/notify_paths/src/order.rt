@@ -59,7 +59,8 @@ fn common_len(a: &[u8], b: &[u8]) -> usize
     ensures within_a { result ≤ length a.now }
     ensures within_b { result ≤ length b.now }
     ensures same { take result a.now ≡ take result b.now }
-    ensures stop { result < length a.now → result < length b.now → slice_index a.now result ≢ slice_index b.now result }
+    ensures stop { result < length a.now → result < length b.now →
+        slice_index a.now result ≢ slice_index b.now result }
 {
     let both = a.len().min(b.len());
     let count = common_words(a, b, both / 8);

@@ -226,7 +226,8 @@ impl<A: Allocator> PathBuf<A> {
 
     /// Appends the path's text. If the allocation fails, `text` stays as it was.
     pub fn write_text<B: Allocator>(&self, text: &mut String<B>) -> Result<(), AllocError>
-        ensures ok { OnOk result (string_bytes text.new ≡ string_bytes text.old ++ text_of self.now) }
+        ensures ok { OnOk result (string_bytes text.new ≡ string_bytes text.old
+            ++ text_of self.now) }
         ensures unchanged { OnErr result (string_bytes text.new ≡ string_bytes text.old) }
     {
         text.push_str(self.as_str())

@@ -126,7 +126,8 @@ fn begins_name(text: &[u8]) -> bool
 /// Whether the byte at `i` is no slash, or a name follows it.
 fn name_follows(text: &[u8], i: usize) -> bool
     requires { i < length text.now }
-    ensures { result ≡ (if slice_index text.now i == slash then begins_name (drop (i + 1) text.now) else true) }
+    ensures { result ≡ (if slice_index text.now i == slash then begins_name (drop (i + 1) text.now)
+        else true) }
 {
     text[i] != b'/' || begins_name(&text[i + 1..])
 }

@@ -34,7 +34,8 @@ is_passable tree root folder =
 
 -- the tree shows the path at this root
 abbrev pub shows_at : ListingValue → PathValue × RecursiveMode → PathValue → Bool
-shows_at tree root path = is_nonempty root.0 && (is_near root.0 root.1 path && list_all (is_passable tree root.0) (folders_of path))
+shows_at tree root path =
+    is_nonempty root.0 && (is_near root.0 root.1 path && list_all (is_passable tree root.0) (folders_of path))
 
 -- what the tree shows at the roots
 abbrev pub shown : ListingValue → List (PathValue × RecursiveMode) → ListingValue
@@ -48,7 +49,8 @@ shows tree root path = has_entry tree path && shows_at tree root path
 abbrev pub reach : ListingValue → ℕ → PathValue → List PartValue → Bool
 reach tree depth path [] = has_entry tree path
 reach tree zero path (part ∷ parts) = false
-reach tree (suc depth) path (part ∷ parts) = is_of_kind Folder (entry_at tree path) && (is_name_part part && reach tree depth (path ++ part ∷ []) parts)
+reach tree (suc depth) path (part ∷ parts) = is_of_kind Folder (entry_at tree path)
+    && (is_name_part part && reach tree depth (path ++ part ∷ []) parts)
 
 -- what stands at or below the path, at most so deep
 abbrev pub reaches : ListingValue → ℕ → PathValue → PathValue → Bool
@@ -56,11 +58,13 @@ reaches tree depth path target = is_prefix path target && reach tree depth path 
 
 -- the new listing has what the tree has at the paths of the test, and elsewhere what the old one has
 abbrev pub Adds : ListingValue → (PathValue → Bool) → ListingValue → ListingValue → Type 0
-Adds tree test old new = (path : PathValue) → entry_at new path ≡ (if test path then entry_at tree path else entry_at old path)
+Adds tree test old new = (path : PathValue) →
+    entry_at new path ≡ (if test path then entry_at tree path else entry_at old path)
 
 -- the names are those of the entries in the folder
 abbrev pub AreNames : ListingValue → PathValue → List (List ℕ) → Type 0
-AreNames tree folder names = (name : List ℕ) → list_any (bytes_eq name) names ≡ has_entry tree (folder ++ NamePart name ∷ [])
+AreNames tree folder names = (name : List ℕ) → list_any (bytes_eq name) names
+    ≡ has_entry tree (folder ++ NamePart name ∷ [])
 
 -- names are given of a folder alone, and then all of them
 abbrev pub NamesOf : ListingValue → PathValue → Option (List (List ℕ)) → Type 0

@@ -23,7 +23,8 @@ abbrev pub other_roots : List (PathValue × RecursiveMode) → PathValue → Lis
 other_roots roots path = filter (λ root. not (path_eq root.0 path)) roots
 
 -- the root goes last, in the place of one with an equal path
-abbrev pub with_root : List (PathValue × RecursiveMode) → PathValue × RecursiveMode → List (PathValue × RecursiveMode)
+abbrev pub with_root : List (PathValue × RecursiveMode) → PathValue × RecursiveMode →
+    List (PathValue × RecursiveMode)
 with_root roots root = other_roots roots root.0 ++ root ∷ []
 
 -- these are the roots, and of these entries what they show is kept
@@ -35,7 +36,8 @@ kept_by roots entries = record { roots = roots; last = seen entries roots }
 abbrev pub Watches : PolledValue → PathValue × RecursiveMode → ListingValue → PolledValue → Type 0
 Watches old root first new =
     (has_entry first root.0 ≡ true)
-    × ((merged : ListingValue) × IsMerged old.last first merged × (new ≡ kept_by (with_root old.roots root) merged))
+    × ((merged : ListingValue) × IsMerged old.last first merged
+    × (new ≡ kept_by (with_root old.roots root) merged))
 
 -- folders that tell their tree show this listing at the root
 abbrev pub ShowsFirst : Option ListingValue → PathValue × RecursiveMode → ListingValue → Type 0
@@ -55,7 +57,8 @@ watch_not_found = record { kind = WatchNotFoundKind; paths = [] }
 
 -- why a path can't be watched: nothing stands there, or the folders refused
 abbrev pub IsWatchRefusal : Option ListingValue → PathValue × RecursiveMode → ErrorValue → ℕ → ℕ → Type 0
-IsWatchRefusal told root e before after = ((e ≡ path_not_found) × LacksRoot told root) ⊎ IsRefusal e before after
+IsWatchRefusal told root e before after =
+    ((e ≡ path_not_found) × LacksRoot told root) ⊎ IsRefusal e before after
 
 -- an allocation failed, or a device or system call
 abbrev pub IsFailure : ErrorKindValue → Type 0

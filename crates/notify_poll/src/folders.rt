@@ -22,14 +22,17 @@ pub trait Folders<A: Allocator> {
 
     /// Returns what stands at the path; `None` if it is missing. Links aren't followed.
     fn look(&mut self, path: &PathBuf<A>) -> Result<Option<Found>, Error<A>>
-        ensures found { IfSome (told self.old) (λ tree. IfOk result (λ r. r ≡ entry_at tree path.now)) }
+        ensures found { IfSome (told self.old) (λ tree. IfOk result (λ r. r
+            ≡ entry_at tree path.now)) }
         ensures same { told self.new ≡ told self.old }
         ensures counted { failed self.old ≤ failed self.new }
         ensures err { IfErr result (λ e. IsRefusal e (failed self.old) (failed self.new)) };
 
     /// Returns the names in the folder at the path; `None` if there is no folder.
     fn names(&mut self, path: &PathBuf<A>) -> Result<Option<Vec<String<A>, A>>, Error<A>>
-        ensures found { IfSome (told self.old) (λ tree. IfOk result (λ r. NamesOf tree path.now (option_map (λ v. map string_bytes v.items) r))) }
+        ensures found { IfSome (told self.old) (λ tree.
+            IfOk result (λ r.
+            NamesOf tree path.now (option_map (λ v. map string_bytes v.items) r))) }
         ensures same { told self.new ≡ told self.old }
         ensures counted { failed self.old ≤ failed self.new }
         ensures err { IfErr result (λ e. IsRefusal e (failed self.old) (failed self.new)) };

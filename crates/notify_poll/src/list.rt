@@ -23,7 +23,8 @@ pub fn list<A: Allocator + Copy, D: Folders<A>>(
     folders: &mut D,
     roots: &[(PathBuf<A>, RecursiveMode)],
 ) -> Result<Listing<A>, Error<A>>
-    ensures shown { IfSome (D.told folders.old) (λ tree. IsTree tree → IfOk result (λ r. r ≡ shown tree roots.now)) }
+    ensures shown { IfSome (D.told folders.old) (λ tree. IsTree tree →
+        IfOk result (λ r. r ≡ shown tree roots.now)) }
     ensures same { D.told folders.new ≡ D.told folders.old }
     ensures counted { D.failed folders.old ≤ D.failed folders.new }
     ensures err { IfErr result (λ e. IsRefusal e (D.failed folders.old) (D.failed folders.new)) }
@@ -43,7 +44,8 @@ pub(crate) fn list_root<A: Allocator + Copy, D: Folders<A>>(
     root: &PathBuf<A>,
     mode: RecursiveMode,
 ) -> Result<(), Error<A>>
-    ensures added { IfSome (D.told folders.old) (λ tree. IsTree tree → OnOk result (Adds tree (shows tree (root.now, mode)) listing.old listing.new)) }
+    ensures added { IfSome (D.told folders.old) (λ tree. IsTree tree →
+        OnOk result (Adds tree (shows tree (root.now, mode)) listing.old listing.new)) }
     ensures same { D.told folders.new ≡ D.told folders.old }
     ensures counted { D.failed folders.old ≤ D.failed folders.new }
     ensures err { IfErr result (λ e. IsRefusal e (D.failed folders.old) (D.failed folders.new)) }
@@ -97,8 +99,10 @@ fn list_at<A: Allocator + Copy, D: Folders<A>>(
     depth: u32,
 ) -> Result<(), Error<A>>
     requires { (is_nonempty path.now ≡ true) × (has_folders (keys_of listing.old) path.now ≡ true) }
-    ensures added { IfSome (D.told folders.old) (λ tree. OnOk result (Adds tree (reaches tree depth path.now) listing.old listing.new)) }
-    ensures grows { (q : PathValue) → has_entry listing.old q ≡ true → has_entry listing.new q ≡ true }
+    ensures added { IfSome (D.told folders.old) (λ tree.
+        OnOk result (Adds tree (reaches tree depth path.now) listing.old listing.new)) }
+    ensures grows { (q : PathValue) → has_entry listing.old q ≡ true → has_entry listing.new q
+        ≡ true }
     ensures same { D.told folders.new ≡ D.told folders.old }
     ensures counted { D.failed folders.old ≤ D.failed folders.new }
     ensures err { IfErr result (λ e. IsRefusal e (D.failed folders.old) (D.failed folders.new)) }

@@ -35,7 +35,8 @@ fn look_again<A: Allocator + Copy, D: Folders<A>>(
     roots: &[(PathBuf<A>, RecursiveMode)],
     last: &Listing<A>,
 ) -> Result<(Listing<A>, Vec<Event<A>, A>), Error<A>>
-    ensures shown { IfSome (D.told folders.old) (λ tree. IsTree tree → IfOk result (λ pair. pair.0 ≡ shown tree roots.now)) }
+    ensures shown { IfSome (D.told folders.old) (λ tree. IsTree tree →
+        IfOk result (λ pair. pair.0 ≡ shown tree roots.now)) }
     ensures ok { IfOk result (λ pair. pair.1.items ≡ changes last.now pair.0) }
     ensures err { IfErr result (λ e. IsRefusal e (D.failed folders.old) (D.failed folders.new)) }
     ensures same { D.told folders.new ≡ D.told folders.old }
@@ -58,11 +59,14 @@ pub fn poll_round<A: Allocator + Copy, D: Folders<A>, H: EventHandler<Result<Eve
 ) -> bool
     requires { H.ready handler.old }
     ensures again { H.ready handler.new }
-    ensures given { result ≡ true → HandsEach H.handles (changes last.old last.new) handler.old handler.new }
-    ensures shown { IfSome (D.told folders.old) (λ tree. IsTree tree → result ≡ true → last.new ≡ shown tree roots.now) }
+    ensures given { result ≡ true →
+        HandsEach H.handles (changes last.old last.new) handler.old handler.new }
+    ensures shown { IfSome (D.told folders.old) (λ tree. IsTree tree → result ≡ true → last.new
+        ≡ shown tree roots.now) }
     ensures unchanged { result ≡ false → last.new ≡ last.old }
     ensures refused { result ≡ false →
-        HandsRefusal H.handles (D.failed folders.old) (D.failed folders.new) handler.old handler.new }
+        HandsRefusal H.handles (D.failed folders.old) (D.failed folders.new) handler.old
+        handler.new }
     ensures same { D.told folders.new ≡ D.told folders.old }
     ensures counted { D.failed folders.old ≤ D.failed folders.new }
 {

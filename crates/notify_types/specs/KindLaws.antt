@@ -13,7 +13,8 @@ counted false = 0
 
 -- in how many of the five classes a kind is
 abbrev pub class_count : EventKind → ℕ
-class_count k = counted (is_creation k) + counted (is_removal k) + counted (is_rename k) + counted (is_ignored k) + counted (is_plain k)
+class_count k = counted (is_creation k) + counted (is_removal k) + counted (is_rename k) + counted
+    (is_ignored k) + counted (is_plain k)
 
 -- each kind is in exactly one class
 pub one_class : (k : EventKind) → class_count k ≡ 1

@@ -40,7 +40,8 @@ pub trait Watcher<F, R, A: Allocator>: Sized + Drop {
     ghost kind_of: { WatcherKind };
 
     /// What a call of `watch` answers and leaves.
-    ghost watches: { Self → PathValue → RecursiveMode → Result (Unit {0}) ErrorValue → Self → Type 0 };
+    ghost watches: { Self → PathValue → RecursiveMode → Result (Unit {0}) ErrorValue → Self →
+        Type 0 };
 
     /// What a call of `unwatch` answers and leaves.
     ghost unwatches: { Self → PathValue → Result (Unit {0}) ErrorValue → Self → Type 0 };

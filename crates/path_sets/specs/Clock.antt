@@ -15,7 +15,8 @@ with_moment (Some now) moments = now ∷ moments
 
 -- the moments of the accepted events and ticks, in order
 abbrev pub moments_of : List CommandValue → List ReplyValue → List ℕ
-moments_of (command ∷ commands) (reply ∷ replies) = with_moment (moment_of command reply) (moments_of commands replies)
+moments_of (command ∷ commands) (reply ∷ replies) =
+    with_moment (moment_of command reply) (moments_of commands replies)
 moments_of commands replies = []
 
 -- each moment is at least the one before it, and the first at least this one

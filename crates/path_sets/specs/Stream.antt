@@ -5,9 +5,10 @@ use Rattle.debounce_model.specs.Honest.{is_closed, are_honest, IsHonest}
 use Rattle.debounce_model.specs.Play.{Paths, accepted}
 
 -- each command has a reply, and the accepted events are honest from these paths on
-pub record IsHonestStream (start : Paths) (commands : List CommandValue) (replies : List ReplyValue) : Type 0 where
-  pub paired : length commands ≡ length replies
-  pub honest : IsHonest start commands replies
+pub record IsHonestStream (start : Paths) (commands : List CommandValue) (replies : List ReplyValue) : Type 0
+  where
+    pub paired : length commands ≡ length replies
+    pub honest : IsHonest start commands replies
 
 -- the same as a test
 abbrev pub is_honest : Paths → List CommandValue → List ReplyValue → Bool

@@ -23,8 +23,11 @@ pub fn is_honest<A: Allocator + Copy>(
     commands: &[Command<A>],
     replies: &[Reply<A>],
 ) -> Result<bool, Error<A>>
-    ensures value { IfOk result (λ yes. yes ≡ is_honest start.now (command_values commands.now) (reply_values replies.now)) }
-    ensures ok { IfOk result (λ yes. IsTrue yes ↔ IsHonestStream start.now (command_values commands.now) (reply_values replies.now)) }
+    ensures value { IfOk result (λ yes. yes
+        ≡ is_honest start.now (command_values commands.now) (reply_values replies.now)) }
+    ensures ok { IfOk result (λ yes.
+        IsTrue yes ↔ IsHonestStream start.now (command_values commands.now)
+        (reply_values replies.now)) }
     ensures err { IfErr result (λ e. e ≡ out_of_memory) }
 {
     if commands.len() != replies.len() {
@@ -44,7 +47,8 @@ fn are_honest<A: Allocator + Copy>(
     commands: &[Command<A>],
     replies: &[Reply<A>],
 ) -> Result<bool, Error<A>>
-    ensures ok { IfOk result (λ yes. yes ≡ are_honest raw.old (accepted (command_values commands.now) (reply_values replies.now))) }
+    ensures ok { IfOk result (λ yes. yes
+        ≡ are_honest raw.old (accepted (command_values commands.now) (reply_values replies.now))) }
     ensures err { IfErr result (λ e. e ≡ out_of_memory) }
 {
     for (command, reply) in commands.iter().zip(replies) {
@@ -61,8 +65,10 @@ fn play_honest<A: Allocator + Copy>(
     command: &Command<A>,
     reply: &Reply<A>,
 ) -> Result<bool, Error<A>>
-    ensures ok { IfOk result (λ yes. yes ≡ are_honest raw.old (accepted_by (command_value command.now) (reply_value reply.now))) }
-    ensures played { IfOk result (λ yes. yes ≡ true → raw.new ≡ play raw.old (accepted_by (command_value command.now) (reply_value reply.now))) }
+    ensures ok { IfOk result (λ yes. yes
+        ≡ are_honest raw.old (accepted_by (command_value command.now) (reply_value reply.now))) }
+    ensures played { IfOk result (λ yes. yes ≡ true → raw.new
+        ≡ play raw.old (accepted_by (command_value command.now) (reply_value reply.now))) }
     ensures err { IfErr result (λ e. e ≡ out_of_memory) }
 {
     let (Command::Event(event, _, _), Reply::Taken(_)) = (command, reply) else {

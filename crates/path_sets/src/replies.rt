@@ -23,7 +23,8 @@ impl<A: Allocator + Copy> PathSet<A> {
     }
 
     fn play_batch(&mut self, reply: &Reply<A>) -> Result<(), Error<A>>
-        ensures ok { OnOk result (self.new ≡ play self.old (events_of (emitted_by (reply_value reply.now)))) }
+        ensures ok { OnOk result (self.new
+            ≡ play self.old (events_of (emitted_by (reply_value reply.now)))) }
         ensures err { IfErr result (λ e. e ≡ out_of_memory) }
     {
         match reply {
@@ -38,7 +39,8 @@ impl<A: Allocator + Copy> PathSet<A> {
         commands: &[Command<A>],
         replies: &[Reply<A>],
     ) -> Result<(), Error<A>>
-        ensures ok { OnOk result (self.new ≡ raw_paths self.old (command_values commands.now) (reply_values replies.now)) }
+        ensures ok { OnOk result (self.new
+            ≡ raw_paths self.old (command_values commands.now) (reply_values replies.now)) }
         ensures err { IfErr result (λ e. e ≡ out_of_memory) }
     {
         for (command, reply) in commands.iter().zip(replies) {
@@ -48,7 +50,8 @@ impl<A: Allocator + Copy> PathSet<A> {
     }
 
     fn play_taken(&mut self, command: &Command<A>, reply: &Reply<A>) -> Result<(), Error<A>>
-        ensures ok { OnOk result (self.new ≡ play self.old (accepted_by (command_value command.now) (reply_value reply.now))) }
+        ensures ok { OnOk result (self.new
+            ≡ play self.old (accepted_by (command_value command.now) (reply_value reply.now))) }
         ensures err { IfErr result (λ e. e ≡ out_of_memory) }
     {
         match (command, reply) {

@@ -6,7 +6,13 @@ use Rattle.debounce_book.proofs.entry.clone_entries.Goals as goal
 pub loop-entry-preserved : goal.loop-entry-preserved
 loop-entry-preserved g c =
     let in_range : c.loop-entry.entry-index < length c.args.entries.now = omega arith in
-    grind (arith, common_steps, take_more c.args.entries.now c.loop-entry.entry-index c.entry-item.result in_range)
+    grind (
+      arith,
+      common_steps,
+      take_more c.args.entries.now c.loop-entry.entry-index c.entry-item.result
+          in_range,
+    )
 
 pub returns : goal.returns
-returns g c = c.loop-entry.invariant ∙ take_all c.loop-entry.entry-index c.args.entries.now c.loop-entry-test.false
+returns g c = c.loop-entry.invariant
+    ∙ take_all c.loop-entry.entry-index c.args.entries.now c.loop-entry-test.false

@@ -10,5 +10,6 @@ returns-in-Taken g c = rw (c.in-Taken.is, ← c.draft-in-Taken.view_is) c.push_r
 pub returns-in_default : goal.returns-in_default
 returns-in_default g c =
     let es = c.args.journal.now.items in
-    let plain : entered es c.args.draft (reply_value c.args.reply.now) ≡ es ++ c.args.draft ∷ [] = search rules in
+    let plain : entered es c.args.draft (reply_value c.args.reply.now) ≡ es ++ c.args.draft ∷ [] =
+    search rules in
     c.push_reserved-in_default.ensures.items ∙ sym plain

@@ -5,4 +5,5 @@ use Rattle.debounce_threads.proofs.matches.are_plain.Goals as goal
 
 pub loop-entry-preserved : goal.loop-entry-preserved
 loop-entry-preserved g c =
-    all-more (IsPlain c.args.count) c.args.entries.now c.loop-entry.entry-index c.entry-item.result c.loop-entry-test.true c.entry-item.is c.loop-entry.invariant (c.if-not-is_plain.ensures refl)
+    all-more (IsPlain c.args.count) c.args.entries.now c.loop-entry.entry-index c.entry-item.result
+    c.loop-entry-test.true c.entry-item.is c.loop-entry.invariant (c.if-not-is_plain.ensures refl)

@@ -15,8 +15,10 @@ pub returns-in_default : goal.returns-in_default
 returns-in_default g c =
     elim c.in_default.branch [
       | in_default-via-then-commands-lt1 w ↦
-          stripped-none command_value c.args.commands.now (command_value c.args.first.now) (grind (arith, common_steps))
+          stripped-none command_value c.args.commands.now (command_value c.args.first.now)
+          (grind (arith, common_steps))
       | in_default-via-in-len1-up+else-eq w ↦
-          unstripped-first command_value c.args.commands.now w.command-item.result (command_value c.args.first.now)
+          unstripped-first command_value c.args.commands.now w.command-item.result
+          (command_value c.args.first.now)
           w.in-len1-up.len_at_least w.command-item.is (sym w.eq.ensures ∙ w.if-eq.false)
     ]

@@ -1,5 +1,7 @@
 use Rattle.debounce_threads.proofs.run.checked.Goals as goal
 
 pub returns : goal.returns
-returns g c =
-    (rw c.if-kept-timeout.false at c.into_journal-kept.ensures.legal, rw c.as_slice.ensures.value at (c.are_merged.ensures c.if-not-are_merged.false))
+returns g c = (
+  rw c.if-kept-timeout.false at c.into_journal-kept.ensures.legal,
+  rw c.as_slice.ensures.value at (c.are_merged.ensures c.if-not-are_merged.false),
+)

@@ -21,5 +21,6 @@ returns g c = λ p.
     let outside : PathValue → Bool = λ k. not (is_prefix path k) in
     let told = c.retain.ensures.filtered in
     let left = filter_same_pairs _ (λ e. outside e.0) _ (λ k v b w f' t. search rules) es after told in
-    let found = lookup-filter-keys (path_eq p) outside (outside p) (λ k e. rw (← (path_eq_decides p k).0 e) refl) es in
+    let found = lookup-filter-keys (path_eq p) outside (outside p) (λ k e. rw (← (path_eq_decides p k).0 e)
+    refl) es in
     ap (lookup (path_eq p)) left ∙ found ∙ cond-not (is_prefix path p) (numbers_in es p) None

@@ -20,7 +20,8 @@ put_more : (before : Numbers) (es after ys : Pairs) (pair : PathValue × FileId)
     → numbers_in after p ≡ update path_eq (numbers_in es) pair.0 (Some pair.1) p
     → numbers_in es p ≡ with_pairs before ys p
     → numbers_in after p ≡ with_pairs before (ys ++ pair ∷ []) p
-put_more before es after ys pair p put so_far = put ∙ update_all_push path_eq before (numbers_in es) ys pair p so_far
+put_more before es after ys pair p put so_far =
+    put ∙ update_all_push path_eq before (numbers_in es) ys pair p so_far
 
 pub loop-path-preserved : goal.loop-path-preserved
 loop-path-preserved g c =
@@ -33,7 +34,8 @@ loop-path-preserved g c =
     let before = numbers_in c.args.entries.now.entries in
     let pair : PathValue × FileId = (c.in-Some.path, c.in-Some.id) in
     record {
-      put = λ p. put_more before l.entries.entries c.insert.new.self.entries l.yielded pair p (put.0 p) (i.put p);
+      put = λ p. put_more before l.entries.entries c.insert.new.self.entries l.yielded pair p (put.0 p)
+          (i.put p);
       left = rw (append_assoc, ← e.0) i.left;
       counted = omega (arith, ap length e.0, e.1, i.counted);
       room = omega (arith, c.insert.ensures.spare, e.1, i.room);

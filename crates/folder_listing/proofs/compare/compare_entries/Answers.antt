@@ -14,13 +14,19 @@ returns-clause-ok g c =
     let old = c.args.old.now.entries in
     let new = c.args.new.now.entries in
     let all : parts ≡ walk None (paired old new) =
-    sym (joined-none parts) ∙ ap (λ ps. joined parts (walk (option_copied c.loop-pair.top) ps)) (sym c.in_default.ensures) ∙ c.loop-pair.invariant in
+    sym (joined-none parts)
+    ∙ ap (λ ps. joined parts (walk (option_copied c.loop-pair.top) ps)) (sym c.in_default.ensures)
+    ∙ c.loop-pair.invariant in
     let same : parts.removed ++ (parts.created ++ parts.resized) ≡ changes old new =
-    ap (λ (p : PartsValue). p.removed ++ (p.created ++ p.resized)) (all ∙ walk_finds_all old new c.requires.0.ordered c.requires.1.ordered) in
+    ap (λ (p : PartsValue). p.removed ++ (p.created ++ p.resized)) (all
+    ∙ walk_finds_all old new c.requires.0.ordered c.requires.1.ordered) in
     rw (← same) c.into_events.ensures
 
 pub returns-clause-honest : goal.returns-clause-honest
 returns-clause-honest g c =
     let old = c.args.old.now.entries in
     let new = c.args.new.now.entries in
-    IfOk-weaker c.into_events.result (λ events. events.items ≡ changes old new) (λ events. LeadsTo (keys_of old) (keys_of new) events.items) (λ events is. subst (LeadsTo (keys_of old) (keys_of new)) (sym is) (changes_lead old new c.requires.0 c.requires.1)) (returns-clause-ok g c)
+    IfOk-weaker c.into_events.result (λ events. events.items
+    ≡ changes old new) (λ events. LeadsTo (keys_of old) (keys_of new) events.items)
+    (λ events is. subst (LeadsTo (keys_of old) (keys_of new)) (sym is)
+    (changes_lead old new c.requires.0 c.requires.1)) (returns-clause-ok g c)

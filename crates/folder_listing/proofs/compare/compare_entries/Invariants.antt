@@ -5,7 +5,8 @@ use Rattle.folder_listing.proofs.compare.compare_entries.Given as goal
 
 -- the events so far, and those of the pairs that are left, are the events of all pairs
 abbrev pub invariant-loop-pair : goal.invariant-loop-pair
-invariant-loop-pair g l = joined l.parts (walk (option_copied l.top) l.pairs) ≡ walk None (paired l.old.entries l.new.entries)
+invariant-loop-pair g l = joined l.parts (walk (option_copied l.top) l.pairs)
+    ≡ walk None (paired l.old.entries l.new.entries)
 
 abbrev pub decreases-loop-pair : goal.decreases-loop-pair
 decreases-loop-pair g l = length l.pairs

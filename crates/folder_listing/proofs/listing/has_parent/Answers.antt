@@ -7,4 +7,6 @@ use Rattle.folder_listing.proofs.listing.has_parent.Goals as goal
 pub returns-in-Some : goal.returns-in-Some
 returns-in-Some g c =
     let es = c.args.entries.now.entries in
-    c.contains_key.ensures ∙ (sym (has_entry-some es c.in-Some.folder) ∙ ap (has_this (keys_of es)) (sym c.in-Some.is ∙ c.in_ok-parent.ensures.value))
+    c.contains_key.ensures
+    ∙ (sym (has_entry-some es c.in-Some.folder)
+    ∙ ap (has_this (keys_of es)) (sym c.in-Some.is ∙ c.in_ok-parent.ensures.value))

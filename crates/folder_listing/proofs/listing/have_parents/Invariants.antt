@@ -8,4 +8,5 @@ decreases-loop-path g l = length l.rest
 
 -- the test of the rest is that of all
 abbrev pub invariant-loop-path : goal.invariant-loop-path
-invariant-loop-path g l = have_parents (keys_of l.entries.entries) (keys_of l.rest) ≡ have_parents (keys_of l.entries.entries) (keys_of l.entries.entries)
+invariant-loop-path g l = have_parents (keys_of l.entries.entries) (keys_of l.rest)
+    ≡ have_parents (keys_of l.entries.entries) (keys_of l.entries.entries)

@@ -6,4 +6,5 @@ use Rattle.folder_listing.proofs.near.are_names.Given as goal
 
 -- the components that are left decide
 abbrev pub invariant-loop-component : goal.invariant-loop-component
-invariant-loop-component l = are_names l.left (map part_of (components_remaining l.component-iterator)) ≡ are_names l.depth (map part_of (components_remaining l.components))
+invariant-loop-component l = are_names l.left (map part_of (components_remaining l.component-iterator))
+    ≡ are_names l.depth (map part_of (components_remaining l.components))

@@ -16,7 +16,8 @@ loop-path-preserved g c =
     record {
       put = λ t p.
           ap (λ b. b || has_pair (flat_map f es) t p) (c.in_ok-insert_later.ensures.ok t p)
-          ∙ one_put f e es t p (has l.fronts t p) _ (ap (λ es. has l.fronts t p || has_pair (flat_map f es) t p) (sym c.in-Some.ensures.steps) ∙ l.invariant.put t p);
+          ∙ one_put f e es t p (has l.fronts t p) _ (ap (λ es. has l.fronts t p || has_pair (flat_map f es) t p)
+          (sym c.in-Some.ensures.steps) ∙ l.invariant.put t p);
       kept = λ t p h. c.insert_later.ensures.kept t p (l.invariant.kept t p h);
     }
 
@@ -24,5 +25,6 @@ pub returns-clause-ok : goal.returns-clause-ok
 returns-clause-ok g c = λ t p.
     let l = c.loop-path in
     or_swap (has l.fronts t p) (has c.args.fronts.now t p) _ _
-    (ap (λ es. has l.fronts t p || has_pair (flat_map (later_pair c.args.due) es) t p) (sym c.in-None.ensures.steps.0) ∙ l.invariant.put t p)
+    (ap (λ es. has l.fronts t p || has_pair (flat_map (later_pair c.args.due) es) t p)
+    (sym c.in-None.ensures.steps.0) ∙ l.invariant.put t p)
     (later_all c.args.due c.args.map.now.entries c.len-len.ensures.ordered t p)

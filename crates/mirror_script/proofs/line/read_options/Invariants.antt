@@ -6,4 +6,5 @@ use Rattle.mirror_script.proofs.line.read_options.Given as goal
 -- the words that are left make of the options so far what all make of none
 abbrev pub invariant-loop-word : goal.invariant-loop-word
 invariant-loop-word g l =
-    with_words (options_value l.options) (drop (length l.yielded) (words_of l.fn.field)) ≡ with_words no_options (words_of l.fn.field)
+    with_words (options_value l.options) (drop (length l.yielded) (words_of l.fn.field))
+    ≡ with_words no_options (words_of l.fn.field)

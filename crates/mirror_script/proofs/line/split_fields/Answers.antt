@@ -5,4 +5,5 @@ use Rattle.mirror_script.proofs.line.split_fields.Goals as goal
 
 pub returns : goal.returns
 returns g c =
-    map_from_collect _ c.collect.ensures.ran (YieldsList-from_str_split 32 c.args.line.now (lit< tt) c.split.ensures.text c.split.ensures.has_more c.split.ensures.pattern)
+    map_from_collect _ c.collect.ensures.ran (YieldsList-from_str_split 32 c.args.line.now (lit< tt)
+    c.split.ensures.text c.split.ensures.has_more c.split.ensures.pattern)

@@ -13,5 +13,6 @@ returns-in-Some-clause-first c =
 
 pub returns-in-None-clause-first : goal.returns-in-None-clause-first
 returns-in-None-clause-first c =
-    let some : 0 < length c.args.bytes.now = grind (arith, nat_tests, c.is_empty.ensures, c.if-is_empty.false) in
+    let some : 0 < length c.args.bytes.now =
+    grind (arith, nat_tests, c.is_empty.ensures, c.if-is_empty.false) in
     lines-last c.args.bytes.now (sym c.line_feed.ensures ∙ c.in-None.is) some

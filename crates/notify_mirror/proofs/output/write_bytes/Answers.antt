@@ -10,7 +10,10 @@ loop-preserved g c =
     elim c.match-write.branch [
       | in-Ok w ↦
           let n = w.in-Ok.count in
-          let left : c.match-write.rest.now ≡ drop n rest = ap (λ (r : Bor (List ℕ)). r.now) w.rest-is ∙ take_rest rest n in
-          prints_front _ _ _ _ rest _ (take n rest) (sym (take-append-drop n rest) ∙ ap (λ l. take n rest ++ l) (sym left)) c.loop.invariant w.in-Ok.ensures.bytes
-      | in-Err w ↦ prints_kept _ _ _ _ rest _ (ap (λ (r : Bor (List ℕ)). r.now) w.rest-is) c.loop.invariant w.in-Err.ensures.bytes
+          let left : c.match-write.rest.now ≡ drop n rest = ap (λ (r : Bor (List ℕ)). r.now) w.rest-is
+          ∙ take_rest rest n in
+          prints_front _ _ _ _ rest _ (take n rest) (sym (take-append-drop n rest)
+          ∙ ap (λ l. take n rest ++ l) (sym left)) c.loop.invariant w.in-Ok.ensures.bytes
+      | in-Err w ↦ prints_kept _ _ _ _ rest _ (ap (λ (r : Bor (List ℕ)). r.now) w.rest-is) c.loop.invariant
+          w.in-Err.ensures.bytes
     ]

@@ -9,4 +9,8 @@ use Rattle.notify_mirror.proofs.transcript.print_replies.Given as goal
 
 -- what is printed so far, and then what is left to print
 abbrev pub invariant-loop-command : goal.invariant-loop-command
-invariant-loop-command g l = Prints (g.O.Write.contents l.fn.out) (string_bytes l.fn.text) (g.O.Write.contents l.out) (string_bytes l.text ++ replies_lines (command_values (iter_rest (zip_first l.command-iterator))) (reply_values (iter_rest (zip_second l.command-iterator)))) (replies_lines (command_values l.fn.commands) (reply_values l.fn.replies))
+invariant-loop-command g l =
+    Prints (g.O.Write.contents l.fn.out) (string_bytes l.fn.text) (g.O.Write.contents l.out)
+    (string_bytes l.text ++ replies_lines (command_values (iter_rest (zip_first l.command-iterator)))
+    (reply_values (iter_rest (zip_second l.command-iterator))))
+    (replies_lines (command_values l.fn.commands) (reply_values l.fn.replies))

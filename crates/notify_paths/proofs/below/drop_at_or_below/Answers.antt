@@ -11,5 +11,6 @@ returns g c =
     let path = c.args.path.now in
     let entries = c.args.map.now.entries in
     let test = is_at (path_cmp path) in
-    let new : c.remove.new.self.entries ≡ remove_entry test (without_below entries path) = c.remove.ensures.entries ∙ ap (remove_entry test) c.drop_below.ensures in
+    let new : c.remove.new.self.entries ≡ remove_entry test (without_below entries path) =
+    c.remove.ensures.entries ∙ ap (remove_entry test) c.drop_below.ensures in
     new ∙ at_or_below path entries (subst (λ es. lookup test es ≡ None) new c.remove.ensures.updates.1)

@@ -8,5 +8,7 @@ pub returns-then-copy_first_below : goal.returns-then-copy_first_below
 returns-then-copy_first_below g c =
     let path = c.args.path.now in
     let key = c.copy_first_below.new.spare in
-    let gone : not (is_below key path) ≡ false = ap not (c.copy_first_below.ensures c.if-copy_first_below.true) in
-    ap (λ es. without_below es path) c.remove.ensures.entries ∙ filter-remove_entry (λ k. not (is_below k path)) key c.args.map.now.entries gone
+    let gone : not (is_below key path) ≡ false =
+    ap not (c.copy_first_below.ensures c.if-copy_first_below.true) in
+    ap (λ es. without_below es path) c.remove.ensures.entries
+    ∙ filter-remove_entry (λ k. not (is_below k path)) key c.args.map.now.entries gone

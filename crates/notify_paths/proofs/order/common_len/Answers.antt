@@ -10,7 +10,10 @@ returns-then-count-both-clause-same c =
     let i = c.common_words-count.result * 8 in
     let n = c.common_bytes.result in
     let s = c.common_bytes.ensures in
-    digits_as_bytes a b i c.word_at.result c.word_at-then-count-both.result (λ j. omega (arith, c.type_inv.a j)) (λ j. omega (arith, c.type_inv.b j)) c.word_at.ensures c.word_at-then-count-both.ensures n (omega (arith, s.within)) (omega (arith, s.within)) (omega (arith, s.within)) s.same c.common_words-count.ensures.same
+    digits_as_bytes a b i c.word_at.result c.word_at-then-count-both.result (λ j. omega (arith, c.type_inv.a j))
+    (λ j. omega (arith, c.type_inv.b j)) c.word_at.ensures c.word_at-then-count-both.ensures n
+    (omega (arith, s.within)) (omega (arith, s.within)) (omega (arith, s.within)) s.same
+    c.common_words-count.ensures.same
 
 pub returns-then-count-both-clause-stop : goal.returns-then-count-both-clause-stop
 returns-then-count-both-clause-stop c h k =
@@ -18,4 +21,6 @@ returns-then-count-both-clause-stop c h k =
     let b = c.args.b.now in
     let i = c.common_words-count.result * 8 in
     let s = c.common_bytes.ensures in
-    digit_apart a b i c.word_at.result c.word_at-then-count-both.result (λ j. omega (arith, c.type_inv.a j)) (λ j. omega (arith, c.type_inv.b j)) c.word_at.ensures c.word_at-then-count-both.ensures c.common_bytes.result s.within s.same s.stop
+    digit_apart a b i c.word_at.result c.word_at-then-count-both.result (λ j. omega (arith, c.type_inv.a j))
+    (λ j. omega (arith, c.type_inv.b j)) c.word_at.ensures c.word_at-then-count-both.ensures
+    c.common_bytes.result s.within s.same s.stop

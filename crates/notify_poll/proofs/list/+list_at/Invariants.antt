@@ -15,7 +15,9 @@ decreases-list_at g l = l.depth
 -- nothing is lost, the folder and those above it are there, and the folders tell and count as before
 abbrev pub invariant-loop-name : goal.invariant-loop-name
 invariant-loop-name g l = record {
-  added : IfSome (g.D.Folders.told l.fn.folders) (λ tree. Adds tree (λ q. is_at (path_cmp q) l.path || list_any (λ name. in_child tree (l.depth - 1) l.path q (string_bytes name)) (take l.name-index l.name-items)) l.fn.listing l.listing);
+  added : IfSome (g.D.Folders.told l.fn.folders) (λ tree. Adds tree (λ q. is_at (path_cmp q) l.path
+      || list_any (λ name. in_child tree (l.depth - 1) l.path q (string_bytes name))
+      (take l.name-index l.name-items)) l.fn.listing l.listing);
   grows : (q : PathValue) → has_entry l.fn.listing q ≡ true → has_entry l.listing q ≡ true;
   here : has_entry l.listing l.path ≡ true;
   folders : has_folders (keys_of l.listing) l.path ≡ true;

@@ -5,4 +5,5 @@ use Rattle.notify_poll.proofs.polled.drop_root.Goals as goal
 
 pub returns-clause-items : goal.returns-clause-items
 returns-clause-items g c =
-    filter_same _ (λ root. not (path_eq root.0 c.args.path.now)) _ (λ x b f' t. search rules) c.args.roots.now.items c.retain.new.self.items c.retain.ensures.filtered
+    filter_same _ (λ root. not (path_eq root.0 c.args.path.now)) _ (λ x b f' t. search rules)
+    c.args.roots.now.items c.retain.new.self.items c.retain.ensures.filtered

@@ -15,9 +15,13 @@ returns-then-is_none-clause-err g c =
     let told = g.D.Folders.told c.args.folders.now in
     let root : PathValue × RecursiveMode = (c.args.root.now, c.args.mode) in
     let first = c.list_root.new.listing in
-    let added : IfSome told (λ tree. IsTree tree → Adds tree (shows tree root) [] first) = subst (λ es. IfSome told (λ tree. IsTree tree → Adds tree (shows tree root) es first)) c.new-first.ensures c.in_ok-list_root.ensures.added in
-    let all : ShowsFirst told root first = listed-one told root first (subst IsListing c.first.view_is c.first.invariant) added in
-    let none : has_entry first c.args.root.now ≡ false = has_entry-some first c.args.root.now ∙ (ap is_some (sym c.get.ensures) ∙ c.if-is_none.ensures) in
+    let added : IfSome told (λ tree. IsTree tree → Adds tree (shows tree root) [] first) =
+    subst (λ es. IfSome told (λ tree. IsTree tree → Adds tree (shows tree root) es first))
+    c.new-first.ensures c.in_ok-list_root.ensures.added in
+    let all : ShowsFirst told root first =
+    listed-one told root first (subst IsListing c.first.view_is c.first.invariant) added in
+    let none : has_entry first c.args.root.now ≡ false = has_entry-some first c.args.root.now
+    ∙ (ap is_some (sym c.get.ensures) ∙ c.if-is_none.ensures) in
     inl (c.new.ensures, lacks told root first all none)
 
 pub returns-clause-shown : goal.returns-clause-shown
@@ -25,7 +29,9 @@ returns-clause-shown g c =
     let told = g.D.Folders.told c.args.folders.now in
     let root : PathValue × RecursiveMode = (c.args.root.now, c.args.mode) in
     let first = c.list_root.new.listing in
-    let added : IfSome told (λ tree. IsTree tree → Adds tree (shows tree root) [] first) = subst (λ es. IfSome told (λ tree. IsTree tree → Adds tree (shows tree root) es first)) c.new-first.ensures c.in_ok-list_root.ensures.added in
+    let added : IfSome told (λ tree. IsTree tree → Adds tree (shows tree root) [] first) =
+    subst (λ es. IfSome told (λ tree. IsTree tree → Adds tree (shows tree root) es first))
+    c.new-first.ensures c.in_ok-list_root.ensures.added in
     listed-one told root first (subst IsListing c.first.view_is c.first.invariant) added
 
 pub returns-clause-here : goal.returns-clause-here

@@ -8,5 +8,6 @@ use Rattle.path_sets.proofs.clock.clock_kept.Given as goal
 -- the moments that are left decide whether none falls
 abbrev pub invariant-loop-command : goal.invariant-loop-command
 invariant-loop-command g l =
-    never_fall l.least (moments_of (command_values (iter_rest (zip_first l.command-iterator))) (reply_values (iter_rest (zip_second l.command-iterator))))
+    never_fall l.least (moments_of (command_values (iter_rest (zip_first l.command-iterator)))
+    (reply_values (iter_rest (zip_second l.command-iterator))))
     ≡ never_fall 0 (moments_of (command_values l.fn.commands) (reply_values l.fn.replies))

@@ -9,5 +9,6 @@ use Rattle.path_sets.proofs.honest.are_honest.Given as goal
 -- the events that are left decide whether all are honest
 abbrev pub invariant-loop-command : goal.invariant-loop-command
 invariant-loop-command g l =
-    are_honest l.raw (accepted (command_values (iter_rest (zip_first l.command-iterator))) (reply_values (iter_rest (zip_second l.command-iterator))))
+    are_honest l.raw (accepted (command_values (iter_rest (zip_first l.command-iterator)))
+    (reply_values (iter_rest (zip_second l.command-iterator))))
     ≡ are_honest l.fn.raw (accepted (command_values l.fn.commands) (reply_values l.fn.replies))

@@ -12,10 +12,14 @@ returns-clause-value g c =
     let start = c.args.start.now in
     let commands = command_values c.args.commands.now in
     let replies = reply_values c.args.replies.now in
-    let same : length commands ≡ length replies = length-map c.args.commands.now command_value ∙ c.if-commands-replies.false ∙ sym (length-map c.args.replies.now reply_value) in
+    let same : length commands ≡ length replies = length-map c.args.commands.now command_value
+    ∙ c.if-commands-replies.false ∙ sym (length-map c.args.replies.now reply_value) in
     let by = honest_by start commands replies same (sym c.in_ok-is_closed.ensures.ok ∙ c.if-not-branch.false) in
     value_by _ (are_honest c.in_ok-raw.raw (accepted commands replies)) (is_honest start commands replies)
-    (ap (λ (s : Paths). are_honest s (accepted commands replies)) c.in_ok-raw.ensures.ok ∙ sym by) c.are_honest.ensures.ok
+    (ap (λ (s : Paths). are_honest s (accepted commands replies)) c.in_ok-raw.ensures.ok
+    ∙ sym by) c.are_honest.ensures.ok
 
 pub returns-clause-ok : goal.returns-clause-ok
-returns-clause-ok g c = decided_by _ c.args.start.now (command_values c.args.commands.now) (reply_values c.args.replies.now) (returns-clause-value g c)
+returns-clause-ok g c =
+    decided_by _ c.args.start.now (command_values c.args.commands.now) (reply_values c.args.replies.now)
+    (returns-clause-value g c)

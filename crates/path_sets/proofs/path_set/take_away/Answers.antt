@@ -6,4 +6,5 @@ use Rattle.path_sets.proofs.path_set.take_away.Goals as goal
 
 pub returns : goal.returns
 returns g c =
-    ap keys_of c.drop_at_or_below.ensures ∙ keys_of-filter (λ p. not (is_prefix c.args.path.now p)) c.args.map.now.entries
+    ap keys_of c.drop_at_or_below.ensures
+    ∙ keys_of-filter (λ p. not (is_prefix c.args.path.now p)) c.args.map.now.entries

@@ -6,7 +6,11 @@ pub returns-in_default-clause-legal : goal.returns-in_default-clause-legal
 returns-in_default-clause-legal g c = rw c.new.ensures.items (IsJournal-empty _)
 
 pub returns-in-Ok-clause-ok : goal.returns-in-Ok-clause-ok
-returns-in-Ok-clause-ok g c = rw (← c.self.view_is, c.in-Some.is) (c.timeout-timeout.ensures, rw c.as_slice.ensures.value at c.in-Ok.ensures)
+returns-in-Ok-clause-ok g c =
+    rw (← c.self.view_is, c.in-Some.is) (
+      c.timeout-timeout.ensures,
+      rw c.as_slice.ensures.value at c.in-Ok.ensures,
+    )
 
 pub returns-in-Ok-clause-legal : goal.returns-in-Ok-clause-legal
 returns-in-Ok-clause-legal g c =

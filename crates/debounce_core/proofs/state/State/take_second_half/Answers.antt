@@ -11,5 +11,9 @@ pub invariant_of-self-2 : goal.invariant_of-self-2
 invariant_of-self-2 g c =
     let a = c.self.inside in
     let x = c.args.event in
-    let joined : ◌≡◌ {A = Queues} c.join.new.self (renamed_to a.queues (first_of x.event.paths) x (first_half a.rename_slot x.event c.args.number)) = c.in_ok-join.ensures.ok ∙ ap (renamed_to a.queues (first_of x.event.paths) x) c.first_half-half.ensures in
+    let joined : ◌≡◌ {A =
+    Queues} c.join.new.self
+    (renamed_to a.queues (first_of x.event.paths) x (first_half a.rename_slot x.event c.args.number)) =
+    c.in_ok-join.ensures.ok
+    ∙ ap (renamed_to a.queues (first_of x.event.paths) x) c.first_half-half.ensures in
     well_formed_after RenameTo _ _ x c.args.number c.requires.fits c.self.invariant joined refl refl refl

@@ -7,5 +7,5 @@ pub invariant_of-self : goal.invariant_of-self
 invariant_of-self g c =
     let kept = map_push _ c.args.event c.self.invariant c.requires.path c.requires.kind in
     either IsQueueMap c.push.result c.push.new.self _ c.self.inside.queues c.push.ensures.ok
-        c.push.ensures.unchanged
+    c.push.ensures.unchanged
     kept c.self.invariant

@@ -8,5 +8,5 @@ pub invariant_of-self : goal.invariant_of-self
 invariant_of-self g c =
     let kept = map_rests (is_due c.args.due) c.self.inside.queues c.self.invariant in
     either IsQueueMap c.take_due.result c.take_due.new.self _ c.self.inside.queues c.take_due.ensures.left
-        c.take_due.ensures.unchanged
+    c.take_due.ensures.unchanged
     kept c.self.invariant

@@ -8,5 +8,5 @@ pub invariant_of-self : goal.invariant_of-self
 invariant_of-self g c =
     let kept = map_rests (is_due c.args.due) c.self.inside.queues c.self.invariant in
     either IsQueueMap c.trim.result c.trim.new.self _ c.self.inside.queues c.trim.ensures.ok
-        c.trim.ensures.unchanged
+    c.trim.ensures.unchanged
     kept c.self.invariant

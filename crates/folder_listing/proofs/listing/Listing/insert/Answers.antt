@@ -9,11 +9,13 @@ pub invariant_of-self-2 : goal.invariant_of-self-2
 invariant_of-self-2 g c =
     let old = c.self.inside.entries.entries in
     let folders : has_folders (keys_of old) c.args.path.now ≡ true = rw c.self.view_is c.requires.folders in
-    rw (c.in-Ok.ensures.entries, c.in_ok-path.ensures.ok) (is_listing-insert old c.args.path.now c.args.found c.self.invariant c.requires.path folders)
+    rw (c.in-Ok.ensures.entries, c.in_ok-path.ensures.ok) (is_listing-insert old c.args.path.now c.args.found
+    c.self.invariant c.requires.path folders)
 
 pub returns-clause-here : goal.returns-clause-here
 returns-clause-here g c =
-    rw (c.in-Ok.ensures.entries, c.in_ok-path.ensures.ok) (has_entry-inserted c.self.inside.entries.entries c.args.path.now c.args.found)
+    rw (c.in-Ok.ensures.entries, c.in_ok-path.ensures.ok) (has_entry-inserted c.self.inside.entries.entries
+    c.args.path.now c.args.found)
 
 pub returns-clause-grows : goal.returns-clause-grows
 returns-clause-grows g c = λ q h.

@@ -7,9 +7,11 @@ use Rattle.folder_listing.proofs.listing.Listing.try_clone.Goals as goal
 pub invariant_of-result : goal.invariant_of-result
 invariant_of-result g c =
     let old = c.self.inside.entries.entries in
-    subst IsListing (sym (c.in-Ok.ensures ∙ (ap (λ es. put_over es old) c.new.ensures.empty ∙ copied old c.self.invariant.ordered))) c.self.invariant
+    subst IsListing (sym (c.in-Ok.ensures ∙ (ap (λ es. put_over es old) c.new.ensures.empty
+    ∙ copied old c.self.invariant.ordered))) c.self.invariant
 
 pub returns-in-Ok-clause-ok : goal.returns-in-Ok-clause-ok
 returns-in-Ok-clause-ok g c =
     let old = c.self.inside.entries.entries in
-    c.in-Ok.ensures ∙ (ap (λ es. put_over es old) c.new.ensures.empty ∙ (copied old c.self.invariant.ordered ∙ c.self.view_is))
+    c.in-Ok.ensures ∙ (ap (λ es. put_over es old) c.new.ensures.empty
+    ∙ (copied old c.self.invariant.ordered ∙ c.self.view_is))

@@ -8,5 +8,6 @@ pub returns : goal.returns
 returns g c =
     c.name.ensures
     ∙ ap name_of c.part_of_component.ensures
-    ∙ sym (file_name_at (components_remaining c.components.result) (components_remaining c.next_back.new.self) (component_bytes c.in_ok-last.last) c.in_ok-last.ensures.steps.0)
+    ∙ sym (file_name_at (components_remaining c.components.result) (components_remaining c.next_back.new.self)
+    (component_bytes c.in_ok-last.last) c.in_ok-last.ensures.steps.0)
     ∙ ap file_name_of c.components.ensures.value

@@ -11,18 +11,25 @@ use Rattle.notify_paths.proofs.path.PathBuf.in_place.Goals as goal
 pub text_past-rest-requires : goal.text_past-rest-requires
 text_past-rest-requires g c =
     rw (c.as_str.ensures.value, c.as_str-2.ensures.value)
-    (base_begins (string_bytes c.from.inside.text) (string_bytes c.self.inside.text) c.from.invariant c.self.invariant (ap₂ is_prefix c.from.view_is c.self.view_is ∙ c.requires.below))
+    (base_begins (string_bytes c.from.inside.text) (string_bytes c.self.inside.text) c.from.invariant
+    c.self.invariant (ap₂ is_prefix c.from.view_is c.self.view_is ∙ c.requires.below))
 
-text : (g : Over) (c : goal.In_ok-text g) → IsTextOf (string_bytes c.in_ok-text.text) (in_place (parts_of (string_bytes c.from.inside.text)) (parts_of (string_bytes c.to.inside.text)) (parts_of (string_bytes c.self.inside.text)))
+text : (g : Over) (c : goal.In_ok-text g) →
+    IsTextOf (string_bytes c.in_ok-text.text) (in_place (parts_of (string_bytes c.from.inside.text))
+    (parts_of (string_bytes c.to.inside.text)) (parts_of (string_bytes c.self.inside.text)))
 text g c =
-    placed (string_bytes c.from.inside.text) (string_bytes c.to.inside.text) (string_bytes c.self.inside.text) (string_bytes c.in_ok-text.text)
+    placed (string_bytes c.from.inside.text) (string_bytes c.to.inside.text) (string_bytes c.self.inside.text)
+    (string_bytes c.in_ok-text.text)
     c.from.invariant c.to.invariant c.self.invariant
     (subst (λ p. 0 < length p) (sym c.from.view_is) c.requires.some)
     (ap₂ is_prefix c.from.view_is c.self.view_is ∙ c.requires.below)
-    (c.in_ok-text.ensures ∙ ap₂ joined c.as_str-3.ensures.value (c.text_past-rest.ensures ∙ ap₂ text_past c.as_str-2.ensures.value c.as_str.ensures.value))
+    (c.in_ok-text.ensures ∙ ap₂ joined c.as_str-3.ensures.value (c.text_past-rest.ensures
+    ∙ ap₂ text_past c.as_str-2.ensures.value c.as_str.ensures.value))
 
 pub invariant_of-result : goal.invariant_of-result
 invariant_of-result g c = (text g c).1
 
 pub returns : goal.returns
-returns g c = (text g c).0 ∙ (ap₂ (λ f p. in_place f (parts_of (string_bytes c.to.inside.text)) p) c.from.view_is c.self.view_is ∙ ap (λ t. in_place c.args.from.now t c.args.self.now) c.to.view_is)
+returns g c = (text g c).0
+    ∙ (ap₂ (λ f p. in_place f (parts_of (string_bytes c.to.inside.text)) p) c.from.view_is c.self.view_is
+    ∙ ap (λ t. in_place c.args.from.now t c.args.self.now) c.to.view_is)

@@ -5,4 +5,6 @@ use Rattle.notify_paths.specs.Path.{path_cmp}
 use Rattle.path_sets.proofs.path_set.PathSet.contains.Goals as goal
 
 pub returns : goal.returns
-returns g c = rw (← c.self.view_is) (c.contains_key.ensures ∙ is_some-lookup (is_at (path_cmp c.args.path.now)) c.self.inside.paths.entries)
+returns g c =
+    rw (← c.self.view_is) (c.contains_key.ensures
+    ∙ is_some-lookup (is_at (path_cmp c.args.path.now)) c.self.inside.paths.entries)

@@ -7,10 +7,12 @@ use Rattle.path_sets.proofs.path_set.PathSet.holds_folders.Goals as goal
 pub returns-then-not-contains : goal.returns-then-not-contains
 returns-then-not-contains g c =
     let f = has_path c.args.self.now in
-    sym (sym (folders_alike f c.args.path.now) ∙ sym c.loop-next.invariant ∙ ap (λ n. list_all f (folders_from n)) c.in-Some.is
+    sym (sym (folders_alike f c.args.path.now) ∙ sym c.loop-next.invariant
+    ∙ ap (λ n. list_all f (folders_from n)) c.in-Some.is
     ∙ all_first f c.in-Some.folder false (sym c.contains.ensures ∙ c.if-not-contains.true))
 
 pub returns : goal.returns
 returns g c =
     let f = has_path c.args.self.now in
-    sym (sym (folders_alike f c.args.path.now) ∙ sym c.loop-next.invariant ∙ ap (λ n. list_all f (folders_from n)) c.in_default.is)
+    sym (sym (folders_alike f c.args.path.now) ∙ sym c.loop-next.invariant
+    ∙ ap (λ n. list_all f (folders_from n)) c.in_default.is)

@@ -6,4 +6,5 @@ use Rattle.path_sets.proofs.path_set.PathSet.insert.Goals as goal
 
 pub returns-clause-ok : goal.returns-clause-ok
 returns-clause-ok g c =
-    rw (← c.self.view_is) (ap keys_of c.in-Ok.ensures.entries ∙ keys_of-insert_entry path_cmp c.self.inside.paths.entries c.args.path tt)
+    rw (← c.self.view_is) (ap keys_of c.in-Ok.ensures.entries
+    ∙ keys_of-insert_entry path_cmp c.self.inside.paths.entries c.args.path tt)

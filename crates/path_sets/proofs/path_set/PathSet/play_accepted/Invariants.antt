@@ -8,5 +8,6 @@ use Rattle.path_sets.proofs.path_set.PathSet.play_accepted.Given as goal
 -- what is left to play makes what all make of the set
 abbrev pub invariant-loop-command : goal.invariant-loop-command
 invariant-loop-command g l =
-    raw_paths l.self (command_values (iter_rest (zip_first l.command-iterator))) (reply_values (iter_rest (zip_second l.command-iterator)))
+    raw_paths l.self (command_values (iter_rest (zip_first l.command-iterator)))
+    (reply_values (iter_rest (zip_second l.command-iterator)))
     ≡ raw_paths l.fn.self (command_values l.fn.commands) (reply_values l.fn.replies)

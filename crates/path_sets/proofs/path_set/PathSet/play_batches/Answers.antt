@@ -11,7 +11,8 @@ loop-reply-preserved g c =
     let replies = c.args.replies.now in
     let item = c.reply-item.result in
     let rest = reply_values (drop (i + 1) replies) in
-    let left : reply_values (drop i replies) ≡ reply_value item ∷ rest = ap reply_values (drop_item replies i item c.loop-reply-test.true c.reply-item.is) in
+    let left : reply_values (drop i replies) ≡ reply_value item ∷ rest =
+    ap reply_values (drop_item replies i item c.loop-reply-test.true c.reply-item.is) in
     ap (λ (s : Paths). reader_paths s rest) c.in_ok-play_batch.ensures.ok
     ∙ sym (play_batch-first c.loop-reply.self (emitted_by (reply_value item)) (emitted rest))
     ∙ sym (ap (reader_paths c.loop-reply.self) left)
