@@ -1,5 +1,6 @@
 -- Steps of a book: its journal is one entry longer and stays legal, or nothing is written.
-use Rattle.std.proofs.Common.{◌≡◌, ◌∙◌, ℕ, List, [], ◌∷◌, ◌++◌, Bool, true, false, Option, Some, Result, Ok, Err, OnOk, IfErr, refl, sym, ap, subst, inl, inr}
+use Rattle.std.proofs.Common.{◌≡◌, ◌∙◌, ℕ, List, [], ◌∷◌, ◌++◌, Bool, true, false, Option, Some, None, IfSome, Result, Ok, Err, OnOk, IfErr, refl, sym, ap, subst, inl, inr}
+use Rattle.std.specs.Option.{option_map}
 use Rattle.notify_paths.specs.Errors.{ErrorValue, ErrorKindValue, FullKind, MemoryKind}
 use Rattle.notify_types.specs.Event.{EventValue}
 use Rattle.debounce_model.specs.declared.case.Case.{Case}
@@ -204,6 +205,12 @@ module _ {C : Type 0} where
       IfErr res (λ e. IsNotDone r old c e new)
   fed_not_done r old new c y (Ok x) s h = tt
   fed_not_done r old new c y (Err e) s h = rw h at s
+
+-- a journal that is legal as the code holds it is legal as it is shown
+pub IsLegal-shown : {J : Type 0} (items : J → List EntryValue) (journal : Option J) (s : State)
+    → IfSome journal (λ j. IsLegal (items j) s) → IfSome (option_map items journal) (λ es. IsLegal es s)
+IsLegal-shown items None s h = h
+IsLegal-shown items (Some j) s h = h
 
 -- the empty journal is legal
 pub IsJournal-empty : (timeout : ℕ) → IsJournal timeout []

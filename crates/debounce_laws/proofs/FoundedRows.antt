@@ -99,7 +99,8 @@ along = TakenAlong (Told inner) outer refl refl
     outer : Matched two_renames (at1 (codes "d")) (at1 (codes "e"))
     outer = record {
       earlier =
-          half rename.From (at2 (codes "d") (codes "x")) 1 ∷ half rename.To (at2 (codes "d") (codes "y")) 1 ∷ [];
+          half rename.From (at2 (codes "d") (codes "x")) 1 ∷ half rename.To (at2 (codes "d") (codes "y"))
+          1 ∷ [];
       first = _;
       second = _;
       later = _;

@@ -251,7 +251,8 @@ length-with_queues queues (e ∷ es) s =
       arith,
       length-with_queues queues es s,
       sum_by-cons length e.1 (values_of es),
-      sum_by-insert_entry length path_cmp_total (with_queues queues es) e.0 e.1 (sorted-with_queues queues es s),
+      sum_by-insert_entry length path_cmp_total (with_queues queues es) e.0 e.1
+          (sorted-with_queues queues es s),
     )
 
 -- ---- the move

@@ -176,7 +176,8 @@ module _ {X : Type 0} (text : X → List ℕ) (o : Option ListingValue) (d : ℕ
         by (Some tree) h k a =
             let are : AreNames tree p (map text xs) =
             subst (AreNames tree p) n (subst (λ z. NamesOf tree p (option_map names z)) e k) in
-            let here : is_of_kind Folder (entry_at tree p) ≡ true = ap (is_of_kind Folder) (sym h ∙ s) ∙ folder in
+            let here : is_of_kind Folder (entry_at tree p) ≡ true = ap (is_of_kind Folder) (sym h ∙ s)
+            ∙ folder in
             Adds-alike tree (λ q. is_at (path_cmp q) p
             || list_any (λ name. in_child tree d p q (text name)) (take i xs)) (reaches tree (suc d) p) es fs
             (λ q.
