@@ -1,9 +1,7 @@
 #!/usr/bin/env bash
-# check_documents.sh: what the documents name is there, what they quote is the code's and the program's,
-# and the pages that scripts write are what these write. It builds nothing. The last line is 'N passed,
-# M failed'.
-cd "$(dirname "$0")/.." || exit 1
-room=$(mktemp -d) || exit 1
+# check_documents.sh: what the pages name is there, what they quote is the code's and the program's own,
+# and scripts write the pages that they are to write. It builds nothing. Last line: 'N passed, M failed'.
+cd "$(dirname "$0")/.." && room=$(mktemp -d) || exit 1
 trap 'rm -rf "$room"' EXIT
 passed=0 failed=0
 
@@ -48,7 +46,8 @@ blocks() {
     done
 }
 
-# Each crate has its line in ARCHITECTURE.md, each wrong body its row there and in WRONG_BODIES.md.
+# Each crate has its line in ARCHITECTURE.md, each wrong body its row there and in WRONG_BODIES.md, and
+# each label of a public call's clause is in the dictionary.
 rows() {
     sed -n 's/^\([a-z_0-9]\{1,\}\)[^#]*:.*/\1/p' crates.txt | while read -r crate; do
         grep -q "^| \`$crate\` |" docs/ARCHITECTURE.md || echo "docs/ARCHITECTURE.md: no line for $crate"
@@ -56,6 +55,7 @@ rows() {
     for edit in crates/*/must-fail/*.edit; do
         grep -LF "\`$(basename "$edit" .edit)\`" docs/ARCHITECTURE.md docs/WRONG_BODIES.md | sed "s,\$,: no row for $edit,"
     done
+    sed -n 's/^  [er][a-z]* \([a-z_]*\) {.*/`\1`/p' docs/CALLING.md | sort -u | grep -vxFf <(grep -o '`[a-z_]*`' docs/CONTRIBUTING.md)
 }
 
 # Lengths; the README's script is the one that the gate runs, and prints what stands there.
@@ -73,7 +73,7 @@ for page in README.md docs/*.md; do
 done
 check 'what scripts/lemma_map writes' cmp docs/LEMMAS.md <(scripts/lemma_map)
 check 'what scripts/calling writes' cmp docs/CALLING.md <(scripts/calling)
-check 'crates and wrong bodies' rows
+check 'crates, wrong bodies and labels' rows
 check 'lengths, and the script of the README' facts
 echo "$passed passed, $failed failed"
 [ $failed = 0 ]
