@@ -14,11 +14,11 @@ check() {
 }
 
 squeezed() { tr -s ' \n' ' ' | sed 's/^ //; s/ $//'; }
-# The files of a clone and their names; all words of what is no page; each file of code as one line.
+# The files of a clone and their names; all words of what is no page; all code and cases on one line.
 find . \( -name out -o -name .git \) -prune -o -type f -print | sed 's,^\./,,' >"$room/files"
 sed 's,.*/,,' "$room/files" | sort -u >"$room/names"
 grep -v '^docs/\|^README' "$room/files" | tr '\n' '\0' | xargs -0 cat "$room/files" | grep -oaE '\w+' | sort -u >"$room/words"
-for file in crates/*/src/*.rt crates/*/data/*.md; do squeezed <"$file"; echo; done >"$room/code"
+grep '\.rt$\|\.antt$\|/data/.*\.md$' "$room/files" | tr '\n' '\0' | xargs -0 cat | squeezed >"$room/code"
 
 links() {
     grep -oE '\]\([^)]*\)' "$1" | sed 's/^](//; s/)$//' | grep -v '^https*:' | sort -u | while read -r link; do
@@ -38,10 +38,10 @@ names() {
     grep -oE '`[a-z0-9]+(_[a-z0-9]+)+`' "$1" | tr -d '`' | sort -u | comm -23 - "$room/words"
 }
 
-# Each block of code, and each script with its output, stands in a crate.
+# Each block of code or of a proof, and each script with its output, stands in a crate.
 blocks() {
-    for number in $(seq "$(grep -cE '^```(rust|script)' "$1")"); do
-        block=$(awk -v wanted="$number" '/^```/ { inside = /^```(rust|script)/ && ++seen == wanted; next } inside' "$1" | squeezed)
+    for number in $(seq "$(grep -cE '^```(rust|antt|script)' "$1")"); do
+        block=$(awk -v wanted="$number" '/^```/ { inside = /^```(rust|antt|script)/ && ++seen == wanted; next } inside' "$1" | squeezed)
         [ -n "$block" ] && grep -qF -- "$block" "$room/code" || echo "block $number stands in no crate"
     done
 }
