@@ -9,8 +9,7 @@ passed=0 failed=0
 check() {
     "${@:2}" >"$room/wrong" 2>&1
     [ -s "$room/wrong" ] || { passed=$((passed + 1)) && return; }
-    failed=$((failed + 1))
-    echo "FAILED: $1" && sed 's/^/    /' "$room/wrong"
+    failed=$((failed + 1)) && echo "FAILED: $1" && sed 's/^/    /' "$room/wrong"
 }
 
 squeezed() { tr -s ' \n' ' ' | sed 's/^ //; s/ $//'; }
@@ -58,10 +57,11 @@ rows() {
     sed -n 's/^  [er][a-z]* \([a-z_]*\) {.*/`\1`/p' docs/CALLING.md | sort -u | grep -vxFf <(grep -o '`[a-z_]*`' docs/CONTRIBUTING.md)
 }
 
-# Lengths; the README's script is the one that the gate runs, and prints what stands there.
+# Lengths; the kit's line; the README's script is the one that the gate runs, and prints what stands there.
 facts() {
     [ "$(wc -w <README.md)" -le 800 ] || echo 'README.md has more than 800 words'
     [ "$(wc -l <docs/PROOFS.md)" -le 200 ] || echo 'docs/PROOFS.md has more than 200 lines'
+    cmp <(grep -o 'rattle-kit[^`]*' README.md) <(grep -o 'rattle-kit[^`]*' docs/TRUSTED.md)
     cmp "$(sed -n 's,^\./mirror \(scripts/.*\),\1,p' README.md | head -n 1)" crates/mirror/data/example
     for page in README.md docs/TUTORIAL.md; do
         [[ $(cat $page) == *"$(cat crates/mirror/stdout)"* ]] || echo "$page: the script prints something else"
