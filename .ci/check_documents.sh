@@ -1,9 +1,7 @@
 #!/usr/bin/env bash
-# check_documents.sh: what the documents name is there, what they quote is the code's and the program's,
-# and the pages that scripts write are what these write. It builds nothing. The last line is 'N passed,
-# M failed'.
-cd "$(dirname "$0")/.." || exit 1
-room=$(mktemp -d) || exit 1
+# check_documents.sh: what the pages name is there, what they quote is the code's and the program's own,
+# and scripts write the pages that they are to write. It builds nothing. Last line: 'N passed, M failed'.
+cd "$(dirname "$0")/.." && room=$(mktemp -d) || exit 1
 trap 'rm -rf "$room"' EXIT
 passed=0 failed=0
 
@@ -11,16 +9,15 @@ passed=0 failed=0
 check() {
     "${@:2}" >"$room/wrong" 2>&1
     [ -s "$room/wrong" ] || { passed=$((passed + 1)) && return; }
-    failed=$((failed + 1))
-    echo "FAILED: $1" && sed 's/^/    /' "$room/wrong"
+    failed=$((failed + 1)) && echo "FAILED: $1" && sed 's/^/    /' "$room/wrong"
 }
 
 squeezed() { tr -s ' \n' ' ' | sed 's/^ //; s/ $//'; }
-# The files of a clone and their names; all words of what is no page; each file of code as one line.
+# The files of a clone and their names; all words of what is no page; all code and cases on one line.
 find . \( -name out -o -name .git \) -prune -o -type f -print | sed 's,^\./,,' >"$room/files"
 sed 's,.*/,,' "$room/files" | sort -u >"$room/names"
 grep -v '^docs/\|^README' "$room/files" | tr '\n' '\0' | xargs -0 cat "$room/files" | grep -oaE '\w+' | sort -u >"$room/words"
-for file in crates/*/src/*.rt crates/*/data/*.md; do squeezed <"$file"; echo; done >"$room/code"
+grep '\.rt$\|\.antt$\|/data/.*\.md$' "$room/files" | tr '\n' '\0' | xargs -0 cat | squeezed >"$room/code"
 
 links() {
     grep -oE '\]\([^)]*\)' "$1" | sed 's/^](//; s/)$//' | grep -v '^https*:' | sort -u | while read -r link; do
@@ -40,15 +37,16 @@ names() {
     grep -oE '`[a-z0-9]+(_[a-z0-9]+)+`' "$1" | tr -d '`' | sort -u | comm -23 - "$room/words"
 }
 
-# Each block of code, and each script with its output, stands in a crate.
+# Each block of code or of a proof, and each script with its output, stands in a crate.
 blocks() {
-    for number in $(seq "$(grep -cE '^```(rust|script)' "$1")"); do
-        block=$(awk -v wanted="$number" '/^```/ { inside = /^```(rust|script)/ && ++seen == wanted; next } inside' "$1" | squeezed)
+    for number in $(seq "$(grep -cE '^```(rust|antt|script)' "$1")"); do
+        block=$(awk -v wanted="$number" '/^```/ { inside = /^```(rust|antt|script)/ && ++seen == wanted; next } inside' "$1" | squeezed)
         [ -n "$block" ] && grep -qF -- "$block" "$room/code" || echo "block $number stands in no crate"
     done
 }
 
-# Each crate has its line in ARCHITECTURE.md, each wrong body its row there and in WRONG_BODIES.md.
+# Each crate has its line in ARCHITECTURE.md, each wrong body its row there and in WRONG_BODIES.md, and
+# each label of a public call's clause is in the dictionary.
 rows() {
     sed -n 's/^\([a-z_0-9]\{1,\}\)[^#]*:.*/\1/p' crates.txt | while read -r crate; do
         grep -q "^| \`$crate\` |" docs/ARCHITECTURE.md || echo "docs/ARCHITECTURE.md: no line for $crate"
@@ -56,12 +54,14 @@ rows() {
     for edit in crates/*/must-fail/*.edit; do
         grep -LF "\`$(basename "$edit" .edit)\`" docs/ARCHITECTURE.md docs/WRONG_BODIES.md | sed "s,\$,: no row for $edit,"
     done
+    sed -n 's/^  [er][a-z]* \([a-z_]*\) {.*/`\1`/p' docs/CALLING.md | sort -u | grep -vxFf <(grep -o '`[a-z_]*`' docs/CONTRIBUTING.md)
 }
 
-# Lengths; the README's script is the one that the gate runs, and prints what stands there.
+# Lengths; the kit's line; the README's script is the one that the gate runs, and prints what stands there.
 facts() {
     [ "$(wc -w <README.md)" -le 800 ] || echo 'README.md has more than 800 words'
     [ "$(wc -l <docs/PROOFS.md)" -le 200 ] || echo 'docs/PROOFS.md has more than 200 lines'
+    cmp <(grep -o 'rattle-kit[^`]*' README.md) <(grep -o 'rattle-kit[^`]*' docs/TRUSTED.md)
     cmp "$(sed -n 's,^\./mirror \(scripts/.*\),\1,p' README.md | head -n 1)" crates/mirror/data/example
     for page in README.md docs/TUTORIAL.md; do
         [[ $(cat $page) == *"$(cat crates/mirror/stdout)"* ]] || echo "$page: the script prints something else"
@@ -80,7 +80,7 @@ for page in README.md docs/*.md; do
 done
 check 'what scripts/lemma_map writes' cmp docs/LEMMAS.md <(scripts/lemma_map)
 check 'what scripts/calling writes' cmp docs/CALLING.md <(scripts/calling)
-check 'crates and wrong bodies' rows
+check 'crates, wrong bodies and labels' rows
 check 'widths of code and proofs' widths
 check 'lengths, and the script of the README' facts
 echo "$passed passed, $failed failed"
