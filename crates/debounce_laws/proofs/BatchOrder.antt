@@ -39,8 +39,6 @@ pairs_choose R (z ∷ zs) x y h (inl e) (inr d) = inr (inl (subst (λ w. R w y) 
 pairs_choose R (z ∷ zs) x y h (inr e) (inl d) = inr (inr (subst (λ w. R w x) d (at_element (R z) zs x h.0 e)))
 pairs_choose R (z ∷ zs) x y h (inr e) (inr d) = pairs_choose R zs x y h.1 e d
 
--- ---- the greatest time so far
-
 -- it is no less than the time begun with
 fold_above : (x : Timed) (n : ℕ) (seen : List Timed) → n ≤ fold (raised_by x) n seen
 fold_above x n [] = omega arith
@@ -69,8 +67,6 @@ placed_own : (seen xs : List Timed) → RemovalsFirst seen xs →
     (placed seen xs)
 placed_own seen [] h = tt
 placed_own seen (x ∷ xs) h = ((λ is. fold_own x x.time seen (h.0 is)), placed_own (seen ++ x ∷ []) xs h.1)
-
--- ---- the places
 
 -- a list has what was put last
 has_last : {X : Type 0} (xs : List X) (x : X) → Has (xs ++ x ∷ []) x
@@ -104,8 +100,6 @@ placed_pairs seen (x ∷ xs) h =
       later_ones x (length seen) (seen ++ x ∷ []) xs (has_last seen x) (omega (arith, long)) h.1,
       placed_pairs (seen ++ x ∷ []) xs h.1,
     )
-
--- ---- a removal first
 
 -- a path stands in front of what is below it
 prefix_first : (p s : PathValue) → (path_cmp p (p ++ s) ≡ Less) ⊎ (p ≡ p ++ s)

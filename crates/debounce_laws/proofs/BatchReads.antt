@@ -19,8 +19,6 @@ use Rattle.debounce_laws.proofs.PlaceReads.{makes, clears}
 use Rattle.debounce_laws.proofs.PlayAt.{creates_at, clears_at}
 use Rattle.debounce_laws.proofs.Settling.{here, Settled, settle}
 
--- ---- an order in which nothing is cleared after it was created
-
 -- an event names one path
 abbrev pub IsSingle : Timed → Type 0
 IsSingle x = (q : PathValue) × (x.event.paths ≡ q ∷ [])

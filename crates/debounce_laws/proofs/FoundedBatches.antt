@@ -16,8 +16,6 @@ use Rattle.debounce_laws.proofs.FoundedQueues.{AreRenamed}
 use Rattle.debounce_model.proofs.OrderLemmas.{events-placed}
 use Rattle.debounce_laws.proofs.RenamedQueues.{IsRenamedTo}
 
--- ---- lists
-
 module _ (P : Timed → Type 0) where
   -- what holds of each event of two lists
   each-append : (xs ys : List Timed) → AllByRecursion P xs → AllByRecursion P ys → AllByRecursion P (xs ++ ys)
@@ -54,8 +52,6 @@ module _ (P : Timed → Type 0) where
       (subst (All P) o.events (All-map-IsPermutation (λ k. k.event) P (placed [] xs) o.ranked o.are
       (subst (All P) (sym (events-placed [] xs)) there)))
 
--- ---- the rescan slot
-
 -- the event of the rescan slot has the Rescan flag
 abbrev pub IsFlagged : Option Timed → Type 0
 IsFlagged None = Unit {0}
@@ -79,8 +75,6 @@ flagged_rest due (Some x) h = by (due x)
     by : (b : Bool) → IsFlagged (cond b None (Some x))
     by true = tt
     by false = h
-
--- ---- a batch
 
 module _ (history : List AcceptedEvent) where
   -- an event whose two paths are known is founded

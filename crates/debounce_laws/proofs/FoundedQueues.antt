@@ -30,8 +30,6 @@ AreRenamed history queues = Each (IsRenamedQueue history) queues
 pub renamed-empty : (queues : Queues) → waiting_in queues ≡ 0 → AreRenamed [] queues
 renamed-empty queues h = each-none (IsRenamedQueue []) queues (renamed-none []) h
 
--- ---- more accepted events
-
 module _ (history more : List AcceptedEvent) where
   -- the events of a queue stay founded
   events-more : (p : PathValue) (xs : List Timed) → AllByRecursion (IsRenamedTo history p) xs →
@@ -47,8 +45,6 @@ module _ (history more : List AcceptedEvent) where
   renamed-more [] a = tt
   renamed-more (e ∷ queues) a =
       (record { each = events-more e.0 e.1 a.0.each; one = a.0.one }, renamed-more queues a.1)
-
--- ---- one event
 
 module _ (history : List AcceptedEvent) where
   -- after a push of what is no joined rename

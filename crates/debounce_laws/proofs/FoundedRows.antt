@@ -10,8 +10,6 @@ use Rattle.debounce_model.specs.declared.case.Case.TheVariants.{RenameFrom, Rena
 use Rattle.debounce_model.specs.Founded.{AcceptedEvent, renames, are_linked, Matched, Founded, Told, TakenOn, TakenAlong}
 use Rattle.debounce_model.specs.Table.{case_of}
 
--- ---- what is not founded
-
 -- where nothing is matched, nothing is founded
 unmatched : {o t : PathValue} (history : List AcceptedEvent) → ((f t : PathValue) → Matched history f t → ⊥) →
     Founded history o t → ⊥
@@ -52,8 +50,6 @@ founded_on_firsts history a b two from e =
     no x y more to [] h = let second : b ≡ y = cc in let same : RenameFrom ≡ RenameTo = sym from
         ∙ ap (λ z. case_of z.event z.exists) second ∙ to in cc
     no x y more to (z ∷ earlier) h = absurd (omega (arith, ap length h, length-append earlier (x ∷ y ∷ more)))
-
--- ---- what is
 
 -- a half of a rename, with a tracker
 abbrev half : RenameMode → PathValue → ℕ → AcceptedEvent

@@ -19,8 +19,6 @@ use Rattle.debounce_model.specs.Table.{kind_case, case_of, row, unflagged_case, 
 use Rattle.debounce_model.specs.WellFormed.{IsFirst}
 use Rattle.debounce_laws.proofs.FoundedGrows.{renames-more}
 
--- ---- renames by their cases
-
 -- the case of a half of a rename
 abbrev is_half_case : Case → Bool
 is_half_case RenameFrom = true
@@ -50,8 +48,6 @@ rename_by_case e exists = by (is_some e.attrs.flag) e.paths
     by true ps = refl
     by false [] = and_false (is_rename e.kind)
     by false (p ∷ ps) = and_true (is_rename e.kind) ∙ half_kind e.kind exists
-
--- ---- the slot
 
 -- a slot that is filled holds the last rename, which was taken as a first half
 abbrev pub IsLast : List AcceptedEvent → Option SlotValue → Type 0

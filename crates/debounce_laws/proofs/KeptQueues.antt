@@ -168,8 +168,6 @@ found-rests due (e ∷ queues) path kind t h =
     by true w false i more = rw i (or_between _ handed later (more (rw i at h)))
     by false w false i more = or_between _ handed later (more (rw i at h))
 
--- ---- an event that was just pushed
-
 -- an event that told a change stands for it once it is pushed
 pub found-pushed : (queues : Queues) (p : PathValue) (x : Timed) → AreAllTold queues → IsTold p x →
     list_any (stands_for x.event.kind) (events_at (push queues p x) p) ≡ true

@@ -14,8 +14,6 @@ use Rattle.notify_paths.proofs.Prefixes.{same_path}
 use Rattle.debounce_model.specs.Play.{Paths, has_path, with_path, without_at}
 use Rattle.debounce_laws.proofs.PathTests.{AtOrBelow}
 
--- ---- prefixes
-
 -- a path at or below another has it as a prefix
 pub prefix_of : (p r : PathValue) → AtOrBelow p r → is_prefix p r ≡ true
 prefix_of p r b = (starts_is part_eq_decides r p (is_prefix p r) refl).1 b.0 b.1
@@ -56,8 +54,6 @@ not_tied path p n = by (is_eq (path_cmp path p)) refl
     by true e = absurd (n (tied path p e))
     by false e = refl
 
--- ---- what is in a set
-
 -- three tests, in another order
 or_swapped : (a b c : Bool) → (a || (b || c)) ≡ (b || (a || c))
 or_swapped true true c = refl
@@ -91,8 +87,6 @@ pub has_without : (s : Paths) (q p : PathValue) → has_path (without_at s q) p
 has_without s q p =
     any-filter_same (is_at (path_cmp p)) (λ k. not (is_prefix q k)) (not (is_prefix q p))
     (λ k t. ap (λ r. not (is_prefix q r)) (sym (tied p k t))) s
-
--- ---- sets stay in order
 
 -- what is above a path stays above it with one more above it
 above_with : (x : PathValue) (s : Paths) (q : PathValue) → AllByRecursion (λ y. path_cmp x y ≡ Less) s →

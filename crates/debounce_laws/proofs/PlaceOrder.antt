@@ -21,8 +21,6 @@ use Rattle.debounce_laws.proofs.PlaceReads.{IsOwn, makes, clears, out, own_out, 
 use Rattle.debounce_laws.proofs.QueueKept.{AllWaiting}
 use Rattle.debounce_laws.proofs.QueueReads.{none_behind, sorted_behind}
 
--- ---- lists
-
 -- what holds of each of two lists holds of each of both
 each_append : {X : Type 0} (P : X → Type 0) (xs ys : List X) → AllByRecursion P xs → AllByRecursion P ys →
     AllByRecursion P (xs ++ ys)
@@ -38,8 +36,6 @@ has_either (x ∷ xs) ys z (inr h) = by (has_either xs ys z h)
     by : (Has xs z) ⊎ (Has ys z) → (Has (x ∷ xs) z) ⊎ (Has ys z)
     by (inl i) = inl (inr i)
     by (inr i) = inr i
-
--- ---- a removal stands first
 
 -- where no event is a removal
 firsts_none : (seen xs : List Timed) → list_any clears xs ≡ false → RemovalsFirst seen xs

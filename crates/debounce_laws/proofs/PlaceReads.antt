@@ -33,8 +33,6 @@ clears x = is_removal x.event.kind
 abbrev pub IsOwn : PathValue → Timed → Type 0
 IsOwn p x = (x.event.paths ≡ p ∷ []) × (tells x.event.kind ≡ true)
 
--- ---- the last of each kind
-
 -- either of two tests, where the first implies the second
 or_given : (a b : Bool) → (a ≡ true → b ≡ true) → b ≡ (a || b)
 or_given true b h = h refl
@@ -83,8 +81,6 @@ first_only_last (x ∷ xs) h =
     let none : list_any clears (last_of_kind xs) ≡ false = any_last clears clears_agree xs ∙ h in
     cond_both (list_any (λ y. kind_eq x.event.kind y.event.kind) xs) (last_of_kind xs) (x ∷ last_of_kind xs)
     (FirstOnly clears) (λ _. none_first_only clears (last_of_kind xs) none) (λ _. none)
-
--- ---- one queue
 
 -- a condition that two tests share
 and_shared : (a b g : Bool) → ((a && g) || (b && g)) ≡ ((a || b) && g)
@@ -169,8 +165,6 @@ module _ (due : Timed → Bool) where
           let none : events_at queues q ≡ [] = ap (events_at queues) (tied q e.0 i) ∙ none_behind e queues s in
           rw (path_matches_eq q e.0, i, none) (here (list_any f (expired_beginning due e.1)))
       by false i = rw (path_matches_eq q e.0, i) (there (list_any f (expired_beginning due e.1)) _)
-
-  -- ---- all queues
 
   -- what goes out creates a path where a creation is due there
   pub places_create : (queues : Queues) (p : PathValue) → IsStrictlySortedBy path_cmp (keys_of queues) →

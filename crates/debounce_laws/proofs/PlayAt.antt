@@ -81,8 +81,6 @@ pub events-append : (xs ys : List Timed) → events_of (xs ++ ys) ≡ events_of 
 events-append [] ys = refl
 events-append (x ∷ xs) ys = ap (λ r. x.event ∷ r) (events-append xs ys)
 
--- ---- a set stays in order
-
 -- .. by one event at a path
 sorted_at : (s : Paths) (k : EventKind) (q : PathValue) → IsStrictlySortedBy path_cmp s →
     IsStrictlySortedBy path_cmp (play_at s k q)

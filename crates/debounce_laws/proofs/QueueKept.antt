@@ -41,8 +41,6 @@ module _ (P : PathValue → Timed → Type 0) where
   all-rests due queues a = each-rests (λ q. AllByRecursion (P q)) due queues (λ p q b. each_late due (P p) q b)
       a
 
--- ---- the queues stay in order
-
 -- after a push the queues are in order
 pub sorted_push : (queues : Queues) (p : PathValue) (x : Timed) → IsStrictlySortedBy path_cmp (keys_of queues) →
     IsStrictlySortedBy path_cmp (keys_of (push queues p x))
@@ -71,8 +69,6 @@ sorted_removal queues p x s = by (was_created_at (queue_at queues p))
         (with_queue (without_below queues p) p (x ∷ []))))
     by true = sorted-remove_entry path_cmp_total (is_at (path_cmp p)) (without_below queues p) left
     by false = sorted-insert_entry path_cmp_total (without_below queues p) p (x ∷ []) left
-
--- ---- from the paths to the queues
 
 -- what holds at each path of what waits there holds of each queue
 pub each_queue : (P : PathValue → List Timed → Type 0) (queues : Queues) → ((p : PathValue) → P p []) →

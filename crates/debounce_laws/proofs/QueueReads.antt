@@ -14,8 +14,6 @@ use Rattle.debounce_model.proofs.Entries.{lookup-insert_same, lookup-insert_othe
 use Rattle.debounce_laws.proofs.PathTests.{AtOrBelow, Below, below_at_or_below, not_both, at_itself}
 use Rattle.debounce_laws.proofs.PathSets.{prefix_of, below_prefix, tied, not_tied}
 
--- ---- a queue that is set or taken out
-
 -- at the path of a queue that is set
 set_same : (queues : Queues) (p : PathValue) (q : List Timed) → events_at (with_queue queues p q) p ≡ q
 set_same queues p q = ap (λ o. unwrap_or o []) (lookup-insert_same path_cmp_total queues p q)
@@ -68,8 +66,6 @@ itself p = by (is_prefix p p)
     by true = rw ((path_eq_decides p p).1 refl) refl
     by false = refl
 
--- ---- the push
-
 -- at the path of a push
 pub push_same : (queues : Queues) (p : PathValue) (x : Timed) → events_at (push queues p x) p
     ≡ cond (skips (events_at queues p) x.event.kind) (events_at queues p) (events_at queues p ++ x ∷ [])
@@ -101,8 +97,6 @@ push_other queues p r x n = by (queue_at queues p)
         at : (b : Bool) → events_at (cond b queues (with_queue queues p (q ++ x ∷ []))) r ≡ events_at queues r
         at true = refl
         at false = set_other queues p r (q ++ x ∷ []) n
-
--- ---- the removal
 
 -- whether a queue was created, by what waits
 created_by_events : (o : Option (List Timed)) → was_created_at o ≡ was_created (unwrap_or o [])
@@ -147,8 +141,6 @@ pub removal_other : (queues : Queues) (p r : PathValue) (x : Timed) → (AtOrBel
 removal_other queues p r x n =
     removal_left queues p r x (λ e. n (subst (λ z. AtOrBelow p z) (sym e) (at_itself p)))
     ∙ ap (λ o. unwrap_or o []) (left_at queues p r true (outside p r n))
-
--- ---- the tick
 
 -- where all keys are above a path, nothing waits at it
 none_above : (queues : Queues) (p : PathValue) → AllByRecursion (λ y. path_cmp p y ≡ Less) (keys_of queues) →

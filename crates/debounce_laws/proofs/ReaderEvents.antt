@@ -25,8 +25,6 @@ use Rattle.debounce_laws.proofs.WaitingCreations.{create_keeps}
 use Rattle.debounce_laws.proofs.WaitingPlain.{plain_keeps, later_keeps}
 use Rattle.debounce_laws.proofs.WaitingRemovals.{remove_keeps}
 
--- ---- a queue that was created
-
 -- its first event is a creation
 created_makes : (p : PathValue) (xs : List Timed) → AllByRecursion (IsOwn p) xs → was_created xs ≡ true →
     list_any makes xs ≡ true
@@ -41,8 +39,6 @@ created_clears_none p (x ∷ xs) own first h =
     let made : makes x ≡ true = creates_told x.event.kind own.0.1 h in
     let not_gone : clears x ≡ false = false_from_ne_true (clears x) (λ r. not_removed x.event.kind made r) in
     rw not_gone first
-
--- ---- the classes
 
 -- a creation is no plain event and no removal
 creation_apart : (k : EventKind) → is_creation k ≡ true → is_removal k ≡ false

@@ -21,8 +21,6 @@ pub record IsRenamedQueue (history : List AcceptedEvent) (p : PathValue) (xs : L
   pub each : AllByRecursion (IsRenamedTo history p) xs
   pub one : HasNoBoth (without_both xs)
 
--- ---- one joined rename at most
-
 -- .. among the first events
 one-take : (n : ℕ) (xs : List Timed) → HasNoBoth (without_both xs) → HasNoBoth (without_both (take n xs))
 one-take zero xs h = tt
@@ -71,8 +69,6 @@ one-moved f t time (x ∷ xs) h = by (is_both x) h (one-moved f t time xs)
         (moved_event f t time x ∷ without_both (moved_queue f t time xs)))
     by true h more = all xs h
     by false h more = (h.0, more h.1)
-
--- ---- one queue
 
 module _ (history : List AcceptedEvent) where
   -- nothing waits

@@ -47,8 +47,6 @@ pub creates_told : (k : EventKind) → tells k ≡ true → creates k ≡ true �
 creates_told (kinds.Modify (modify.Name rename.To)) t c = t
 creates_told k t c = c
 
--- ---- one queue
-
 module _ (path : PathValue) (kind : EventKind) where
   -- an event that told something stands for a change by its kind
   pub stands : (x : Timed) → IsTold path x → fits kind x.event.kind ≡ true → stands_for kind x ≡ true
@@ -86,8 +84,6 @@ module _ (path : PathValue) (kind : EventKind) where
       by true false e s more = more (rw s at h)
       by false true e s more = rw (t.0.first, s) refl
       by false false e s more = rw (more (rw s at h)) (or_true _)
-
--- ---- all queues still told something
 
 -- .. after a push
 pub told-push : (queues : Queues) (p : PathValue) (x : Timed) → AreAllTold queues → IsTold p x →

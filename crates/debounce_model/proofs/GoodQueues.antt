@@ -21,8 +21,6 @@ pub record AreGood (queues : Queues) (n : ℕ) : Type 0 where
   pub ordered : IsStrictlySortedBy path_cmp (keys_of queues)
   pub bounded : waiting_in queues ≤ n
 
--- ---- one queue
-
 -- no event but the first is a joined rename
 abbrev pub IsBothFirst : List Timed → Type 0
 IsBothFirst events = HasNoBoth (drop 1 events)
@@ -77,8 +75,6 @@ kept_by_first path x b f = rw b f
 nonempty-append : (q : List Timed) (x : Timed) → IsNonempty (q ++ x ∷ [])
 nonempty-append [] x = tt
 nonempty-append (y ∷ q) x = tt
-
--- ---- all queues
 
 -- queues are good with a queue set, where no more wait than may
 pub good-set : (queues : Queues) (path : PathValue) (new : List Timed) (n m : ℕ) → AreGood queues n →

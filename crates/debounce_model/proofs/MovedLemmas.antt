@@ -25,8 +25,6 @@ use Rattle.debounce_model.proofs.GoodQueues.{IsBothFirst, IsBothBehind, AreGood}
 use Rattle.debounce_model.proofs.MovedPaths.{same_at, below_prefix, below_in_place, cmp_in_place}
 use Rattle.debounce_model.proofs.RenameLemmas.{good-halves}
 
--- ---- what a look-up finds
-
 -- the first of two, where it is there, and else the second
 abbrev pub or_else : {X : Type 0} → Option X → Option X → Option X
 or_else None b = b
@@ -133,8 +131,6 @@ module _ (queues : Queues) (f t : PathValue) (time : ℕ) (q : PathValue) where
       ≡ queue_at queues q
   queue-moved_other n h = moved_left n ∙ queue-without_below queues f q false h
 
--- ---- the laws of one queue
-
 module _ (f t : PathValue) (time : ℕ) where
   -- a path strictly below f goes along
   pub goes_along : (p : PathValue) → is_below p f ≡ true → moved_path f t p ≡ in_place f t p
@@ -198,8 +194,6 @@ module _ (f t : PathValue) (time : ℕ) where
       by true h more = (law-moved e.0 e.1 h a.0, more)
       by false h more = more
 
-  -- ---- how many wait
-
   -- as many wait at their new places, and with what does not lie below f they are all
   length-moved : (queues : Queues) →
       waiting_in (moved_below queues f t time) + waiting_in (without_below queues f) ≡ waiting_in queues
@@ -225,8 +219,6 @@ module _ (f t : PathValue) (time : ℕ) where
             sum_by-cons length e.1 (values_of queues),
             sum_by-cons length e.1 (values_of (without_below queues f)),
           )
-
--- ---- queues that are put in
 
 -- the laws of the queues stay
 laws-with_queues : (queues es : Queues) → AreQueues queues → AreQueues es → AreQueues (with_queues queues es)
@@ -254,8 +246,6 @@ length-with_queues queues (e ∷ es) s =
       sum_by-insert_entry length path_cmp_total (with_queues queues es) e.0 e.1
           (sorted-with_queues queues es s),
     )
-
--- ---- the move
 
 -- a move keeps the laws of the queues
 good-moved : (queues : Queues) (f t : PathValue) (time n : ℕ) → AreGood queues n →

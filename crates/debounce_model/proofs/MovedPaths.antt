@@ -24,8 +24,6 @@ untrue false h = refl
 pub same_at : (p k : PathValue) → is_at (path_cmp p) k ≡ true → p ≡ k
 same_at p k h = (path_eq_decides p k).0 (path_matches_eq p k ∙ h)
 
--- ---- a base and what stands behind it
-
 -- a path at or below a base is the base and the rest
 pub prefix_split : (b p : PathValue) → is_prefix b p ≡ true → p ≡ b ++ drop (length b) p
 prefix_split b p h = sym (take-append-drop (length b) p)
@@ -53,8 +51,6 @@ cmp-append (z ∷ b) x y = let t : part_cmp z z ≡ Equal = tied_itself part_cmp
 pub below_prefix : (p b : PathValue) → is_below p b ≡ true → is_prefix b p ≡ true
 below_prefix p b h = (both_pass (is_prefix b p) (not (path_eq p b)) h).0
 
--- ---- the new place
-
 module _ (f t : PathValue) where
   -- what lies strictly below f lies strictly below t at its new place
   pub below_in_place : (p : PathValue) → is_below p f ≡ true → is_below (in_place f t p) t ≡ true
@@ -76,8 +72,6 @@ module _ (f t : PathValue) where
       ∙ cmp-append t (drop (length t) q) (drop (length f) p)
       ∙ sym (cmp-append f (drop (length t) q) (drop (length f) p))
       ∙ ap (path_cmp (in_place t f q)) (sym (prefix_split f p h))
-
--- ---- two bases of one path
 
 -- of two bases of one path one is a prefix of the other
 comparable : (f t p : PathValue) → is_prefix f p ≡ true → is_prefix t p ≡ true →

@@ -100,8 +100,6 @@ pub push-new : (queues : Queues) (path : PathValue) (x : Timed) → queue_at que
     with_queue queues path (x ∷ []) ≡ push queues path x
 push-new queues path x h = rw h refl
 
--- ---- where nothing is due
-
 -- a queue whose front is not due
 quiet_queue : (due : Timed → Bool) (q : List Timed) → IsNonempty q → is_front_due due q ≡ false →
     (last_of_kind (expired_beginning due q) ≡ []) × (rest_after due q ≡ q) × (waits q ≡ true)

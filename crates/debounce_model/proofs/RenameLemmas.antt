@@ -15,8 +15,6 @@ use Rattle.debounce_model.specs.Rename.{without_last, is_both, first_both, witho
 use Rattle.debounce_model.specs.WellFormed.{IsFirst, kept_by, IsKeyed, IsNonempty, HasNoBoth, IsBothInFront, IsQueue, AreQueues}
 use Rattle.debounce_model.proofs.GoodQueues.{IsBothFirst, IsBothBehind, AreGood, good-set, good-without, found_queue, queue_of_one}
 
--- ---- events of the renamed path
-
 module _ (P : Timed → Type 0) where
   -- what holds of each event holds of the first ones
   pub each-take : (n : ℕ) (xs : List Timed) → AllByRecursion P xs → AllByRecursion P (take n xs)
@@ -101,8 +99,6 @@ no_both-without (x ∷ xs) k = by (is_both x) refl
     by true e = rw (both_no_remove x.event.kind e) at k
     by false e = (e, then (is_removal x.event.kind) k)
 
--- ---- what arrives
-
 -- events that go along are kept by the target
 keyed-moved : (t : PathValue) (xs : List Timed) → HasNoBoth xs → IsKeyed t (map (at_path t) xs)
 keyed-moved t [] k = tt
@@ -172,8 +168,6 @@ arrived_law both moved target f t time attrs k n = by target
             m ∷ []) ++ behind)
         at true = (have.0, have.1, have.3)
         at false = (tt, (refl, have.1), have.2)
-
--- ---- how many wait
 
 -- the first events are no more than all
 length-take-less : (n : ℕ) (xs : List Timed) → length (take n xs) ≤ length xs
@@ -255,8 +249,6 @@ length-arrived both moved target f t time attrs law =
       length-renaming (original_path both f) t attrs m moved,
     ) in
     bound
-
--- ---- the queues
 
 -- what stays behind takes the place of what waited there
 good-left : (queues : Queues) (f : PathValue) (n m : ℕ) (s : Option Timed) → AreGood queues n →

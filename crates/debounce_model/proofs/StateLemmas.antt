@@ -29,8 +29,6 @@ use Rattle.debounce_model.proofs.QueueLemmas.{quiet}
 use Rattle.debounce_model.proofs.TableLemmas.{first_is, case_fits}
 use Rattle.debounce_model.proofs.MovedLemmas.{good-joined}
 
--- ---- an event
-
 -- queues are good after the second half of a rename
 good-renamed : (queues : Queues) (path : PathValue) (x : Timed) (half : Option (PathValue × ℕ)) (n : ℕ) →
     AreGood queues n → is_both x ≡ false → IsFirst path x.event.paths →
@@ -100,8 +98,6 @@ well_formed-taken s x exists answer w =
 pub well_formed_event : (s : State) (event : EventValue) (now : ℕ) (exists : Bool) (answer : Option FileId) →
     IsWellFormed s → IsWellFormed (event_step s event now exists answer)
 well_formed_event s event now exists answer w = well_formed-taken s (raised_event s event now) exists answer w
-
--- ---- a tick
 
 -- the last of each kind are no more than all
 length-last_of_kind : (xs : List Timed) → length (last_of_kind xs) ≤ length xs

@@ -15,11 +15,6 @@ abbrev pub queue_of : Option Timed → Option (List Timed)
 queue_of None = None
 queue_of (Some x) = Some (x ∷ [])
 
--- the events of what stays
-abbrev pub one_or_none : Option Timed → List Timed
-one_or_none None = []
-one_or_none (Some x) = x ∷ []
-
 -- what waits at a path before the first half of a rename, which came last
 abbrev pub before_half : Queues → PathValue → List Timed
 before_half queues path = without_last (events_at queues path)

@@ -26,8 +26,6 @@ use Rattle.folder_listing.proofs.PrefixLemmas.{prefix-trans, below_behind, not_b
 use Rattle.folder_listing.proofs.PairLemmas.{AreAbove, above-trans, turned, turned_less, at_itself}
 use Rattle.folder_listing.proofs.WalkLemmas.{keys_of-filter, has-filter, has_entry-some}
 
--- ---- tests of lists
-
 -- both of two tests
 pub and_both : (a b : Bool) → (a && b) ≡ true → (a ≡ true) × (b ≡ true)
 and_both true b h = (refl, h)
@@ -128,8 +126,6 @@ left-fails t es = each-left (λ e. t e.0 ≡ false) t es (all es)
     all [] = tt
     all (f ∷ fs) = (λ h. h, all fs)
 
--- ---- paths that are there
-
 -- where all paths are above x, x is not there
 has-above : (x : PathValue) (ks : Paths) → AreAbove x ks → has_path ks x ≡ false
 has-above x [] a = refl
@@ -144,8 +140,6 @@ each-there (e ∷ es) = (rw (at_itself e.0) refl, later es (each-there es))
         AllByRecursion (λ f. has_path (e.0 ∷ keys_of es) f.0 ≡ true) fs
     later [] a = tt
     later (f ∷ fs) a = (or_right (is_at (path_cmp f.0) e.0) (has_path (keys_of es) f.0) a.0, later fs a.1)
-
--- ---- streams
 
 -- to play some events, and then others
 play-append : (paths : Paths) (xs ys : List EventValue) → play paths (xs ++ ys) ≡ play (play paths xs) ys
@@ -165,8 +159,6 @@ honest-event : (paths : Paths) (kind : EventKind) (path : PathValue) → is_none
     is_honest_event paths (event_at kind path) ≡ is_honest_at paths kind path
 honest-event paths kind [] h = absurd (true≢false (sym h))
 honest-event paths kind (x ∷ xs) h = refl
-
--- ---- removals
 
 -- a removal takes away
 play-removal : (paths : Paths) (e : PathValue × Found) → play_one paths (removal e) ≡ without_at paths e.0
@@ -238,8 +230,6 @@ apart all (e ∷ es) s a m =
             let hit : lies_below (e ∷ es) f.0 ≡ true = rw under refl in
             absurd (true≢false (sym (m f.0 hit) ∙ a.0))
 
--- ---- what lies in nothing that is gone
-
 -- what lies in one of the entries lies in one that is below none
 in-tops : (all : ListingValue) (p : PathValue) (es : ListingValue) → IsStrictlySortedBy path_cmp (keys_of es) →
     ((q : PathValue) → is_prefix q p ≡ true → lies_below all q ≡ lies_below es q) → lies_in es p ≡ true →
@@ -291,8 +281,6 @@ in-removed all s p = by (lies_in all p) refl (lies_in (filter (λ e. not (lies_b
     by false h false k = refl
     by false h true k =
         absurd (true≢false (sym (any-filter (λ e. is_prefix e.0 p) (λ e. not (lies_below all e.0)) all k) ∙ h))
-
--- ---- what stays
 
 -- of paths that are there, those that are above the first one are there behind it
 there-later : (y : PathValue) (ys xs : Paths) → AreAbove y xs →
@@ -375,8 +363,6 @@ module _ (old new : ListingValue) where
       (each-key (λ k. has_path (keys_of new) k ≡ true) (staying old new)
       (each-left (λ e. has_path (keys_of new) e.0 ≡ true) (lies_in (gone old new)) old
       (stays-there old (λ q h. h))))
-
--- ---- creations
 
 -- a creation adds its path
 play-creation : (paths : Paths) (e : PathValue × Found) → play_one paths (creation e) ≡ with_path paths e.0
@@ -552,8 +538,6 @@ module _ (stay : Paths) where
           ∙ (insert-between done (filter (has_path stay) (keys_of ns)) n.0 f.0 above ∙ sym moved) in
           rw (first, played) more
 
--- ---- other lengths
-
 -- another length adds and takes no path
 play-resizes : (paths : Paths) (es : ListingValue) → play paths (map resize es) ≡ paths
 play-resizes paths [] = refl
@@ -564,8 +548,6 @@ honest-resizes : (paths : Paths) (es : ListingValue) → AllByRecursion (λ e. i
     are_honest paths (map resize es) ≡ true
 honest-resizes paths [] n = refl
 honest-resizes paths (e ∷ es) n = rw (honest-event paths (resize e).kind e.0 n.0) (honest-resizes paths es n.1)
-
--- ---- all changes
 
 -- nothing stands in front of the first entry
 front-none : (ns : ListingValue) → AllByRecursion (λ e. AreFront e.0 []) ns

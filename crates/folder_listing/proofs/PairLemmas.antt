@@ -47,8 +47,6 @@ abbrev pub Ascend : List PairValue → Type 0
 Ascend [] = Unit {0}
 Ascend (p ∷ ps) = IsAbove p.path ps × Ascend ps
 
--- ---- the pairs ascend
-
 -- new entries alone stay above x
 above-new : (x : PathValue) (ns : ListingValue) → AreAbove x (keys_of ns) → IsAbove x (map only_new ns)
 above-new x [] a = a
@@ -112,8 +110,6 @@ pub ascend-paired : (os ns : ListingValue) → IsStrictlySortedBy path_cmp (keys
 unfolding IsStrictlySortedBy
 ascend-paired [] ns b s = ascend-new ns s
 ascend-paired (o ∷ os) ns b s = ascend-into o os b.0 (λ ms c. ascend-paired os ms b.1 c) ns s
-
--- ---- the sides
 
 -- the entry at the path in front of others, if there is one
 abbrev pub entry_cons : PathValue → Option Found → ListingValue → ListingValue
@@ -181,8 +177,6 @@ news_of-into o os rest (n ∷ ns) = by (path_cmp o.0 n.0) refl (news_of-into o o
 pub news_of-paired : (os ns : ListingValue) → news_of (paired os ns) ≡ ns
 news_of-paired [] ns = news_of-new ns
 news_of-paired (o ∷ os) ns = news_of-into o os (λ ms. news_of-paired os ms) ns
-
--- ---- what stands at the path of a pair
 
 module _ (side : PairValue → Option Found) where
   -- the entries of a side stay above x

@@ -26,8 +26,6 @@ pub or_false : (b : Bool) → (b || false) ≡ b
 or_false true = refl
 or_false false = refl
 
--- ---- what is gone, pair by pair
-
 -- the old entry is gone
 abbrev pub is_gone : Option Found → Option Found → Bool
 is_gone None a = false
@@ -206,8 +204,6 @@ module _ (old new : ListingValue) where
       by None false a = tt
       by (Some t) false a = a.1
 
--- ---- the events of one pair
-
 -- the removal of a pair's old entry
 head_removed : (S : PathValue × Found → Bool) (path : PathValue) (u : Bool) (b a : Option Found)
     (es : ListingValue) → ((f : Found) → S (path, f) ≡ not u) → map removal (filter S (gone_cons path b a es))
@@ -283,8 +279,6 @@ head_resized S T path u (Some b) (Some a) es h k =
     by false true true q r = rw (q, r) refl
     by false true false q r = rw (q, r) refl
     by false false n q r = rw q refl
-
--- ---- the events of all pairs
 
 -- keys of entries that are kept by their keys
 pub keys_of-filter : (p : PathValue → Bool) (es : ListingValue) → keys_of (filter (λ e. p e.0) es)

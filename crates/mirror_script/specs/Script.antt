@@ -37,8 +37,6 @@ pub record ScriptValue : Type 0 where
   pub start : List PathValue
   pub commands : List CommandValue
 
--- ---- what a field says
-
 -- a text with nothing in it: a field between two spaces side by side, or a word between two commas
 abbrev pub is_empty : List ℕ → Bool
 is_empty text = length text == 0
@@ -152,8 +150,6 @@ abbrev pub options_of : List ℕ → Option OptionsValue
 options_of field = if bytes_eq field (codes "-") then Some no_options
     else with_words no_options (words_of field)
 
--- ---- what a line says
-
 -- the fields of a line, between single spaces
 abbrev pub fields_of : List ℕ → List (List ℕ)
 fields_of line = slice_split (λ b. b == 32) line
@@ -257,8 +253,6 @@ line_with (word ∷ fields) = worded_line word fields
 -- what a line says, if it says anything; none of its fields may be empty
 abbrev pub line_of : List ℕ → Option LineValue
 line_of line = if list_any is_empty (fields_of line) then None else line_with (fields_of line)
-
--- ---- what a text says
 
 -- a script that is being read: which lines may come, and what they said so far
 pub record ReadingValue : Type 0 where

@@ -10,8 +10,6 @@ use Rattle.notify_paths.specs.PathText.{text_of}
 use Rattle.notify_types.specs.declared.event.Flag.{Flag}
 use Rattle.debounce_model.specs.Command.{CommandValue, TickCommand, ReplyValue, TakenReply, NotedReply, RootedReply, UnrootedReply, ErrorsReply, BatchReply, RefusedReply}
 
--- ---- the fields of an event line
-
 -- a path in a line: the empty path is two quotes
 abbrev pub path_field : PathValue → List ℕ
 path_field [] = codes "\"\""
@@ -46,8 +44,6 @@ words_field (word ∷ words) = join_with_byte 44 (word ∷ words)
 abbrev pub options_field : AttributesValue → List ℕ
 options_field attrs =
     words_field (tracker_words attrs.tracker ++ (info_words attrs.info ++ rescan_words attrs.flag))
-
--- ---- the lines
 
 -- an event line that begins with this word
 abbrev pub event_line : List ℕ → Timed → List ℕ
@@ -90,8 +86,6 @@ counts_line taken given waiting =
 -- a list of paths after this word
 abbrev pub paths_line : List ℕ → List PathValue → List ℕ
 paths_line word paths = word ++ (path_fields paths ++ (10 ∷ []))
-
--- ---- more than one line
 
 -- an event line for each event
 abbrev pub event_lines : List ℕ → List Timed → List ℕ

@@ -22,8 +22,6 @@ use Rattle.folder_listing.proofs.PairLemmas.{at_itself}
 use Rattle.folder_listing.proofs.WalkLemmas.{has_entry-some}
 use Rattle.folder_listing.proofs.ListingLemmas.{entry_at-insert}
 
--- ---- listings to which a tree's entries are added
-
 -- by tests that are alike
 pub Adds-alike : (tree : ListingValue) (t u : PathValue → Bool) (es fs : ListingValue) →
     ((q : PathValue) → t q ≡ u q) → Adds tree t es fs → Adds tree u es fs
@@ -55,8 +53,6 @@ Adds-one tree es p f h = λ q. by q (is_at (path_cmp q) p) refl
         ≡ (if b then entry_at tree q else entry_at es q)
     by q true e = entry_at-insert es p q f true e ∙ (sym h ∙ ap (entry_at tree) (sym (at-same q p e)))
     by q false e = entry_at-insert es p q f false e
-
--- ---- what a path reaches
 
 module _ (tree : ListingValue) where
   -- where nothing stands, nothing is reached
@@ -122,8 +118,6 @@ module _ (tree : ListingValue) where
       (x : PartValue) (r : List PartValue) → reach tree d p (x ∷ r) ≡ false
   reach-no_folder zero p h x r = refl
   reach-no_folder (suc d) p h x r = ap (λ b. b && (is_name_part x && reach tree d (p ++ x ∷ []) r)) h
-
-  -- ---- a folder and the entries of these names
 
   -- the path is one of those that the entry of this name reaches
   abbrev pub in_child : ℕ → PathValue → PathValue → List ℕ → Bool

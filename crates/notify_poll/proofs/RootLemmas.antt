@@ -242,8 +242,6 @@ module _ (o : Option ListingValue) (mode : RecursiveMode) (root : PathValue) (es
           (shows tree (root, mode)) es gs (shows-open tree (bare tree t) mode root full a)
           (Adds-then tree (has_path (folders_of root)) (reaches tree (depth_of mode) root) es fs gs d k)
 
--- ---- all roots
-
 -- these roots were listed
 abbrev pub HasListed : Option ListingValue → List (PathValue × RecursiveMode) → ListingValue → Type 0
 HasListed o roots fs =

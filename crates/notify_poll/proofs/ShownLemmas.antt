@@ -30,8 +30,6 @@ use Rattle.folder_listing.proofs.ListingLemmas.{folders_of-push}
 use Rattle.folder_listing.proofs.BehindLemmas.{prefix-append, prefix-rest, drop-append, longer_no_prefix, at-same, at-no_prefix, at-longer}
 use Rattle.notify_poll.proofs.ReachLemmas.{reaches-append, reaches-outside}
 
--- ---- the folders of a path
-
 -- both tests
 both : (a b : Bool) → a ≡ true → b ≡ true → (a && b) ≡ true
 both true b h k = k
@@ -149,8 +147,6 @@ names-none : (d : ℕ) → are_names d [] ≡ true
 names-none zero = refl
 names-none (suc d) = refl
 
--- ---- what is shown above a path
-
 module _ (tree : ListingValue) (bare : has_entry tree [] ≡ false) (t : PathValue →
     Bool) (there : (f : PathValue) → t f ≡ true → has_entry tree f ≡ true) where
   -- where the folders of a path pass, what is shown above it is they
@@ -181,8 +177,6 @@ module _ (tree : ListingValue) (bare : has_entry tree [] ≡ false) (t : PathVal
       by false e =
           ap (λ b. has_entry tree (z ∷ q) && (b && list_all t (folders_of (z ∷ q)))) e
           ∙ (and_false (has_entry tree (z ∷ q)) ∙ sym (ap (λ b. b && not (is_prefix p (z ∷ q))) e))
-
--- ---- what is shown below a path
 
 module _ (tree : ListingValue) where
   -- something is a folder
