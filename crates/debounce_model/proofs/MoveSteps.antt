@@ -55,7 +55,8 @@ room-here queues p = by (queue_at queues p) refl
     by (Some q) h = ap is_some h
 
 -- elsewhere is what was there
-pub room-other : (queues : Queues) (p q : PathValue) → is_eq (path_cmp q p) ≡ false → queue_at (reserved queues p) q
+pub room-other : (queues : Queues) (p q : PathValue) → is_eq (path_cmp q p) ≡ false →
+    queue_at (reserved queues p) q
     ≡ queue_at queues q
 room-other queues p q n = by (queue_at queues p)
   where

@@ -4,6 +4,7 @@ ghost use Rattle.std.specs.Duration.{as_nanos};
 ghost use Rattle.notify_paths.specs.Errors.{out_of_memory};
 ghost use Rattle.notify_watch.specs.Config.{not_started};
 ghost use Rattle.debounce_book.specs.Journal.{IsJournal};
+ghost use Rattle.debounce_book.specs.JournalLaws.{LosesNoChange, GivesRawPaths, InventsNoRename};
 ghost use Rattle.debounce_shell.specs.Start.{IsTooSlow, too_slow, tick_nanos};
 ghost use Rattle.debounce_shell.specs.Watched.{AsksFirst};
 
@@ -290,6 +291,9 @@ impl<
     /// none is kept. If memory for a copy of the journal is refused, the thread has ended too.
     pub fn stop_journal(self) -> Result<(Moment, Vec<Entry<A>, A>), Error<A>>
         ensures legal { IfOk result (λ r. IsJournal r.0 r.1.items) }
+        ensures kept { IfOk result (λ r. LosesNoChange r.0 r.1.items) }
+        ensures raw { IfOk result (λ r. GivesRawPaths r.0 r.1.items) }
+        ensures founded { IfOk result (λ r. InventsNoRename r.0 r.1.items) }
         ensures err { IfErr result (λ e. e ≡ out_of_memory) }
     {
         self.shared.set_stop();
