@@ -27,6 +27,7 @@ pub use debounce_book::book::{Book, command_step};
 pub use debounce_book::entry::Entry;
 pub use debounce_book::steps::{Ticked, feed_step, root_step, tick_step, unroot_step};
 pub use debounce_core::data::DebounceDataInner;
+pub use debounce_core::laws::laws_of_runs;
 pub use debounce_gate::gate::{Gate, feed_one, turn};
 pub use debounce_gate::handler::{DebounceEventHandler, DebounceEventResult};
 pub use debounce_model::command::{Command, Reply};
