@@ -5,7 +5,7 @@ ghost use Rattle.notify_paths.specs.Errors.{out_of_memory};
 ghost use Rattle.notify_watch.specs.Config.{not_started};
 ghost use Rattle.debounce_book.specs.Journal.{IsJournal};
 ghost use Rattle.debounce_book.specs.JournalLaws.{LosesNoChange, GivesRawPaths, InventsNoRename};
-ghost use Rattle.debounce_shell.specs.Start.{IsTooSlow, too_slow, tick_nanos};
+ghost use Rattle.debounce_shell.specs.Start.{IsIo, IsStartError, IsStopped, IsTooSlow, too_slow, tick_nanos};
 ghost use Rattle.debounce_shell.specs.Watched.{AsksFirst};
 
 use crate::clock::start_of;
@@ -78,6 +78,7 @@ pub fn new_debouncer_opt<
     requires ready { F.ready event_handler }
     requires takes { (feed : _) → T.takes feed }
     ensures rate { IsTooSlow timeout tick_rate → IsErrOf result too_slow }
+    ensures err { IfErr result (IsStartError T.refuses timeout tick_rate) }
 {
     let Some(tick) = tick_of(timeout, tick_rate) else {
         return Err(Error::new(alloc, ErrorKind::Generic(String::new(alloc))));
@@ -106,6 +107,7 @@ pub fn new_journaled_debouncer<
     requires ready { F.ready event_handler }
     requires takes { (feed : _) → T.takes feed }
     ensures rate { IsTooSlow timeout tick_rate → IsErrOf result too_slow }
+    ensures err { IfErr result (IsStartError T.refuses timeout tick_rate) }
 {
     let Some(tick) = tick_of(timeout, tick_rate) else {
         return Err(Error::new(alloc, ErrorKind::Generic(String::new(alloc))));
@@ -144,6 +146,7 @@ fn start<
 ) -> Result<Debouncer<T, C, R, A>, Error<A>>
     requires ready { F.ready handler }
     requires takes { (feed : _) → T.takes feed }
+    ensures { IfErr result (IsStopped T.refuses) }
 {
     let (feed, worker) = start_fed(&shared, tick, handler)?;
     match start_watcher(shared.rt, shared.alloc, feed, config) {
@@ -171,6 +174,7 @@ fn start_fed<
     handler: F,
 ) -> Result<(Feed<C, R, A>, JoinHandle<()>), Error<A>>
     requires { F.ready handler }
+    ensures { IfErr result (λ e. (e ≡ out_of_memory) ⊎ IsIo e) }
 {
     let start = start_of(&shared.rt, shared.alloc)?;
     let feed = Feed::new(shared, start)?;
@@ -209,6 +213,7 @@ fn start_watcher<H, T: Watcher<H, R, A>, R: Threads + Copy, A: Allocator + Copy>
     config: Config,
 ) -> Result<T, Error<A>>
     requires { T.takes handler }
+    ensures { IfErr result (λ e. T.refuses e ⊎ (e ≡ not_started)) }
 {
     let (watcher, task) = T::new(rt, alloc, handler, config)?;
     start_task(&rt, alloc, task)?;
