@@ -49,7 +49,8 @@ fn look_again<A: Allocator + Copy, D: Folders<A>>(
 
 /// Lists the roots, reports what changed since the last listing, and keeps the new one. If listing or
 /// comparing is refused, it reports that one error and keeps the last listing: the error is `Memory`, or
-/// `Io` if one more failure of the folders was counted. Returns whether neither was refused.
+/// `Io` if one more failure of the folders was counted, or their count stands at 2^64 - 1. Returns
+/// whether neither was refused.
 pub fn poll_round<A: Allocator + Copy, D: Folders<A>, H: EventHandler<Result<Event<A>, Error<A>>>>(
     alloc: A,
     folders: &mut D,
