@@ -1,11 +1,11 @@
 #!/usr/bin/env python3
 """Times this debouncer beside the Rust crate's own code, and prints a table.
 
-usage: scripts/bench.py PROGRAM [N [KIND..]]
+usage: scripts/bench.py FOLDER [N [KIND..]]
 
-PROGRAM is built from the Rust crate: `PROGRAM --bench N KIND 1` runs one workload over N events once,
-and prints `KIND N total_ns per_op_ns`. The program here is crates/bench, which says what the kinds are;
-it is built first if it has to be. N is 100000 if it isn't given, and then all takes ten minutes and
+FOLDER is the source of notify-debouncer-full 0.6.0, with src/lib.rs and src/cache.rs; none of it is kept.
+scripts/rust_crate/build makes a program of it. The program here is crates/bench, which says what the kinds
+are; it is built first if it has to be. N is 100000 if it isn't given, and then all takes ten minutes and
 more.
 
 Each run is a process of its own. A figure is the least of five runs; the two programs take turns, and
@@ -14,6 +14,7 @@ each goes first in every second round.
 import os
 import subprocess
 import sys
+import tempfile
 import time
 
 TOP = os.path.dirname(os.path.dirname(os.path.abspath(__file__)))
@@ -50,10 +51,12 @@ def ratio_row(name, here, there, unit):
     row(name, f"{here:,.0f} {unit}", f"{there:,.0f} {unit}", f"{here / there:.2g}")
 
 
-def main(program, n="100000", *kinds):
+def main(source, n="100000", *kinds):
     folder = os.path.join(TOP, "crates", "bench")
     subprocess.run(["rt", "run"], cwd=folder, check=True, capture_output=True)
-    bench, crate = os.path.join(folder, "out", "bench"), os.path.abspath(program)
+    room = tempfile.TemporaryDirectory()
+    bench, crate = os.path.join(folder, "out", "bench"), os.path.join(room.name, "rust_crate")
+    subprocess.run([os.path.join(TOP, "scripts", "rust_crate", "build"), source, crate], check=True)
     idle = None
     print(f"N = {n}, {time.strftime('%Y-%m-%d')}, {os.cpu_count()} processors\n")
     row("workload", "here", "the Rust crate", "ratio")
@@ -61,9 +64,9 @@ def main(program, n="100000", *kinds):
     for kind in kinds or KINDS:
         turns = [[bench, n, kind]]
         if kind != "due":
-            turns.append([crate, "--bench", n, kind, "1"])
+            turns.append([crate, n, kind])
         elif idle is None:
-            turns.append([crate, "--bench", n, "idle", "1"])
+            turns.append([crate, n, "idle"])
         (here, memory), *crates = least_of_turns(turns)
         # Each tick of the crate looks at every queue, so one with ten events due takes no less than an
         # idle one.
