@@ -18,7 +18,7 @@ use Rattle.folder_listing.specs.Changes.{LeadsTo, changes}
 use Rattle.folder_listing.specs.Listing.{ListingValue, IsListing}
 use Rattle.folder_listing.proofs.HonestLemmas.{changes_lead}
 use Rattle.path_sets.proofs.ReplyLemmas.{are_honest-append}
-use Rattle.listing_laws.specs.Chain.{changes_through, last_of}
+use Rattle.derived_laws.specs.Listings.{changes_through, last_of}
 
 -- one way after the other
 lead-append : (a b c : Paths) (xs ys : List EventValue) → LeadsTo a b xs → LeadsTo b c ys →
