@@ -7,7 +7,7 @@ use Rattle.std.specs.Option.{unwrap_or}
 use Rattle.std.proofs.lemmas.List.Sums.{sum_by-cons}
 use Rattle.notify_types.specs.Event.{Timed}
 use Rattle.notify_paths.specs.Path.{PathValue, path_cmp, is_below}
-use Rattle.notify_paths.specs.PathMoves.{in_place}
+use Rattle.notify_paths.specs.PathMoves.{relocated}
 use Rattle.notify_paths.specs.PathLaws.{path_cmp_total}
 use Rattle.notify_paths.proofs.Prefixes.{same_path}
 use Rattle.debounce_model.specs.Due.{rest_after, waits, rests}
@@ -87,7 +87,7 @@ module _ (R : PathValue → List Timed → Type 0) where
       each-set (with_queues queues es) e.0 e.1 (each-with_queues queues es t h.1) h.0
 
   module _ (f t : PathValue) (time : ℕ) (goes : (p : PathValue) (q : List Timed) → is_below p f ≡ true → R p q →
-      R (in_place f t p) (moved_queue f t time q)) where
+      R (relocated f t p) (moved_queue f t time q)) where
     -- what goes along has it
     each-moved_below : (queues : Queues) → Each R queues → Each R (moved_below queues f t time)
     each-moved_below [] a = tt
@@ -107,7 +107,7 @@ module _ (R : PathValue → List Timed → Type 0) where
   -- .. where it is made
   pub each-along : (queues : Queues) (f t : PathValue) (time : ℕ) →
       (are_apart f t ≡ true → (p : PathValue) (q : List Timed) → is_below p f ≡ true → R p q →
-      R (in_place f t p) (moved_queue f t time q)) → Each R queues → Each R (moved_along queues f t time)
+      R (relocated f t p) (moved_queue f t time q)) → Each R queues → Each R (moved_along queues f t time)
   each-along queues f t time goes a = by (are_apart f t) refl
     where
       by : (b : Bool) → are_apart f t ≡ b → Each R (cond b (moved queues f t time) queues)

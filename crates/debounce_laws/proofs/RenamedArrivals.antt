@@ -3,7 +3,7 @@ use Rattle.std.proofs.Common.{◌≡◌, ℕ, Bool, true, false, cond, List, [],
 use Rattle.std.specs.List.{AllByRecursion}
 use Rattle.notify_types.specs.Event.{Timed, AttributesValue, no_attributes}
 use Rattle.notify_paths.specs.Path.{PathValue, is_below}
-use Rattle.notify_paths.specs.PathMoves.{in_place}
+use Rattle.notify_paths.specs.PathMoves.{relocated}
 use Rattle.debounce_model.specs.Founded.{AcceptedEvent, Matched, Founded, Told, TakenOn, TakenAlong}
 use Rattle.debounce_model.specs.Moved.{are_apart, moved_path, moved_event, moved_queue}
 use Rattle.debounce_model.specs.Queues.{was_created, was_removed}
@@ -65,7 +65,7 @@ module _ (history : List AcceptedEvent) where
   module _ (f t : PathValue) (time : ℕ) (m : Matched history f t) (apart : are_apart f t ≡ true) where
     -- a joined rename that goes along is founded
     renamed-moved_event : (p : PathValue) (x : Timed) → is_below p f ≡ true → IsRenamedTo history p x →
-        IsRenamedTo history (in_place f t p) (moved_event f t time x)
+        IsRenamedTo history (relocated f t p) (moved_event f t time x)
     renamed-moved_event p x b k h =
         let told = k h in (
           moved_path f t told.0,
@@ -77,13 +77,13 @@ module _ (history : List AcceptedEvent) where
     -- .. each of a queue
     renamed-moved_events : (p : PathValue) (xs : List Timed) → is_below p f ≡ true →
         AllByRecursion (IsRenamedTo history p) xs →
-        AllByRecursion (IsRenamedTo history (in_place f t p)) (moved_queue f t time xs)
+        AllByRecursion (IsRenamedTo history (relocated f t p)) (moved_queue f t time xs)
     renamed-moved_events p [] b a = tt
     renamed-moved_events p (x ∷ xs) b a = (renamed-moved_event p x b a.0, renamed-moved_events p xs b a.1)
 
     -- a queue that goes along
     pub renamed-moved : (p : PathValue) (xs : List Timed) → is_below p f ≡ true → IsRenamedQueue history p xs →
-        IsRenamedQueue history (in_place f t p) (moved_queue f t time xs)
+        IsRenamedQueue history (relocated f t p) (moved_queue f t time xs)
     renamed-moved p xs b q = record {
       each = renamed-moved_events p xs b q.each;
       one =

@@ -12,7 +12,7 @@ use Rattle.std.proofs.lemmas.Map.Entries.{lookup-filter-keys, sum_by-insert_entr
 use Rattle.notify_types.specs.Event.{Timed, AttributesValue}
 use Rattle.notify_types.specs.Kinds.{is_removal}
 use Rattle.notify_paths.specs.Path.{PathValue, path_cmp, is_prefix, is_below}
-use Rattle.notify_paths.specs.PathMoves.{in_place}
+use Rattle.notify_paths.specs.PathMoves.{relocated}
 use Rattle.notify_paths.specs.PathLaws.{path_cmp_total}
 use Rattle.std.proofs.lemmas.List.{length-map}
 use Rattle.notify_paths.proofs.Prefixes.{same_path}
@@ -22,7 +22,7 @@ use Rattle.debounce_model.specs.Rename.{is_both}
 use Rattle.debounce_model.specs.WellFormed.{IsFirst, kept_by, IsKeyed, IsNonempty, HasNoBoth, IsBothInFront, IsQueue, AreQueues}
 use Rattle.debounce_model.proofs.Entries.{each-filter, each-insert_entry, lookup-insert_same, lookup-insert_other, sorted-filter, sorted-insert_entry, sum-filter}
 use Rattle.debounce_model.proofs.GoodQueues.{IsBothFirst, IsBothBehind, AreGood}
-use Rattle.debounce_model.proofs.MovedPaths.{same_at, below_prefix, below_in_place, cmp_in_place}
+use Rattle.debounce_model.proofs.MovedPaths.{same_at, below_prefix, below_relocated, cmp_relocated}
 use Rattle.debounce_model.proofs.RenameLemmas.{good-halves}
 
 -- the first of two, where it is there, and else the second
@@ -47,22 +47,22 @@ module _ (f t : PathValue) (time : ℕ) where
   -- below t is found what was at the same place below f
   pub moved_found : (queues : Queues) (q : PathValue) → is_prefix t q ≡ true →
       queue_at (moved_below queues f t time) q
-      ≡ option_map (moved_queue f t time) (queue_at (below_of queues f) (in_place t f q))
+      ≡ option_map (moved_queue f t time) (queue_at (below_of queues f) (relocated t f q))
   moved_found [] q i = refl
   moved_found (e ∷ queues) q i = by (is_below e.0 f) refl (moved_found queues q i)
     where
       by : (b : Bool) → is_below e.0 f ≡ b → queue_at (moved_below queues f t time) q
-          ≡ option_map (moved_queue f t time) (queue_at (below_of queues f) (in_place t f q)) →
+          ≡ option_map (moved_queue f t time) (queue_at (below_of queues f) (relocated t f q)) →
           queue_at (map (moved_entry f t time) (cond b (e ∷ below_of queues f) (below_of queues f))) q
           ≡ option_map (moved_queue f t time) (queue_at (cond b (e ∷ below_of queues f) (below_of queues f))
-          (in_place t f q))
+          (relocated t f q))
       by false h more = more
       by true h more =
-          rw (cmp_in_place f t q e.0 i (below_prefix e.0 f h)) (at (is_eq (path_cmp (in_place t f q) e.0)))
+          rw (cmp_relocated f t q e.0 i (below_prefix e.0 f h)) (at (is_eq (path_cmp (relocated t f q) e.0)))
         where
           at : (b : Bool) → cond b (Some (moved_queue f t time e.1)) (queue_at (moved_below queues f t time) q)
               ≡ option_map (moved_queue f t time)
-              (cond b (Some e.1) (queue_at (below_of queues f) (in_place t f q)))
+              (cond b (Some e.1) (queue_at (below_of queues f) (relocated t f q)))
           at true = refl
           at false = more
 
@@ -75,12 +75,12 @@ module _ (f t : PathValue) (time : ℕ) where
       by : (b : Bool) → is_below e.0 f ≡ b → queue_at (moved_below queues f t time) q ≡ None →
           queue_at (map (moved_entry f t time) (cond b (e ∷ below_of queues f) (below_of queues f))) q ≡ None
       by false h more = more
-      by true h more = at (is_at (path_cmp q) (in_place f t e.0)) refl
+      by true h more = at (is_at (path_cmp q) (relocated f t e.0)) refl
         where
-          at : (c : Bool) → is_at (path_cmp q) (in_place f t e.0) ≡ c →
+          at : (c : Bool) → is_at (path_cmp q) (relocated f t e.0) ≡ c →
               cond c (Some (moved_queue f t time e.1)) (queue_at (moved_below queues f t time) q) ≡ None
-          at true c = absurd (true≢false (sym (below_in_place f t e.0 h)
-              ∙ ap (λ p. is_below p t) (sym (same_at q (in_place f t e.0) c)) ∙ n))
+          at true c = absurd (true≢false (sym (below_relocated f t e.0 h)
+              ∙ ap (λ p. is_below p t) (sym (same_at q (relocated f t e.0) c)) ∙ n))
           at false c = more
 
 -- a look-up among what lies below a path
@@ -100,7 +100,7 @@ queue-without_below queues f q b h =
 module _ (queues : Queues) (f t : PathValue) (time : ℕ) (q : PathValue) where
   -- after a move, strictly below t is found what was at the same place below f
   pub queue-moved_below : is_below q t ≡ true → queue_at (moved queues f t time) q
-      ≡ option_map (moved_queue f t time) (queue_at queues (in_place t f q))
+      ≡ option_map (moved_queue f t time) (queue_at queues (relocated t f q))
   queue-moved_below h =
       queue-with_queues (without_below (without_below queues f) t) (moved_below queues f t time) q
       ∙ ap (or_else (queue_at (moved_below queues f t time) q))
@@ -108,7 +108,7 @@ module _ (queues : Queues) (f t : PathValue) (time : ℕ) (q : PathValue) where
       ∙ or_none (queue_at (moved_below queues f t time) q)
       ∙ moved_found f t time queues q (below_prefix q t h)
       ∙ ap (option_map (moved_queue f t time))
-      (queue-below_of queues f (in_place t f q) true (below_in_place t f q h))
+      (queue-below_of queues f (relocated t f q) true (below_relocated t f q h))
     where
       or_none : {X : Type 0} (o : Option X) → or_else o None ≡ o
       or_none None = refl
@@ -133,16 +133,16 @@ module _ (queues : Queues) (f t : PathValue) (time : ℕ) (q : PathValue) where
 
 module _ (f t : PathValue) (time : ℕ) where
   -- a path strictly below f goes along
-  pub goes_along : (p : PathValue) → is_below p f ≡ true → moved_path f t p ≡ in_place f t p
+  pub goes_along : (p : PathValue) → is_below p f ≡ true → moved_path f t p ≡ relocated f t p
   goes_along p h = rw h refl
 
   -- an event that goes along is kept by its new path
   kept-moved : (p : PathValue) (x : Timed) → is_below p f ≡ true → IsFirst p (kept_by x) →
-      IsFirst (in_place f t p) (kept_by (moved_event f t time x))
+      IsFirst (relocated f t p) (kept_by (moved_event f t time x))
   kept-moved p x h k = by (is_both x) x.event.paths k
     where
       by : (b : Bool) (ps : List PathValue) → IsFirst p (cond b (drop 1 ps) ps) →
-          IsFirst (in_place f t p) (cond b (drop 1 (moved_paths f t (cond b 2 1) ps))
+          IsFirst (relocated f t p) (cond b (drop 1 (moved_paths f t (cond b 2 1) ps))
           (moved_paths f t (cond b 2 1) ps))
       by true [] k = k
       by true (y ∷ []) k = k
@@ -152,7 +152,7 @@ module _ (f t : PathValue) (time : ℕ) where
 
   -- .. of a queue each
   keyed-moved : (p : PathValue) (xs : List Timed) → is_below p f ≡ true → IsKeyed p xs →
-      IsKeyed (in_place f t p) (moved_queue f t time xs)
+      IsKeyed (relocated f t p) (moved_queue f t time xs)
   keyed-moved p [] h k = tt
   keyed-moved p (x ∷ xs) h k = (kept-moved p x h k.0, keyed-moved p xs h k.1)
 
@@ -181,7 +181,7 @@ module _ (f t : PathValue) (time : ℕ) where
 
   -- a queue that goes along is one of its new path
   law-moved : (p : PathValue) (xs : List Timed) → is_below p f ≡ true → IsQueue p xs →
-      IsQueue (in_place f t p) (moved_queue f t time xs)
+      IsQueue (relocated f t p) (moved_queue f t time xs)
   law-moved p xs h k = (nonempty-moved xs k.0, keyed-moved p xs h k.1, in_front-moved xs k.2)
 
   -- .. all of them

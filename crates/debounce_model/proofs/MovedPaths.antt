@@ -6,7 +6,7 @@ use Rattle.std.proofs.Math.Seq.{take-append_seam, drop-append_seam}
 use Rattle.std.proofs.lemmas.List.{take-append-drop}
 use Rattle.std.proofs.lemmas.Cmp.{tied_itself}
 use Rattle.notify_paths.specs.Path.{PathValue, PartValue, part_cmp, part_eq, path_cmp, path_eq, is_prefix, is_below}
-use Rattle.notify_paths.specs.PathMoves.{in_place}
+use Rattle.notify_paths.specs.PathMoves.{relocated}
 use Rattle.notify_paths.specs.PathLaws.{part_cmp_total, part_eq_equiv, part_eq_decides, path_eq_equiv, path_eq_decides, path_matches_eq}
 use Rattle.debounce_model.specs.Moved.{are_apart}
 
@@ -53,25 +53,25 @@ below_prefix p b h = (both_pass (is_prefix b p) (not (path_eq p b)) h).0
 
 module _ (f t : PathValue) where
   -- what lies strictly below f lies strictly below t at its new place
-  pub below_in_place : (p : PathValue) → is_below p f ≡ true → is_below (in_place f t p) t ≡ true
-  below_in_place p h =
+  pub below_relocated : (p : PathValue) → is_below p f ≡ true → is_below (relocated f t p) t ≡ true
+  below_relocated p h =
       below-append t (drop (length f) p)
       ∙ sym (below-append f (drop (length f) p))
       ∙ ap (λ q. is_below q f) (sym (prefix_split f p (below_prefix p f h)))
       ∙ h
 
   -- back from its new place it is where it was
-  pub in_place_back : (p : PathValue) → is_prefix f p ≡ true → in_place t f (in_place f t p) ≡ p
-  in_place_back p h = ap (λ s. f ++ s) (drop-append_seam t (drop (length f) p)) ∙ sym (prefix_split f p h)
+  pub relocated_back : (p : PathValue) → is_prefix f p ≡ true → relocated t f (relocated f t p) ≡ p
+  relocated_back p h = ap (λ s. f ++ s) (drop-append_seam t (drop (length f) p)) ∙ sym (prefix_split f p h)
 
   -- a path below t compares to a new place as its own place below f compares to the old
-  pub cmp_in_place : (q p : PathValue) → is_prefix t q ≡ true → is_prefix f p ≡ true →
-      path_cmp q (in_place f t p) ≡ path_cmp (in_place t f q) p
-  cmp_in_place q p i h =
-      ap (λ r. path_cmp r (in_place f t p)) (prefix_split t q i)
+  pub cmp_relocated : (q p : PathValue) → is_prefix t q ≡ true → is_prefix f p ≡ true →
+      path_cmp q (relocated f t p) ≡ path_cmp (relocated t f q) p
+  cmp_relocated q p i h =
+      ap (λ r. path_cmp r (relocated f t p)) (prefix_split t q i)
       ∙ cmp-append t (drop (length t) q) (drop (length f) p)
       ∙ sym (cmp-append f (drop (length t) q) (drop (length f) p))
-      ∙ ap (path_cmp (in_place t f q)) (sym (prefix_split f p h))
+      ∙ ap (path_cmp (relocated t f q)) (sym (prefix_split f p h))
 
 -- of two bases of one path one is a prefix of the other
 comparable : (f t p : PathValue) → is_prefix f p ≡ true → is_prefix t p ≡ true →

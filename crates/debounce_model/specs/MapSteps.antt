@@ -4,7 +4,7 @@ use Rattle.std.specs.Prelude.{ℕ, ◌≡◌, true, List, [], ◌∷◌, ◌++�
 use Rattle.std.specs.List.{AllByRecursion}
 use Rattle.notify_types.specs.Event.{Timed, AttributesValue}
 use Rattle.notify_paths.specs.Path.{PathValue}
-use Rattle.notify_paths.specs.PathMoves.{in_place}
+use Rattle.notify_paths.specs.PathMoves.{relocated}
 use Rattle.debounce_model.specs.Due.{waits}
 use Rattle.debounce_model.specs.Moved.{below_of}
 use Rattle.debounce_model.specs.Queues.{Queues, queue_at, events_at, with_queue, without_queue}
@@ -55,12 +55,12 @@ HasRoom queues es = AllByRecursion (λ e. is_some (queue_at queues e.0) ≡ true
 
 -- the path below t, if nothing is at the same place below f
 abbrev pub stale_one : Queues → PathValue → PathValue → PathValue → List PathValue
-stale_one queues f t path = if is_some (queue_at queues (in_place t f path)) then [] else path ∷ []
+stale_one queues f t path = if is_some (queue_at queues (relocated t f path)) then [] else path ∷ []
 
 -- the paths of these queues that have nothing at the same place below f
 abbrev pub stale_in : Queues → PathValue → PathValue → Queues → List PathValue
 stale_in queues f t [] = []
-stale_in queues f t (e ∷ es) = if is_some (queue_at queues (in_place t f e.0)) then stale_in queues f t es
+stale_in queues f t (e ∷ es) = if is_some (queue_at queues (relocated t f e.0)) then stale_in queues f t es
     else e.0 ∷ stale_in queues f t es
 
 -- the paths of the queues strictly below t to which nothing is moved from below f

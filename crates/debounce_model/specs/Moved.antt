@@ -2,7 +2,7 @@
 use Rattle.std.specs.Prelude.{ℕ, max, Bool, not, ◌&&◌, List, [], ◌∷◌, ◌++◌, take, drop, map, filter, if◌then◌else◌}
 use Rattle.notify_types.specs.Event.{Timed, AttributesValue}
 use Rattle.notify_paths.specs.Path.{PathValue, is_prefix, is_below}
-use Rattle.notify_paths.specs.PathMoves.{in_place}
+use Rattle.notify_paths.specs.PathMoves.{relocated}
 use Rattle.debounce_model.specs.Queues.{Queues, with_queue, without_below, events_at}
 use Rattle.debounce_model.specs.Rename.{without_last, is_both, first_both, original_time, joined_halves}
 
@@ -12,7 +12,7 @@ are_apart f t = not (is_prefix f t) && not (is_prefix t f)
 
 -- a path after a rename from f to t: what lies strictly below f goes along
 abbrev pub moved_path : PathValue → PathValue → PathValue → PathValue
-moved_path f t path = if is_below path f then in_place f t path else path
+moved_path f t path = if is_below path f then relocated f t path else path
 
 -- how many paths of an event a rename moves: the first one, of a joined rename also the second
 abbrev pub moved_count : Timed → ℕ
@@ -37,7 +37,7 @@ moved_queue f t time events = map (moved_event f t time) events
 
 -- a queue that goes along, with its path
 abbrev pub moved_entry : PathValue → PathValue → ℕ → PathValue × List Timed → PathValue × List Timed
-moved_entry f t time e = (in_place f t e.0, moved_queue f t time e.1)
+moved_entry f t time e = (relocated f t e.0, moved_queue f t time e.1)
 
 -- the queues strictly below the path
 abbrev pub below_of : Queues → PathValue → Queues

@@ -17,7 +17,7 @@ ghost use Rattle.joined_rename.specs.Renames.{renamed_by};
 use debounce_model::case::first_path;
 use event_queue::due::Due;
 use event_queue::queue::Queue;
-use front_index::plan::Plan;
+use front_index::plan::DuePlan;
 use front_index::queues::IndexedQueues;
 use joined_rename::join::join;
 use joined_rename::rename::{FirstHalf, Rename};
@@ -154,7 +154,7 @@ impl<A: Allocator + Copy> Queues<A> {
     }
 
     /// Returns how a tick comes to the queues that are due. The plan is for the queues as they are now.
-    pub fn plan(&self, due: Due) -> Result<Plan<A>, AllocError>
+    pub fn plan(&self, due: Due) -> Result<DuePlan<A>, AllocError>
         ensures { IfOk result (λ plan. IsPlan due self.now plan) }
     {
         self.queues.plan(due)
@@ -164,7 +164,7 @@ impl<A: Allocator + Copy> Queues<A> {
     /// last of each kind. If an allocation fails, `places` may hold some of them.
     pub fn lend_places<'a>(
         &'a self,
-        plan: &mut Plan<A>,
+        plan: &mut DuePlan<A>,
         places: &mut Vec<&'a DebouncedEvent<A>, A>,
         due: Due,
     ) -> Result<(), AllocError>
@@ -182,7 +182,7 @@ impl<A: Allocator + Copy> Queues<A> {
     /// allocation fails, nothing has changed.
     pub fn take_places(
         &mut self,
-        plan: Plan<A>,
+        plan: DuePlan<A>,
         due: Due,
         out: &mut Vec<DebouncedEvent<A>, A>,
     ) -> Result<usize, AllocError>

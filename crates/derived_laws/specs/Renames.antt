@@ -2,7 +2,7 @@
 use Rattle.std.specs.Prelude.{◌≡◌, ℕ, true, List, Some}
 use Rattle.notify_types.specs.Event.{Timed, AttributesValue}
 use Rattle.notify_paths.specs.Path.{PathValue, is_below}
-use Rattle.notify_paths.specs.PathMoves.{in_place}
+use Rattle.notify_paths.specs.PathMoves.{relocated}
 use Rattle.debounce_model.specs.Moved.{are_apart, began, moved_queue, joined_rename}
 use Rattle.debounce_model.specs.Queues.{Queues, queue_at}
 
@@ -14,5 +14,5 @@ KeepsWhatIsBelow =
     are_apart f t ≡ true →
     is_below path f ≡ true →
     queue_at queues path ≡ Some events →
-    queue_at (joined_rename queues f t time attrs) (in_place f t path)
+    queue_at (joined_rename queues f t time attrs) (relocated f t path)
     ≡ Some (moved_queue f t (began queues f time) events)

@@ -3,7 +3,7 @@
 //!
 //! [`queues::IndexedQueues`] holds both, and each of its methods leaves the index with just the fronts of
 //! the queues. A tick looks at the first pair of the index, and opens only the queues of the pairs that
-//! are due; if these are many, it goes over all queues instead of a search for each ([`plan::Plan`]).
+//! are due; if these are many, it goes over all queues instead of a search for each ([`plan::DuePlan`]).
 //!
 //! ```text
 //! let mut queues = IndexedQueues::new(rt.alloc());

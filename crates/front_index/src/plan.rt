@@ -19,7 +19,7 @@ use std::marker::Model;
 /// How a tick comes to the queues that are due. If all that waits is due, it takes the map apart; if few
 /// queues are due, it searches for each; else it goes over all queues.
 #[derive(Drop)]
-pub struct Plan<A: Allocator> {
+pub struct DuePlan<A: Allocator> {
     /// Whether all that waits is due.
     is_whole: bool,
     /// The paths of the queues that are due, if these are few.
@@ -44,7 +44,7 @@ fn few_paths<A: Allocator + Copy>(
     Ok(Some(due_paths(fronts, alloc, due)?))
 }
 
-impl<A: Allocator> Model for Plan<A> {
+impl<A: Allocator> Model for DuePlan<A> {
     ghost use Rattle.front_index.specs.Plan.{PlanValue};
 
     ghost Value = { PlanValue };
@@ -52,25 +52,25 @@ impl<A: Allocator> Model for Plan<A> {
     ghost view = { λ a. record { whole = a.is_whole; paths = a.paths; later = a.later.items } };
 }
 
-impl<A: Allocator + Copy> Plan<A> {
+impl<A: Allocator + Copy> DuePlan<A> {
     /// Returns the plan for these queues.
     pub(crate) fn new(
         map: &QueueMap<A>,
         fronts: &Fronts<A>,
         alloc: A,
         due: Due,
-    ) -> Result<Plan<A>, AllocError>
+    ) -> Result<DuePlan<A>, AllocError>
         requires { IsIndexed fronts.now map.now.entries }
         ensures { IfOk result (λ plan. IsPlan due map.now.entries plan) }
     {
         if is_all_due(map, due) {
-            return Ok(Plan {
+            return Ok(DuePlan {
                 is_whole: true,
                 paths: None,
                 later: Vec::new(alloc),
             });
         }
-        Ok(Plan {
+        Ok(DuePlan {
             is_whole: false,
             paths: few_paths(map, fronts, alloc, due)?,
             later: Vec::new(alloc),
@@ -132,7 +132,7 @@ impl<A: Allocator + Copy> Plan<A> {
         ensures kept { OnErr result (out.new.items ≡ out.old.items) }
         ensures indexed { IsIndexed fronts.new map.new.entries }
     {
-        let Plan { paths, later, .. } = self;
+        let DuePlan { paths, later, .. } = self;
         match paths {
             None => Ok(take_all(map, fronts, alloc, due, out)),
             Some(paths) => take_few(map, fronts, paths, later, due, out),

@@ -14,7 +14,7 @@ ghost use Rattle.front_index.specs.Steps.{AreFilled};
 
 use crate::below::{drop_below, remove};
 use crate::fronts::{Fronts, front_of, is_first_due};
-use crate::plan::Plan;
+use crate::plan::DuePlan;
 use crate::push::push;
 use crate::put::put;
 use crate::put_all::{put_all, take_only};
@@ -179,17 +179,17 @@ impl<A: Allocator + Copy> IndexedQueues<A> {
     }
 
     /// Returns how a tick comes to the queues that are due. The plan is for the queues as they are now.
-    pub fn plan(&self, due: Due) -> Result<Plan<A>, AllocError>
+    pub fn plan(&self, due: Due) -> Result<DuePlan<A>, AllocError>
         ensures { IfOk result (λ plan. IsPlan due self.now plan) }
     {
-        Plan::new(&self.map, &self.fronts, self.alloc, due)
+        DuePlan::new(&self.map, &self.fronts, self.alloc, due)
     }
 
     /// Adds references to what is due, in the order of the paths: of each queue's due beginning the last
     /// of each kind. If an allocation fails, `places` may hold some of them.
     pub fn lend_due<'a>(
         &'a self,
-        plan: &mut Plan<A>,
+        plan: &mut DuePlan<A>,
         places: &mut Vec<&'a DebouncedEvent<A>, A>,
         due: Due,
     ) -> Result<(), AllocError>
@@ -207,7 +207,7 @@ impl<A: Allocator + Copy> IndexedQueues<A> {
     /// allocation fails, nothing has changed.
     pub fn take_due(
         &mut self,
-        plan: Plan<A>,
+        plan: DuePlan<A>,
         due: Due,
         out: &mut Vec<DebouncedEvent<A>, A>,
     ) -> Result<usize, AllocError>

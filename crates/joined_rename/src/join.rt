@@ -5,12 +5,12 @@ ghost use Rattle.std.specs.Map.{keys_of};
 ghost use Rattle.notify_paths.specs.Path.{path_cmp};
 ghost use Rattle.debounce_model.specs.WellFormed.{AreQueues};
 ghost use Rattle.joined_rename.specs.Renames.{joined_by};
-ghost use Rattle.joined_rename.specs.Steps.{kept_at, left_by, puts_by, staying_at};
+ghost use Rattle.joined_rename.specs.Steps.{IsSource, left_by, puts_by, staying_at};
 
 use crate::arrived::arrived;
 use crate::below::{add_going_along, drop_moved, stale_paths};
 use crate::rename::Rename;
-use crate::source::source_at;
+use crate::source::{Source, source_at};
 use crate::target::target_at;
 use event_queue::queue::Queue;
 use front_index::queues::{IndexedQueues, Placed, QueueMap};
@@ -32,9 +32,11 @@ pub fn join<A: Allocator + Copy>(
     let from = rename.from;
     let to = rename.to;
     let alloc = queues.allocator();
-    let stays = stays_at(queues.by_path(), from);
-    let stale = stale_paths(queues.by_path(), alloc, from, to)?;
-    let puts = puts(queues.by_path(), alloc, rename)?;
+    let map = queues.by_path();
+    let source = source_at(map, from);
+    let stays = source.keeps_event();
+    let stale = stale_paths(map, alloc, from, to)?;
+    let puts = puts(map, alloc, &source, rename)?;
     queues.put_all(puts)?;
     // From here on nothing can fail.
     leave(queues, from, to, stays);
@@ -43,22 +45,15 @@ pub fn join<A: Allocator + Copy>(
     Ok(())
 }
 
-/// Whether an event stays at the source.
-fn stays_at<A: Allocator>(queues: &QueueMap<A>, from: &PathBuf<A>) -> bool
-    requires { AreQueues queues.now.entries }
-    ensures { result ≡ kept_at queues.now.entries from.now }
-{
-    source_at(queues, from).stays.is_some()
-}
-
-/// The queues that the rename puts: what then waits at the target, the event that stays at the source,
-/// and what goes along below it.
+/// The queues that a rename of this source puts: what then waits at the target, the event that stays at
+/// the source, and what goes along below it.
 fn puts<A: Allocator + Copy>(
     queues: &QueueMap<A>,
     alloc: A,
+    source: &Source<'_, A>,
     rename: Rename<'_, A>,
 ) -> Result<Placed<A>, AllocError>
-    requires { AreQueues queues.now.entries }
+    requires { IsSource queues.now.entries rename.from.now source.now }
     ensures puts { IfOk result (λ puts. puts.items ≡ puts_by queues.now.entries rename.entry) }
     ensures ordered { IsStrictlySortedBy path_cmp (keys_of queues.now.entries) }
 {
@@ -66,10 +61,9 @@ fn puts<A: Allocator + Copy>(
     let _len = queues.len();
     let from = rename.from;
     let to = rename.to;
-    let source = source_at(queues, from);
-    let target = target_at(queues, &source, from, to);
+    let target = target_at(queues, source, from, to);
     let began = source.original_time(rename.time);
-    let queue = arrived(alloc, &source, target, rename)?;
+    let queue = arrived(alloc, source, target, rename)?;
     let mut puts = put_at(alloc, to, queue)?;
     add_staying(&mut puts, from, source.stays)?;
     add_going_along(&mut puts, queues, from, to, began)?;

@@ -47,7 +47,7 @@ pub use folder_listing::entry::{EntryKind, Found};
 pub use folder_listing::listing::Listing;
 pub use folder_scan::folder_scan::FolderScan;
 pub use notify_paths::error::{Error, ErrorKind};
-pub use notify_paths::part::{Folders as FoldersAbove, Part, Parts};
+pub use notify_paths::part::{FoldersAbove, Part, Parts};
 pub use notify_paths::path::PathBuf;
 pub use notify_poll::folders::Folders;
 pub use notify_poll::list::list;

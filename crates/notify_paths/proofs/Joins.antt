@@ -5,7 +5,7 @@ use Rattle.std.specs.List.{starts_with}
 use Rattle.std.specs.Path.{slash}
 use Rattle.notify_paths.specs.Path.{PartValue, RootPart, CurPart, ParentPart, NamePart, PathValue, part_eq, is_prefix}
 use Rattle.notify_paths.specs.PathLaws.{part_eq_decides}
-use Rattle.notify_paths.specs.PathMoves.{in_place, child_of, first_parts, folders_above}
+use Rattle.notify_paths.specs.PathMoves.{relocated, child_of, first_parts, folders_above}
 use Rattle.notify_paths.specs.TextSteps.{needs_slash, joined, without_slash, text_past}
 use Rattle.notify_paths.specs.PathText.{parts_of, part_of, part_text, wants_slash, slash_if, text_after, text_of, is_proper_name, all_inner, IsPath, IsNormal}
 use Rattle.notify_paths.proofs.Begins.{plain_front, begins_says, head, long}
@@ -154,7 +154,7 @@ text_is text p h e = let again : parts_of text ≡ p = ap parts_of e ∙ text_ag
 pub placed : (from to text made : List ℕ) → IsNormal from → IsNormal to → IsNormal text →
     0 < length (parts_of from) → is_prefix (parts_of from) (parts_of text) ≡ true
     → made ≡ joined to (text_past from text) →
-    IsTextOf made (in_place (parts_of from) (parts_of to) (parts_of text))
+    IsTextOf made (relocated (parts_of from) (parts_of to) (parts_of text))
 placed from to text made h i k some below e =
     let r = drop (length (parts_of from)) (parts_of text) in
     let inner = inner_rest (length (parts_of from)) (parts_of text) some (parts_of_is_path text) in

@@ -7,8 +7,8 @@ use Rattle.notify_paths.specs.Path.{PartValue, PathValue, NamePart, is_below}
 use Rattle.notify_paths.specs.PathText.{parts_of, is_proper_name}
 
 -- a path that lies at or below `from`, at the same place below `to`
-abbrev pub in_place : PathValue → PathValue → PathValue → PathValue
-in_place from to path = to ++ drop (length from) path
+abbrev pub relocated : PathValue → PathValue → PathValue → PathValue
+relocated from to path = to ++ drop (length from) path
 
 -- the path with the name after it, if it is a name
 abbrev pub child_of : PathValue → List ℕ → Option PathValue

@@ -4,7 +4,7 @@ use Rattle.std.specs.Path.{component_bytes}
 use Rattle.std.specs.declared.path.components.Component.{Component}
 use Rattle.std.specs.Path.{components_remaining}
 use Rattle.std.specs.Prelude.{List, map}
-use Rattle.notify_paths.specs.declared.part.Folders.{Folders}
+use Rattle.notify_paths.specs.declared.part.FoldersAbove.{FoldersAbove}
 use Rattle.notify_paths.specs.declared.part.Part.{Part}
 use Rattle.notify_paths.specs.declared.part.Part.TheVariants.{Root, Cur, Parent, Name}
 use Rattle.notify_paths.specs.declared.part.Parts.{Parts}
@@ -29,7 +29,7 @@ abbrev pub parts_left : Parts → PathValue
 parts_left parts = map part_of (components_remaining parts.components)
 
 -- the folders that are left
-abbrev pub folders_left : Folders → List PathValue
+abbrev pub folders_left : FoldersAbove → List PathValue
 folders_left folders = folders_above (map part_of (components_remaining folders.components))
 
 -- what hashing a path writes: its text

@@ -8,12 +8,6 @@ use std::alloc::Allocator;
 use std::collections::BTreeMap;
 use std::ops::Bound;
 
-fn is_below<A: Allocator>(path: &PathBuf<A>, base: &PathBuf<A>) -> bool
-    ensures { result ≡ is_below path.now base.now }
-{
-    path.starts_with(base) && *path != *base
-}
-
 /// Returns how many keys lie strictly below the path. It looks at these and at one more.
 pub fn count_below<V, A: Allocator>(map: &BTreeMap<PathBuf<A>, V, A>, path: &PathBuf<A>) -> usize
     ensures { result ≡ length (filter (λ e. is_below e.0 path.now) map.now.entries) }
@@ -38,7 +32,7 @@ pub fn copy_first_below<V, A: Allocator>(
     ensures { IsTrue result → is_below spare.new path.now ≡ true }
 {
     match map.range((Bound::Excluded(path), Bound::Unbounded)).next() {
-        Some((key, _value)) if is_below(key, path) => spare.copy_from(key).is_ok(),
+        Some((key, _value)) if key.is_below(path) => spare.copy_from(key).is_ok(),
         _ => false,
     }
 }
@@ -112,5 +106,5 @@ fn retain_outside<V: Drop, A: Allocator>(map: &mut BTreeMap<PathBuf<A>, V, A>, p
     if count_below(map, path) == 0 {
         return;
     }
-    map.retain(|key, _value| !is_below(key, path));
+    map.retain(|key, _value| !key.is_below(path));
 }

@@ -55,11 +55,11 @@ impl<'a> Iterator for Parts<'a> {
 
 /// The folders above a path, the nearest first. Made by `PathBuf::folders`.
 #[derive(Clone, Drop)]
-pub struct Folders<'a> {
+pub struct FoldersAbove<'a> {
     pub(crate) components: Components<'a>,
 }
 
-impl<'a> Iterator for Folders<'a> {
+impl<'a> Iterator for FoldersAbove<'a> {
     type Item = Path<'a>;
 
     ghost next_gives = { YieldsFirstBy folder_value folders_left };

@@ -8,15 +8,15 @@ ghost use Rattle.std.specs.Cmp.{partial_equiv_from_equiv};
 ghost use Rattle.std.specs.Cmp.Rules.{comparing};
 ghost use Rattle.std.proofs.Common.{rules};
 ghost use Rattle.notify_paths.specs.Errors.{out_of_memory};
-ghost use Rattle.notify_paths.specs.Path.{is_prefix, path_eq, path_cmp};
+ghost use Rattle.notify_paths.specs.Path.{is_below, is_prefix, path_eq, path_cmp};
 ghost use Rattle.notify_paths.specs.PathLaws.{path_eq_equiv, path_cmp_total, path_matches_eq, path_partial};
-ghost use Rattle.notify_paths.specs.PathMoves.{in_place, child_of, file_name_of, parent_of, folders_above, IsNextFolder, AreFoldersAbove};
+ghost use Rattle.notify_paths.specs.PathMoves.{relocated, child_of, file_name_of, parent_of, folders_above, IsNextFolder, AreFoldersAbove};
 ghost use Rattle.notify_paths.specs.PathText.{parts_of, part_of, text_of, IsNormal};
 ghost use Rattle.notify_paths.specs.PathView.{parts_left, folders_left, path_feed, path_alike};
 
 use crate::error::Error;
 use crate::order::cmp_texts;
-use crate::part::{Folders, Parts, part_of_component};
+use crate::part::{FoldersAbove, Parts, part_of_component};
 use crate::text::{begins_with, is_proper_name, joined_text, make_room, normal_text, text_past};
 use std::alloc::{AllocError, Allocator, Global};
 use std::cmp::Ordering;
@@ -90,10 +90,10 @@ impl<A: Allocator + Copy> PathBuf<A> {
 impl<A: Allocator + Copy> PathBuf<A> {
     /// Returns the path that lies below `to` as this one lies below `from`: `from` at its front is
     /// replaced by `to`. At `from` itself that is `to`.
-    pub fn in_place(&self, from: &PathBuf<A>, to: &PathBuf<A>) -> Result<PathBuf<A>, AllocError>
+    pub fn relocated(&self, from: &PathBuf<A>, to: &PathBuf<A>) -> Result<PathBuf<A>, AllocError>
         requires some { 0 < length from.now }
         requires below { is_prefix from.now self.now ≡ true }
-        ensures { IfOk result (λ path. path ≡ in_place from.now to.now self.now) }
+        ensures { IfOk result (λ path. path ≡ relocated from.now to.now self.now) }
     {
         let alloc = *self.text.allocator();
         let rest = text_past(self.text.as_str(), from.text.as_str());
@@ -181,12 +181,12 @@ impl<A: Allocator> PathBuf<A> {
 
     /// Returns the folders above the path, the nearest first: its parts without the last one, without
     /// the last two and so on, as long as a part is left.
-    pub fn folders(&self) -> Folders<'_>
+    pub fn folders(&self) -> FoldersAbove<'_>
         ensures value { folders_left result ≡ folders_above self.now }
         ensures above { AreFoldersAbove self.now (folders_left result) }
         ensures fits { length (folders_left result) < 2 ^ 64 }
     {
-        Folders {
+        FoldersAbove {
             components: self.components(),
         }
     }
@@ -204,6 +204,13 @@ impl<A: Allocator> PathBuf<A> {
         ensures { result ≡ is_prefix base.now self.now }
     {
         begins_with(self.text.as_bytes(), base.text.as_bytes())
+    }
+
+    /// Whether the path lies strictly below the base.
+    pub fn is_below(&self, base: &PathBuf<A>) -> bool
+        ensures { result ≡ is_below self.now base.now }
+    {
+        self.starts_with(base) && *self != *base
     }
 
     /// Makes room for a copy of the path: after this, `copy_from` it asks for no memory.

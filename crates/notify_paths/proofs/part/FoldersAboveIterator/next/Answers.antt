@@ -4,7 +4,7 @@ use Rattle.notify_paths.specs.PathMoves.{folder_value}
 use Rattle.notify_paths.specs.PathText.{part_of}
 use Rattle.notify_paths.specs.PathView.{folders_left}
 use Rattle.notify_paths.proofs.Joins.{folders_step}
-use Rattle.notify_paths.proofs.part.FoldersIterator.next.Goals as goal
+use Rattle.notify_paths.proofs.part.FoldersAboveIterator.next.Goals as goal
 
 steps : (c : goal.Then-has_part) → folders_left c.args.self.now
     ≡ folder_value c.as_path-folder.result ∷ folders_left record { components = c.next_back.new.self }

@@ -1,12 +1,12 @@
 use Rattle.std.proofs.Common.{◌<◌, ◌∙◌, sym, ap, ap₂, subst, length}
 use Rattle.std.specs.String.{string_bytes}
 use Rattle.notify_paths.specs.Path.{is_prefix}
-use Rattle.notify_paths.specs.PathMoves.{in_place}
+use Rattle.notify_paths.specs.PathMoves.{relocated}
 use Rattle.notify_paths.specs.TextSteps.{joined, text_past}
 use Rattle.notify_paths.specs.PathText.{parts_of}
 use Rattle.notify_paths.proofs.Joins.{IsTextOf, base_begins, placed}
-use Rattle.notify_paths.proofs.path.PathBuf.in_place.Given.{Over}
-use Rattle.notify_paths.proofs.path.PathBuf.in_place.Goals as goal
+use Rattle.notify_paths.proofs.path.PathBuf.relocated.Given.{Over}
+use Rattle.notify_paths.proofs.path.PathBuf.relocated.Goals as goal
 
 pub text_past-rest-requires : goal.text_past-rest-requires
 text_past-rest-requires g c =
@@ -15,7 +15,7 @@ text_past-rest-requires g c =
     c.self.invariant (ap₂ is_prefix c.from.view_is c.self.view_is ∙ c.requires.below))
 
 text : (g : Over) (c : goal.In_ok-text g) →
-    IsTextOf (string_bytes c.in_ok-text.text) (in_place (parts_of (string_bytes c.from.inside.text))
+    IsTextOf (string_bytes c.in_ok-text.text) (relocated (parts_of (string_bytes c.from.inside.text))
     (parts_of (string_bytes c.to.inside.text)) (parts_of (string_bytes c.self.inside.text)))
 text g c =
     placed (string_bytes c.from.inside.text) (string_bytes c.to.inside.text) (string_bytes c.self.inside.text)
@@ -31,5 +31,5 @@ invariant_of-result g c = (text g c).1
 
 pub returns : goal.returns
 returns g c = (text g c).0
-    ∙ (ap₂ (λ f p. in_place f (parts_of (string_bytes c.to.inside.text)) p) c.from.view_is c.self.view_is
-    ∙ ap (λ t. in_place c.args.from.now t c.args.self.now) c.to.view_is)
+    ∙ (ap₂ (λ f p. relocated f (parts_of (string_bytes c.to.inside.text)) p) c.from.view_is c.self.view_is
+    ∙ ap (λ t. relocated c.args.from.now t c.args.self.now) c.to.view_is)
