@@ -15,7 +15,7 @@ use crate::worker::{Pace, work};
 use debounce_book::book::Book;
 use debounce_book::entry::Entry;
 use debounce_book::steps::{root_step, unroot_step};
-use debounce_gate::handler::{DebounceEventHandler, DebounceEventResult};
+use notify_watch::handler::{DebounceEventHandler, DebounceEventResult};
 use file_id_cache::cache::FileIdCache;
 use notify_paths::error::{Error, ErrorKind};
 use notify_paths::path::PathBuf;

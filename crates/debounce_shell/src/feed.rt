@@ -4,7 +4,7 @@ ghost use Rattle.notify_paths.specs.Errors.{out_of_memory};
 
 use crate::clock::now;
 use crate::locked::{Locked, Shared};
-use debounce_gate::gate::feed_one;
+use notify_watch::gate::feed_one;
 use file_id_cache::cache::FileIdCache;
 use notify_paths::error::Error;
 use notify_types::event::Event;

@@ -2,7 +2,7 @@
 //! batches and errors.
 //!
 //! [`debouncer::new_debouncer_opt`] starts it all and returns a [`debouncer::Debouncer`], by which
-//! paths are watched. What happens in a turn of its thread is `turn` of `debounce_gate`, whose contract
+//! paths are watched. What happens in a turn of its thread is `turn` of `notify_watch`, whose contract
 //! says what the handler is called with; what happens under the lock is a step of `debounce_book`.
 //!
 //! ```text

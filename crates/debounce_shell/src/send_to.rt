@@ -1,6 +1,6 @@
 //! Senders of channels as handlers.
 use crossbeam_channel::Sender;
-use debounce_gate::handler::DebounceEventHandler;
+use notify_watch::handler::DebounceEventHandler;
 use std::alloc::{Allocator, Global};
 use std::sync::Wait;
 

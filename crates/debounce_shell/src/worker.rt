@@ -1,7 +1,7 @@
 //! The worker: the debouncer's own thread.
 use crate::clock::now;
-use debounce_gate::gate::{Gate, turn};
-use debounce_gate::handler::{DebounceEventHandler, DebounceEventResult};
+use notify_watch::gate::{Gate, turn};
+use notify_watch::handler::{DebounceEventHandler, DebounceEventResult};
 use notify_paths::error::Error;
 use notify_types::event::{DebouncedEvent, Event};
 use std::alloc::Allocator;

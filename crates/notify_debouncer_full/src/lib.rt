@@ -28,8 +28,6 @@ pub use debounce_book::entry::Entry;
 pub use debounce_book::steps::{Ticked, feed_step, root_step, tick_step, unroot_step};
 pub use debounce_core::data::DebounceDataInner;
 pub use debounce_core::laws::laws_of_runs;
-pub use debounce_gate::gate::{Gate, feed_one, turn};
-pub use debounce_gate::handler::{DebounceEventHandler, DebounceEventResult};
 pub use debounce_model::command::{Command, Reply};
 pub use debounce_model::file_id::FileId;
 pub use debounce_shell::debouncer::{Debouncer, new_debouncer_opt, new_journaled_debouncer};
@@ -62,6 +60,7 @@ pub use notify_types::kind::{
 };
 pub use notify_types::time::{Moment, age};
 pub use notify_watch::config::{Config, WatcherKind};
-pub use notify_watch::handler::EventHandler;
+pub use notify_watch::gate::{Gate, feed_one, turn};
+pub use notify_watch::handler::{DebounceEventHandler, DebounceEventResult, EventHandler};
 pub use notify_watch::watcher::{Task, Watcher, start_task};
 pub use recommended::{RecommendedCache, RecommendedWatcher, new_debouncer};

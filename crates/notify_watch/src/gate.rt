@@ -1,6 +1,6 @@
 //! The way to a book, and what a thread does by it.
 ghost use Rattle.std.specs.Prelude.{◌≡◌, ℕ, Bool, Result};
-ghost use Rattle.debounce_gate.specs.Turn.{Turns, HandsBatch, HandsErrors, refusal_of};
+ghost use Rattle.notify_watch.specs.Turn.{Turns, HandsBatch, HandsErrors, refusal_of};
 
 use crate::handler::{DebounceEventHandler, DebounceEventResult};
 use notify_paths::error::Error;

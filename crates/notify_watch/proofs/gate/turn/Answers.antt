@@ -1,4 +1,4 @@
-use Rattle.debounce_gate.proofs.gate.turn.Goals as goal
+use Rattle.notify_watch.proofs.gate.turn.Goals as goal
 
 pub returns-clause-turned : goal.returns-clause-turned
 returns-clause-turned g c = (
