@@ -10,8 +10,8 @@
 //! queues.push(event)?;
 //! let mut places = Vec::new(rt.alloc());
 //! let due = Due::Expired { timeout: 50, now: 60 };
-//! let mut plan = queues.plan(due)?;
-//! queues.lend_places(&mut plan, &mut places, due)?;
+//! let mut plan = queues.indexed().plan(due)?;
+//! queues.indexed().lend_due(&mut plan, &mut places, due)?;
 //! let opened = queues.trim(due)?;
 //! ```
 #![tactic(auto)]

@@ -1,14 +1,13 @@
 //! The queues of all paths.
-ghost use Rattle.std.specs.Prelude.{◌≡◌, ◌++◌, ◌+◌, ◌<◌, ◌≤◌, ◌^◌, [], OnOk, OnErr, IfOk, false, true, length, option_copied, vec_len, vec_capacity};
+ghost use Rattle.std.specs.Prelude.{◌≡◌, ◌++◌, ◌+◌, ◌<◌, ◌≤◌, [], OnOk, OnErr, IfOk, false, true, length, option_copied, vec_len, vec_capacity};
 ghost use Rattle.std.specs.List.Sorted.{IsStrictlySortedBy};
 ghost use Rattle.std.specs.Map.{keys_of};
 ghost use Rattle.notify_paths.specs.Path.{path_cmp};
-ghost use Rattle.notify_types.specs.Borrowed.{borrowed};
 ghost use Rattle.notify_types.specs.Event.{first_of};
-ghost use Rattle.front_index.specs.Plan.{IsLent, IsPlan, moves};
-ghost use Rattle.debounce_model.specs.Due.{place_list, rests, is_any_due, due_fronts};
+ghost use Rattle.front_index.specs.Plan.{IsLent, moves};
+ghost use Rattle.debounce_model.specs.Due.{place_list, rests, due_fronts};
 ghost use Rattle.debounce_model.specs.Memory.{skips_it, cancels};
-ghost use Rattle.debounce_model.specs.Queues.{was_created_at, push, removal, waiting_in};
+ghost use Rattle.debounce_model.specs.Queues.{was_created_at, push, removal};
 ghost use Rattle.debounce_model.specs.Rename.{is_both_kind};
 ghost use Rattle.event_queue.specs.Due.{is_due};
 ghost use Rattle.debounce_queues.specs.Removals.{cancelled, replaced};
@@ -90,6 +89,13 @@ impl<A: Allocator + Copy> Queues<A> {
         }
     }
 
+    /// Returns the queues with their index, to look at them: whether something is due, and what.
+    pub fn indexed(&self) -> &IndexedQueues<A>
+        ensures { result.now ≡ self.now }
+    {
+        &self.queues
+    }
+
     /// The push: the event comes after the others of its first path, unless their queue skips it. If
     /// the allocation fails, nothing has changed; none is needed for an event that is skipped.
     pub fn push(&mut self, event: DebouncedEvent<A>) -> Result<(), AllocError>
@@ -146,37 +152,6 @@ impl<A: Allocator + Copy> Queues<A> {
         join(&mut self.queues, rename)
     }
 
-    /// Whether the front of some queue is due.
-    pub fn is_any_due(&self, due: Due) -> bool
-        ensures { result ≡ is_any_due (is_due due) self.now }
-    {
-        self.queues.is_any_due(due)
-    }
-
-    /// Returns how a tick comes to the queues that are due. The plan is for the queues as they are now.
-    pub fn plan(&self, due: Due) -> Result<DuePlan<A>, AllocError>
-        ensures { IfOk result (λ plan. IsPlan due self.now plan) }
-    {
-        self.queues.plan(due)
-    }
-
-    /// Adds references to what is due, in the order of the paths: of each queue's due beginning the
-    /// last of each kind. If an allocation fails, `places` may hold some of them.
-    pub fn lend_places<'a>(
-        &'a self,
-        plan: &mut DuePlan<A>,
-        places: &mut Vec<&'a DebouncedEvent<A>, A>,
-        due: Due,
-    ) -> Result<(), AllocError>
-        requires { IsPlan due self.now plan.old }
-        ensures places { OnOk result (borrowed places.new.items
-            ≡ borrowed places.old.items ++ place_list (is_due due) self.now) }
-        ensures lent { OnOk result (IsLent due self.now plan.new) }
-        ensures same { moves plan.new ≡ moves plan.old }
-    {
-        self.queues.lend_due(plan, places, due)
-    }
-
     /// Moves what is due to the end of `out`, which has room for it, in the order of the paths, and
     /// returns how many queues had something. The plan is one that moves, and it has lent. If an
     /// allocation fails, nothing has changed.
@@ -209,13 +184,5 @@ impl<A: Allocator + Copy> Queues<A> {
         ensures unchanged { OnErr result (self.new ≡ self.old) }
     {
         self.queues.trim(due)
-    }
-
-    /// Returns how many events wait.
-    pub fn waiting(&self) -> u64
-        requires { waiting_in self.now < 2 ^ 64 }
-        ensures { result ≡ waiting_in self.now }
-    {
-        self.queues.waiting()
     }
 }
