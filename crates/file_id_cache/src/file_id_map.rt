@@ -1,7 +1,10 @@
 //! The cache of the numbers that scans found.
-ghost use Rattle.std.specs.Prelude.{◌≡◌, ◌==◌, ◌≤◌, ◌↔◌, [], length, OnOk, OnErr, IfOk, IsOk, IsTrue};
+ghost use Rattle.std.specs.Prelude.{◌≡◌, ◌==◌, ◌≤◌, [], length, OnOk, OnErr, IfOk, IsOk};
 ghost use Rattle.std.specs.HashMap.{spare};
-ghost use Rattle.file_id_cache.specs.FileIdMap.{Holds, IsRemoved, numbers_in, with_pairs, without_path, map_rules};
+ghost use Rattle.std.specs.List.{IsDistinct};
+ghost use Rattle.std.specs.Map.{keys_of};
+ghost use Rattle.notify_paths.specs.Path.{path_eq};
+ghost use Rattle.file_id_cache.specs.FileIdMap.{Holds, IsRemoved, count_with, entries_without, numbers_in, with_pairs, without_path, map_rules};
 ghost use Rattle.file_id_cache.specs.FileIdMapLaws.{map-rescan, map-stopped};
 
 use crate::cache::FileIdCache;
@@ -55,9 +58,10 @@ impl<S, A: Allocator + Copy> FileIdMap<S, A> {
         &self.scan
     }
 
-    /// Returns how many paths have a number.
+    /// Returns how many paths have a number. No path has two, so the numbers alone decide how many.
     pub fn len(&self) -> usize
-        ensures { result ≡ length self.now.entries }
+        ensures count { result ≡ length self.now.entries }
+        ensures law { IsDistinct path_eq (keys_of self.now.entries) }
     {
         self.entries.len()
     }
@@ -77,7 +81,7 @@ impl<S: Scan<A>, A: Allocator + Copy> FileIdCache<A> for FileIdMap<S, A> {
         self.entries.get(path).copied()
     }
 
-    /// Scans the path, and puts what was found over the numbers. If an allocation fails, the numbers
+    /// Scans the path, and puts what was found over the numbers. If an allocation fails, the entries
     /// stay as they were.
     fn add_path(&mut self, path: &PathBuf<A>, mode: RecursiveMode) -> Result<(), Error<A>> {
         self.scan.scan(path, mode == RecursiveMode::Recursive)?;
@@ -109,7 +113,9 @@ fn put_copies<A: Allocator + Copy>(
 ) -> Result<(), AllocError>
     ensures ok { OnOk result
         (Holds entries.new.entries (with_pairs (numbers_in entries.old.entries) pairs.now)) }
-    ensures err { OnErr result (Holds entries.new.entries (numbers_in entries.old.entries)) }
+    ensures count { OnOk result
+        (length entries.new.entries ≡ count_with entries.old.entries pairs.now) }
+    ensures err { OnErr result (entries.new.entries ≡ entries.old.entries) }
 {
     let copies = clone_pairs(alloc, pairs)?;
     entries.reserve(copies.len())?;
@@ -133,8 +139,11 @@ fn clone_pairs<A: Allocator + Copy>(
 
 /// Puts the pairs over the entries, which have room for them.
 fn put_pairs<A: Allocator + Clone>(entries: &mut Entries<A>, pairs: Vec<(PathBuf<A>, FileId), A>)
-    requires { length pairs.items ≤ spare entries.old }
-    ensures { Holds entries.new.entries (with_pairs (numbers_in entries.old.entries) pairs.items) }
+    requires room { length pairs.items ≤ spare entries.old }
+    requires law { IsDistinct path_eq (keys_of entries.old.entries) }
+    ensures ok { Holds entries.new.entries
+        (with_pairs (numbers_in entries.old.entries) pairs.items) }
+    ensures law { IsDistinct path_eq (keys_of entries.new.entries) }
 {
     for (path, id) in pairs {
         match entries.insert(path, id) {
@@ -145,7 +154,9 @@ fn put_pairs<A: Allocator + Clone>(entries: &mut Entries<A>, pairs: Vec<(PathBuf
 
 /// Drops the entries at the path and below it.
 fn drop_at_or_below<A: Allocator>(entries: &mut Entries<A>, path: &PathBuf<A>)
-    ensures { Holds entries.new.entries (without_path (numbers_in entries.old.entries) path.now) }
+    ensures ok { Holds entries.new.entries
+        (without_path (numbers_in entries.old.entries) path.now) }
+    ensures left { entries.new.entries ≡ entries_without entries.old.entries path.now }
 {
     entries.retain(|key, _| !key.starts_with(path));
 }

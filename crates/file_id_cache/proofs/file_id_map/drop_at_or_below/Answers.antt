@@ -13,8 +13,13 @@ cond-not : {X : Type 0} (b : Bool) (x y : X) → cond (not b) x y ≡ cond b y x
 cond-not true x y = refl
 cond-not false x y = refl
 
-pub returns : goal.returns
-returns g c = λ p.
+pub returns-clause-left : goal.returns-clause-left
+returns-clause-left g c =
+    filter_same_pairs _ (λ e. not (is_prefix c.args.path.now e.0)) _ (λ k v b w f' t. search rules)
+    c.args.entries.now.entries c.retain.new.self.entries c.retain.ensures.filtered
+
+pub returns-clause-ok : goal.returns-clause-ok
+returns-clause-ok g c = λ p.
     let path = c.args.path.now in
     let es = c.args.entries.now.entries in
     let after = c.retain.new.self.entries in

@@ -38,11 +38,12 @@ loop-path-preserved g c =
           (i.put p);
       left = rw (append_assoc, ← e.0) i.left;
       counted = omega (arith, ap length e.0, e.1, i.counted);
+      law = c.insert.ensures.unique;
       room = omega (arith, c.insert.ensures.spare, e.1, i.room);
     }
 
-pub returns : goal.returns
-returns g c = λ p.
+pub returns-clause-ok : goal.returns-clause-ok
+returns-clause-ok g c = λ p.
     let i = c.loop-path.invariant in
     let before = numbers_in c.args.entries.now.entries in
     let all = all_taken c.loop-path.yielded _ _ _ i.left i.counted c.in-None.ensures.steps.0 in

@@ -3,4 +3,4 @@ use Rattle.std.proofs.Common.{rules}
 use Rattle.file_id_cache.proofs.file_id_map.FileIdMapFileIdCache.add_path.Goals as goal
 
 pub returns-clause-ok : goal.returns-clause-ok
-returns-clause-ok g c = record { scan = search rules; numbers = search rules }
+returns-clause-ok g c = record { scan = search rules; numbers = search rules; count = search rules }
