@@ -63,5 +63,5 @@ pub use notify_types::kind::{
 pub use notify_types::time::{Moment, age};
 pub use notify_watch::config::{Config, WatcherKind};
 pub use notify_watch::handler::EventHandler;
-pub use notify_watch::watcher::{Task, Watcher, start_task};
+pub use notify_watch::watcher::{ListingWatcher, Task, Watcher, start_task};
 pub use recommended::{RecommendedCache, RecommendedWatcher, new_debouncer};
