@@ -3,10 +3,12 @@ ghost use Rattle.std.specs.Prelude.{◌≡◌, ◌↔◌, ◌⊎◌, None, IfErr
 ghost use Rattle.std.specs.Duration.{as_nanos};
 ghost use Rattle.notify_paths.specs.Errors.{out_of_memory};
 ghost use Rattle.notify_watch.specs.Config.{not_started};
-ghost use Rattle.debounce_book.specs.Journal.{IsJournal};
+ghost use Rattle.debounce_model.specs.State.{State};
+ghost use Rattle.debounce_model.specs.Tick.{IsOutlook};
+ghost use Rattle.debounce_book.specs.Journal.{IsJournal, IsLegal};
 ghost use Rattle.debounce_book.specs.JournalLaws.{LosesNoChange, GivesRawPaths, InventsNoRename};
 ghost use Rattle.debounce_shell.specs.Start.{IsIo, IsStartError, IsStopped, IsTooSlow, too_slow, tick_nanos};
-ghost use Rattle.debounce_shell.specs.Watched.{AsksFirst};
+ghost use Rattle.debounce_shell.specs.Watched.{AsksFirst, ListsFirst};
 
 use crate::clock::start_of;
 use crate::feed::Feed;
@@ -19,14 +21,14 @@ use notify_watch::handler::{DebounceEventHandler, DebounceEventResult};
 use file_id_cache::cache::FileIdCache;
 use notify_paths::error::{Error, ErrorKind};
 use notify_paths::path::PathBuf;
-use notify_types::event::RecursiveMode;
+use notify_types::event::{DebouncedEvent, RecursiveMode};
 use notify_types::time::Moment;
 use notify_watch::config::{Config, WatcherKind};
-use notify_watch::watcher::{Watcher, start_task};
+use notify_watch::watcher::{ListingWatcher, Watcher, start_task};
 use std::alloc::{Allocator, Global};
 use std::fs::Files;
-use std::sync::Wait;
 use std::sync::atomic::Ordering;
+use std::sync::{Arc, Wait};
 use std::thread::{JoinHandle, Threads};
 use std::time::{Clock, Duration, Instant};
 use std::{io, thread};
@@ -34,7 +36,7 @@ use std::{io, thread};
 /// A debouncer that runs: a watcher of type `T` feeds it, and a thread of its own calls the handler.
 /// `C` is the cache of file numbers, and `R` the runtime.
 ///
-/// Dropping it asks its thread to end, and does not wait for it.
+/// Dropping it asks its thread to end, and does not wait for it. What still waits then is dropped.
 pub struct Debouncer<T: Drop, C: Drop, R: Threads + Wait + Drop, A: Allocator = Global> {
     watcher: T,
     shared: Shared<C, R, A>,
@@ -59,7 +61,10 @@ impl<T: Drop, C: Drop, R: Threads + Wait + Drop, A: Allocator> Drop for Debounce
 /// A tick rate above the timeout is refused as `Generic`, with the empty text, before memory is asked
 /// for and before anything starts. Otherwise what fails is a clock or a thread (`Io`), an allocation
 /// (`Memory`), or the watcher, whose own error is passed on; then nothing goes on running, once the
-/// debouncer's thread has slept out its tick.
+/// debouncer's thread has seen that it is to end.
+///
+/// A thread sleeps a millisecond at least, also if the tick rate is less, and looks ten times a second
+/// whether it is to end.
 pub fn new_debouncer_opt<
     F: DebounceEventHandler<DebounceEventResult<A>>,
     T: Watcher<Feed<C, R, A>, R, A>,
@@ -244,12 +249,21 @@ impl<
     /// is its own matter.
     ///
     /// The watcher comes first: if it refuses, its error is passed on, and the roots are as they were.
-    /// They are also as they were if memory is refused then.
+    /// They are also as they were if memory is refused then; `remove_root` does what is left to do.
     pub fn unwatch(&mut self, path: &PathBuf<A>) -> Result<(), Error<A>>
         ensures { AsksFirst (λ answer.
             T.unwatches self.old.watcher path.now answer self.new.watcher) result }
     {
         self.watcher.unwatch(path)?;
+        let mut book = self.shared.book.lock(&self.shared.rt);
+        unroot_step(&mut book, path)
+    }
+
+    /// Drops a root, and the roots below it, and leaves the watcher as it is: what is left to do of an
+    /// `unwatch` that was refused as `Memory` after the watcher had agreed. It can be tried again.
+    pub fn remove_root(&mut self, path: &PathBuf<A>) -> Result<(), Error<A>>
+        ensures err { IfErr result (λ e. e ≡ out_of_memory) }
+    {
         let mut book = self.shared.book.lock(&self.shared.rt);
         unroot_step(&mut book, path)
     }
@@ -274,8 +288,54 @@ impl<
         self.shared.missed.load(Ordering::SeqCst)
     }
 
+    /// Returns what waits, in the order of a batch: the batch that would be emitted if all of it were as
+    /// old as the timeout. It goes on waiting.
+    pub fn outlook(&self) -> Result<Vec<DebouncedEvent<A>, A>, Error<A>>
+        ensures outlook { IfOk result (λ batch. (s : State) × IsOutlook s batch.items) }
+        ensures err { IfErr result (λ e. e ≡ out_of_memory) }
+    {
+        let book = self.shared.book.lock(&self.shared.rt);
+        book.outlook()
+    }
+
+    /// Stops the watcher and the debouncer's thread, waits until both have ended, and returns the book
+    /// and how many events and errors were missed in all. A turn that has begun is finished, as by
+    /// `stop`, and what the watcher reports until it has ended goes to the book.
+    ///
+    /// In the book is what was never emitted: its `outlook` is what waits, in the order of a batch, and
+    /// `core().pending_errors()` are the errors. A reader that applies each batch and then that outlook
+    /// has applied all that the watcher reported, but for what was missed. The journal comes out by
+    /// `into_journal`, and is not copied.
+    ///
+    /// It waits until each [`Feed`] was dropped: for ever, if a watcher keeps one after its own drop.
+    pub fn finish(self) -> (Book<C, A>, u64)
+        ensures legal { IfSome result.0.journal (λ es. IsLegal es result.0.core.state) }
+    {
+        self.shared.set_stop();
+        let Self {
+            watcher,
+            shared,
+            worker,
+        } = self;
+        drop(watcher);
+        worker.join(&shared.rt);
+        let Shared {
+            rt,
+            alloc: _,
+            book,
+            stop: _,
+            missed,
+        } = shared;
+        let book = wait_for_last(&rt, book).into_inner();
+        // The proof reads here that the journal is legal.
+        let _ = book.is_journaled();
+        (book, missed.load(Ordering::SeqCst))
+    }
+
     /// Stops the watcher and the debouncer's thread, and waits until that thread has ended. A turn that
     /// has begun is finished, so the handler can be called once more with a batch and once with errors.
+    /// What still waits then is dropped; `finish` returns it. A handler can't call either, since a
+    /// debouncer isn't `Send`.
     pub fn stop(self) {
         self.shared.set_stop();
         let Self {
@@ -311,4 +371,45 @@ impl<
         let book = shared.book.lock(&shared.rt);
         book.journal()
     }
+}
+
+impl<
+    T: ListingWatcher<Feed<C, R, A>, R, A>,
+    C: FileIdCache<A> + Drop + Send + 'static,
+    R: Threads + Wait + Clock + Files + Copy + Send + Sync + 'static,
+    A: Allocator + Copy + Send + Sync + 'static,
+> Debouncer<T, C, R, A> {
+    /// Watches a path as `watch` does, and returns what stands there: the batches tell how this changes.
+    ///
+    /// A batch can be emitted before this returns. A program that keeps a set of paths puts these in
+    /// first, and then plays the batches, as those that a `SendTo` has sent.
+    ///
+    /// If the memory for the root is refused, the watcher goes on watching until `unwatch`; another call
+    /// returns what stands there then.
+    pub fn watch_listed(
+        &mut self,
+        path: &PathBuf<A>,
+        mode: RecursiveMode,
+    ) -> Result<T::Listing, Error<A>>
+        ensures { ListsFirst (λ answer.
+            T.lists self.old.watcher path.now mode answer self.new.watcher) result }
+    {
+        let listing = self.watcher.watch_listed(path, mode)?;
+        let mut book = self.shared.book.lock(&self.shared.rt);
+        root_step(&mut book, path, mode)?;
+        Ok(listing)
+    }
+}
+
+/// Waits until all others have dropped the value, and returns it.
+fn wait_for_last<T, R: Wait + Clock, A: Allocator>(rt: &R, shared: Arc<T, A>) -> T {
+    let mut shared = shared;
+    for _ in rt.forever() {
+        match Arc::try_unwrap(shared) {
+            Ok(value) => return value,
+            Err(back) => shared = back,
+        }
+        thread::sleep(rt, Duration::from_millis(1));
+    }
+    unreachable!()
 }

@@ -115,7 +115,7 @@ fn put_copies<A: Allocator + Copy>(
         (Holds entries.new.entries (with_pairs (numbers_in entries.old.entries) pairs.now)) }
     ensures count { OnOk result
         (length entries.new.entries ≡ count_with entries.old.entries pairs.now) }
-    ensures err { OnErr result (entries.new.entries ≡ entries.old.entries) }
+    ensures unchanged { OnErr result (entries.new.entries ≡ entries.old.entries) }
 {
     let copies = clone_pairs(alloc, pairs)?;
     entries.reserve(copies.len())?;

@@ -62,5 +62,5 @@ pub use notify_types::time::{Moment, age};
 pub use notify_watch::config::{Config, WatcherKind};
 pub use notify_watch::gate::{Gate, feed_one, turn};
 pub use notify_watch::handler::{DebounceEventHandler, DebounceEventResult, EventHandler};
-pub use notify_watch::watcher::{Task, Watcher, start_task};
+pub use notify_watch::watcher::{ListingWatcher, Task, Watcher, start_task};
 pub use recommended::{RecommendedCache, RecommendedWatcher, new_debouncer};

@@ -1,5 +1,5 @@
 -- What a polling watcher keeps, and what its steps leave of it.
-use Rattle.std.specs.Prelude.{◌≡◌, ℕ, Bool, true, false, not, List, [], ◌∷◌, ◌++◌, filter, Option, IfSome, ◌⊎◌}
+use Rattle.std.specs.Prelude.{◌≡◌, ℕ, Bool, true, false, not, List, [], ◌∷◌, ◌++◌, filter, Option, None, IfSome, Result, Ok, Err, ◌⊎◌}
 use Rattle.std.specs.List.{list_any}
 use Rattle.notify_paths.specs.Errors.{ErrorValue, ErrorKindValue, GenericKind, IoKind, PathNotFoundKind, WatchNotFoundKind, FullKind, MemoryKind}
 use Rattle.notify_paths.specs.Path.{PathValue, path_eq}
@@ -43,6 +43,13 @@ Watches old root first new =
 abbrev pub ShowsFirst : Option ListingValue → PathValue × RecursiveMode → ListingValue → Type 0
 ShowsFirst told root first = IfSome told (λ tree. IsTree tree → first ≡ shown tree (root ∷ []))
 
+-- the root is watched, and this is what it shows of the last listing then
+abbrev pub Lists : Option ListingValue → PolledValue → PathValue × RecursiveMode → ListingValue → PolledValue
+    → Type 0
+Lists told old root listed new =
+    ((first : ListingValue) × ShowsFirst told root first × Watches old root first new)
+    × (listed ≡ seen new.last (root ∷ []))
+
 -- nothing stands at the root's path, if the folders tell their tree
 abbrev pub LacksRoot : Option ListingValue → PathValue × RecursiveMode → Type 0
 LacksRoot told root = IfSome told (λ tree. IsTree tree → has_entry (shown tree (root ∷ [])) root.0 ≡ false)
@@ -76,3 +83,8 @@ IsWatchError e = (e ≡ path_not_found) ⊎ (IsFailure e.kind × (e.paths ≡ []
 -- .. and why it doesn't unwatch one
 abbrev pub IsUnwatchError : ErrorValue → Type 0
 IsUnwatchError e = e ≡ watch_not_found
+
+-- a watcher over real folders, which watched some roots, watches this one too and lists it, or says why not
+abbrev pub ListsOrRefuses : PathValue × RecursiveMode → Result ListingValue ErrorValue → Type 0
+ListsOrRefuses root (Ok listed) = (old : PolledValue) × (new : PolledValue) × Lists None old root listed new
+ListsOrRefuses root (Err e) = IsWatchError e

@@ -22,7 +22,8 @@ impl Default for Config {
 }
 
 impl Config {
-    /// Sets how long a polling watcher sleeps between two looks at its folders.
+    /// Sets how long a polling watcher sleeps between two looks at its folders: a millisecond at least,
+    /// also if the interval is less.
     pub fn with_poll_interval(self, interval: Duration) -> Config
         ensures { result ≡ record self { poll_interval = interval } }
     {
