@@ -3,7 +3,7 @@ use Rattle.std.specs.Prelude.{◌≡◌, ◌<◌, ◌==◌, ℕ, Bool, true, fal
 use Rattle.std.specs.List.{AllByRecursion}
 use Rattle.std.specs.declared.io.ErrorKind.TheVariants.{Other}
 use Rattle.std.specs.declared.vec.Vec.{Vec}
-use Rattle.notify_paths.specs.Errors.{ErrorValue, FullKind, MemoryKind, IoKind, GenericKind}
+use Rattle.notify_paths.specs.Errors.{ErrorValue, ErrorKindValue, FullKind, MemoryKind, IoKind, GenericKind, PathNotFoundKind, WatchNotFoundKind}
 use Rattle.debounce_model.specs.Command.{CommandValue, ReplyValue, TakenReply}
 use Rattle.debounce_model.specs.CommandView.{command_values}
 use Rattle.debounce_model.specs.Equality.{command_eq}
@@ -55,6 +55,15 @@ refusal_error refusal.Full = record { kind = FullKind; paths = [] }
 refusal_error refusal.Memory = record { kind = MemoryKind; paths = [] }
 refusal_error refusal.NotStarted = record { kind = IoKind Other; paths = [] }
 refusal_error refusal.Differs = record { kind = GenericKind []; paths = [] }
+
+-- the refusal of a command that was refused with an error of this kind
+abbrev pub refusal_of : ErrorKindValue → Refusal
+refusal_of FullKind = refusal.Full
+refusal_of MemoryKind = refusal.Memory
+refusal_of (GenericKind text) = refusal.Memory
+refusal_of (IoKind kind) = refusal.Memory
+refusal_of PathNotFoundKind = refusal.Memory
+refusal_of WatchNotFoundKind = refusal.Memory
 
 -- an error of a run that has no journal
 abbrev pub IsRefusal : ErrorValue → Type 0

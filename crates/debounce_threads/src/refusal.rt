@@ -1,6 +1,6 @@
 //! Why a run in threads has no journal.
-ghost use Rattle.std.specs.Prelude.{◌≡◌};
-ghost use Rattle.debounce_threads.specs.Merged.{refusal_error};
+ghost use Rattle.std.specs.Prelude.{◌≡◌, ◌⊎◌};
+ghost use Rattle.debounce_threads.specs.Merged.{refusal_error, refusal_of};
 
 use notify_paths::error::{Error, ErrorKind};
 use std::alloc::Allocator;
@@ -21,7 +21,10 @@ pub enum Refusal {
 
 impl Refusal {
     /// The refusal of a command that was refused with this error.
-    pub(crate) fn of<A: Allocator>(error: &Error<A>) -> Refusal {
+    pub(crate) fn of<A: Allocator>(error: &Error<A>) -> Refusal
+        ensures value { result ≡ refusal_of error.now.kind }
+        ensures step { (result ≡ Refusal.Full) ⊎ (result ≡ Refusal.Memory) }
+    {
         match error.kind {
             ErrorKind::Full => Refusal::Full,
             _ => Refusal::Memory,
