@@ -1,9 +1,10 @@
 //! Listings one after the other, a debouncer that is given what changed, and a reader of its batches.
+use crate::build::path;
 use crate::cache::add_batch;
-use crate::trees::{entries, listing};
+use crate::trees::{Notes, entries, listing, tree};
 use folder_listing::compare::compare;
 use notify_debouncer_full::{
-    Command, DebounceDataInner, DebouncedEvent, Listing, NoCache, PathBuf,
+    Command, DebounceDataInner, DebouncedEvent, Listing, NoCache, PathBuf, Polled, RecursiveMode,
 };
 use path_sets::PathSet;
 use std::process::Abort;
@@ -104,4 +105,30 @@ fn a_folder_becomes_a_file(rt: HostRuntime) {
         text.as_str(),
         "[Remove(Folder) 10 /d, Create(File) 10 /d, ] "
     );
+}
+
+/// Watches the path in folders that hold these entries, and returns what it begins with.
+fn watch(rt: &(impl Abort + AllocGlobal), polled: &mut Polled, text: &str, place: &str) -> Listing {
+    let mut folders = tree(rt, rt.alloc(), text);
+    polled
+        .watch_listed(
+            &mut folders,
+            &path(rt, rt.alloc(), place),
+            RecursiveMode::Recursive,
+        )
+        .expect(rt, place)
+}
+
+#[test]
+fn a_watch_lists_what_it_takes_from_the_rounds(rt: HostRuntime) {
+    let later = "/ folder, /d folder, /d/f file 2";
+    let mut polled = Polled::new(rt.alloc());
+    watch(&rt, &mut polled, "/ folder, /d folder", "/");
+    // The file came since, and the first root would report it in the next round.
+    let listed = watch(&rt, &mut polled, later, "/d");
+    let mut notes = Notes::new(&rt);
+    polled.round(&mut tree(&rt, rt.alloc(), later), &mut notes);
+    assert_eq!(rt; notes.take().as_str(), "");
+    let differences = compare(rt.alloc(), &listed, &listing(&rt, rt.alloc(), later));
+    assert_eq!(rt; differences.expect(&rt, "memory").len(), 0);
 }

@@ -2,7 +2,7 @@
 ghost use Rattle.std.specs.Prelude.{◌≡◌, ◌⊎◌, ◌++◌, OnOk, IfErr};
 ghost use Rattle.std.specs.String.{string_bytes};
 ghost use Rattle.notify_mirror.specs.Ending.{IsWatchFault, IsWatchStatus};
-ghost use Rattle.notify_mirror.specs.Reports.{report_lines};
+ghost use Rattle.notify_mirror.specs.Reports.{AddsRest, report_lines};
 
 use crate::output::{write_full, write_last};
 use crate::print::{push_error_lines, push_events};
@@ -10,7 +10,7 @@ use crate::run::end;
 use crossbeam_channel::{Receiver, Sender, unbounded};
 use mirror_script::Fault;
 use notify_debouncer_full::{
-    DebounceEventResult, Debouncer, Error, ErrorKind, Feed, PathBuf, RecommendedCache,
+    Book, DebounceEventResult, Debouncer, Error, ErrorKind, Feed, PathBuf, RecommendedCache,
     RecursiveMode, SendTo, Watcher, new_debouncer,
 };
 use std::alloc::{AllocError, Allocator};
@@ -28,7 +28,8 @@ const TIMEOUT: u64 = 1000;
 const TICK: u64 = 250;
 
 /// Watches the folder, and all below it, for so many ticks of a quarter of a second. Then it prints a
-/// line for each event and each error that the debouncer emitted, and last how many it missed.
+/// line for each event and each error that the debouncer emitted, then the same of those that still
+/// waited at the end, and last how many it missed.
 /// Returns the exit status: 0 if all was printed, 4 if an allocation failed, 5 if the folder can't be
 /// watched, 6 if the output failed, 8 if a thread can't be started.
 ///
@@ -60,12 +61,12 @@ fn watch_and_print<
     ensures err { IfErr result (IsWatchFault (O.contents out.old) (O.contents out.new)) }
 {
     let (sender, receiver) = unbounded(alloc)?;
-    let missed = watch::<T, R, A>(rt, alloc, sender, folder, ticks)?;
-    print_reports(&rt, alloc, &receiver, missed, out)
+    let (book, missed) = watch::<T, R, A>(rt, alloc, sender, folder, ticks)?;
+    print_reports(&rt, alloc, &receiver, &book, missed, out)
 }
 
-/// Watches the folder for so many ticks, while what the debouncer emits is sent. Returns how many
-/// events and errors it missed.
+/// Watches the folder for so many ticks, while what the debouncer emits is sent. Returns what it ends
+/// with, and how many events and errors it missed.
 fn watch<
     T: Watcher<Feed<RecommendedCache, R, A>, R, A>,
     R: Threads + Wait + Clock + Files + Copy + Send + Sync + 'static,
@@ -76,7 +77,7 @@ fn watch<
     sender: Sender<DebounceEventResult<A>, A>,
     folder: &str,
     ticks: u64,
-) -> Result<u64, Fault>
+) -> Result<(Book<RecommendedCache, A>, u64), Fault>
     requires takes { (feed : _) → T.takes feed }
     ensures { IfErr result (λ e. (e ≡ Fault.Memory) ⊎ ((e ≡ Fault.CannotWatch) ⊎ (e
         ≡ Fault.NoThread))) }
@@ -89,9 +90,7 @@ fn watch<
     for _ in 0..ticks {
         thread::sleep(&rt, Duration::from_millis(TICK));
     }
-    let missed = debouncer.missed();
-    debouncer.stop();
-    Ok(missed)
+    Ok(debouncer.finish())
 }
 
 /// Starts the debouncer, which emits to the sender.
@@ -127,11 +126,12 @@ fn fault_of<A: Allocator>(error: &Error<A>, other: Fault) -> Fault
     }
 }
 
-/// Prints what was sent, and last how many events and errors were missed.
+/// Prints what was sent, then what waits in the book, and last how many events and errors were missed.
 fn print_reports<R: Wait, A: Allocator + Copy, O: Write>(
     rt: &R,
     alloc: A,
     receiver: &Receiver<DebounceEventResult<A>, A>,
+    book: &Book<RecommendedCache, A>,
     missed: u64,
     out: &mut O,
 ) -> Result<(), Fault>
@@ -142,6 +142,7 @@ fn print_reports<R: Wait, A: Allocator + Copy, O: Write>(
         push_report(&mut text, &report)?;
         write_full(&mut text, out)?;
     }
+    push_rest(&mut text, book)?;
     writeln!(&mut text, "missed {missed}")?;
     write_last(&mut text, out)
 }
@@ -158,4 +159,18 @@ fn push_report<A: Allocator, B: Allocator>(
         Ok(batch) => push_events(text, "event", batch.as_slice()),
         Err(errors) => push_error_lines(text, errors.as_slice()),
     }
+}
+
+/// Appends a line for each event that waits in the book, and then for each error.
+fn push_rest<A: Allocator, B: Allocator + Copy>(
+    text: &mut String<A>,
+    book: &Book<RecommendedCache, B>,
+) -> Result<(), Fault>
+    ensures ok { OnOk result (AddsRest book.now.core.state (string_bytes text.old)
+        (string_bytes text.new)) }
+    ensures err { IfErr result (λ e. e ≡ Fault.Memory) }
+{
+    let rest = book.outlook()?;
+    push_events(text, "event", rest.as_slice())?;
+    Ok(push_error_lines(text, book.core().pending_errors())?)
 }

@@ -6,6 +6,8 @@
 #[cfg(test)]
 mod build;
 #[cfg(test)]
+mod ending;
+#[cfg(test)]
 mod memory;
 #[cfg(test)]
 mod running;

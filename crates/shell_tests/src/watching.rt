@@ -1,6 +1,6 @@
 //! The program's form that watches a folder, over watchers of the tests' own.
 use crate::build::{Heap, new_heap};
-use crate::watchers::{Stubborn, Unmade};
+use crate::watchers::{Replay, Stubborn, Unmade};
 use notify_debouncer_full::{Feed, NoCache, Watcher};
 use notify_mirror::watch_run;
 use std::fs::Files;
@@ -89,4 +89,15 @@ fn a_watch_is_refused_at_each_request(rt: HostRuntime) {
         refused = n;
     }
     assert!(rt; 5 < refused && refused < 99, "{refused}");
+}
+
+#[test]
+fn what_waits_at_the_end_is_printed(rt: HostRuntime) {
+    let heap = new_heap(&rt);
+    let mut out = Vec::new(rt.alloc());
+    let (status, _) = watch::<Replay<HostRuntime, Heap>, _, _>(rt, heap, "/w", &mut out);
+    // Three events, younger than the timeout, an error, and how many were missed.
+    let lines = out.iter().filter(|byte| **byte == b'\n').count();
+    assert_eq!(rt; (status, lines), (0, 5));
+    assert!(rt; out.ends_with(b"missed 0\n"));
 }

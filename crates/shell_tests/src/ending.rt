@@ -1,0 +1,158 @@
+//! Debouncers that end: how soon, and what they give back then.
+use crate::build::{Heap, Host, new_heap, path, sleep_a_turn, start};
+use crate::memory::Silent;
+use crate::running::wait_for_any;
+use crate::watchers::{Replay, Starved};
+use notify_debouncer_full::{
+    Command, Config, DebounceEventResult, Debouncer, ErrorKind, NoCache, PathBuf, RecursiveMode,
+    new_debouncer_opt, new_journaled_debouncer,
+};
+use std::alloc::Global;
+use std::process::Abort;
+use std::sync::Arc;
+use std::sync::atomic::{AtomicU64, Ordering};
+use std::time::{Clock, Duration, Instant};
+
+type Replayed<R> = Debouncer<Replay<R, Global>, NoCache, R>;
+
+/// A debouncer that emits nothing while a test runs, and keeps a journal.
+fn patient<R: Host>(rt: R) -> Replayed<R> {
+    let hour = Duration::from_secs(3600);
+    let ignore = |_outcome: DebounceEventResult| {};
+    let config = Config::default();
+    new_journaled_debouncer(
+        rt,
+        rt.alloc(),
+        hour,
+        Some(hour),
+        ignore,
+        NoCache::new(),
+        config,
+    )
+    .expect(&rt, "a debouncer")
+}
+
+/// How many milliseconds have gone by since the moment.
+fn millis_since(rt: &(impl Abort + Clock), start: Instant) -> u128 {
+    start.elapsed(rt).expect(rt, "a clock").as_millis()
+}
+
+#[test]
+fn what_was_never_emitted_is_in_the_book(rt: HostRuntime) {
+    let mut debouncer = patient(rt);
+    debouncer
+        .watch(&path(&rt, rt.alloc(), "/w"), RecursiveMode::Recursive)
+        .expect(&rt, "a watch");
+    let seen = debouncer.outlook().expect(&rt, "memory");
+    let (book, missed) = debouncer.finish();
+    let rest = book.outlook().expect(&rt, "memory");
+    assert!(rt; rest == seen);
+    assert_eq!(rt; (rest.len(), missed), (3, 0));
+    assert_eq!(rt; book.core().pending_errors().len(), 1);
+    let (timeout, journal) = book.into_journal();
+    assert_eq!(rt; (timeout, journal.len()), (3_600_000_000_000, 5));
+}
+
+/// Whether a debouncer with a tick of an hour is stopped within a second, and another finished.
+fn is_stopped_soon<R: Host>(rt: R) -> bool {
+    let start = Instant::now(&rt).expect(&rt, "a clock");
+    patient(rt).stop();
+    let stopped = millis_since(&rt, start);
+    patient(rt).finish();
+    stopped < 1000 && millis_since(&rt, start) < 2000
+}
+
+#[test]
+fn a_long_tick_does_not_hold_up_a_stop(rt: HostRuntime) {
+    // A machine that is busy elsewhere may need another try.
+    assert!(rt; is_stopped_soon(rt) || is_stopped_soon(rt) || is_stopped_soon(rt));
+}
+
+#[test]
+fn a_tick_of_nothing_does_not_spin(rt: HostRuntime) {
+    let start = Instant::now(&rt).expect(&rt, "a clock");
+    let made: Result<Replayed<HostRuntime>, _> = new_journaled_debouncer(
+        rt,
+        rt.alloc(),
+        Duration::from_millis(4),
+        Some(Duration::from_nanos(0)),
+        |_outcome: DebounceEventResult| {},
+        NoCache::new(),
+        Config::default(),
+    );
+    let debouncer = made.expect(&rt, "a debouncer");
+    for _ in 0..20 {
+        sleep_a_turn(&rt);
+    }
+    let (_, journal) = debouncer.stop_journal().expect(&rt, "memory");
+    let ticks = journal
+        .iter()
+        .filter(|entry| matches!(entry.command, Command::Tick(_)))
+        .count();
+    assert!(rt;
+        ticks as u128 <= millis_since(&rt, start).saturating_add(1),
+        "{ticks}"
+    );
+}
+
+#[test]
+fn a_closure_counts_what_it_cannot_send(rt: HostRuntime) {
+    let (to, from) = crossbeam_channel::unbounded(rt.alloc()).expect(&rt, "memory");
+    let lost = Arc::new(rt.alloc(), AtomicU64::new(0)).expect(&rt, "memory");
+    let count = Arc::try_clone(&lost).expect(&rt, "memory");
+    let send = move |outcome: DebounceEventResult| {
+        if to.send(&rt, outcome).is_err() {
+            count.fetch_add(1, Ordering::SeqCst);
+        }
+    };
+    drop(from);
+    let made: Result<Replayed<HostRuntime>, _> = new_debouncer_opt(
+        rt,
+        rt.alloc(),
+        Duration::from_millis(4),
+        None,
+        send,
+        NoCache::new(),
+        Config::default(),
+    );
+    let mut debouncer = made.expect(&rt, "a debouncer");
+    debouncer
+        .watch(&path(&rt, rt.alloc(), "/w"), RecursiveMode::Recursive)
+        .expect(&rt, "a watch");
+    let counted = wait_for_any(&rt, &lost);
+    debouncer.finish();
+    assert!(rt; counted);
+}
+
+/// Watches the path no longer, without memory. Returns whether memory was what lacked.
+fn is_starved<R: Host>(
+    heap: Heap,
+    debouncer: &mut Debouncer<Starved<R>, NoCache, R, Heap>,
+    place: &PathBuf<Heap>,
+) -> bool {
+    heap.refuse(u64::MAX);
+    let refusal = debouncer.unwatch(place).err().map(|error| error.kind);
+    heap.refuse(0);
+    refusal == Some(ErrorKind::Memory)
+}
+
+#[test]
+fn a_root_that_a_refused_unwatch_left_is_removed(rt: HostRuntime) {
+    let heap = new_heap(&rt);
+    let hour = Duration::from_secs(3600);
+    let mut debouncer: Debouncer<Starved<HostRuntime>, NoCache, HostRuntime, Heap> = start(
+        rt, heap, hour, Silent,
+    );
+    let place = path(&rt, heap, "/w");
+    debouncer
+        .watch(&place, RecursiveMode::Recursive)
+        .expect(&rt, "memory");
+    let starved = is_starved(heap, &mut debouncer, &place);
+    let removed = debouncer.remove_root(&place).is_ok();
+    let (book, _) = debouncer.finish();
+    let mode = book.core().recursive_mode(&place);
+    assert_eq!(rt;
+        (starved, removed, mode),
+        (true, true, RecursiveMode::NonRecursive)
+    );
+}
