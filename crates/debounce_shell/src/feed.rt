@@ -4,11 +4,11 @@ ghost use Rattle.notify_paths.specs.Errors.{out_of_memory};
 
 use crate::clock::now;
 use crate::locked::{Locked, Shared};
-use notify_watch::gate::feed_one;
 use file_id_cache::cache::FileIdCache;
 use notify_paths::error::Error;
 use notify_types::event::Event;
 use notify_types::kind::{EventKind, ModifyKind, RenameMode};
+use notify_watch::gate::feed_one;
 use notify_watch::handler::EventHandler;
 use std::alloc::{Allocator, Global};
 use std::fs::Files;

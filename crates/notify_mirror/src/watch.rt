@@ -61,12 +61,12 @@ fn watch_and_print<
     ensures err { IfErr result (IsWatchFault (O.contents out.old) (O.contents out.new)) }
 {
     let (sender, receiver) = unbounded(alloc)?;
-    let (book, missed) = watch::<T, R, A>(rt, alloc, sender, folder, ticks)?;
-    print_reports(&rt, alloc, &receiver, &book, missed, out)
+    let last = watch::<T, R, A>(rt, alloc, sender, folder, ticks)?;
+    print_reports(&rt, alloc, &receiver, last.as_str(), out)
 }
 
-/// Watches the folder for so many ticks, while what the debouncer emits is sent. Returns what it ends
-/// with, and how many events and errors it missed.
+/// Watches the folder for so many ticks, while what the debouncer emits is sent. Returns the lines that
+/// are printed last.
 fn watch<
     T: Watcher<Feed<RecommendedCache, R, A>, R, A>,
     R: Threads + Wait + Clock + Files + Copy + Send + Sync + 'static,
@@ -77,7 +77,7 @@ fn watch<
     sender: Sender<DebounceEventResult<A>, A>,
     folder: &str,
     ticks: u64,
-) -> Result<(Book<RecommendedCache, A>, u64), Fault>
+) -> Result<String<A>, Fault>
     requires takes { (feed : _) → T.takes feed }
     ensures { IfErr result (λ e. (e ≡ Fault.Memory) ⊎ ((e ≡ Fault.CannotWatch) ⊎ (e
         ≡ Fault.NoThread))) }
@@ -90,7 +90,33 @@ fn watch<
     for _ in 0..ticks {
         thread::sleep(&rt, Duration::from_millis(TICK));
     }
-    Ok(debouncer.finish())
+    Ok(end_watch(alloc, debouncer)?)
+}
+
+/// Ends the watch, and returns the lines that are printed last.
+fn end_watch<
+    T: Watcher<Feed<RecommendedCache, R, A>, R, A>,
+    R: Threads + Wait + Clock + Files + Copy + Send + Sync + 'static,
+    A: Allocator + Copy + Send + Sync + 'static,
+>(alloc: A, debouncer: Debouncer<T, RecommendedCache, R, A>) -> Result<String<A>, Fault>
+    ensures { IfErr result (λ e. e ≡ Fault.Memory) }
+{
+    let (book, missed) = debouncer.finish();
+    last_lines(alloc, &book, missed)
+}
+
+/// What is printed last: what waits in the book, and how many events and errors were missed.
+fn last_lines<A: Allocator + Copy>(
+    alloc: A,
+    book: &Book<RecommendedCache, A>,
+    missed: u64,
+) -> Result<String<A>, Fault>
+    ensures { IfErr result (λ e. e ≡ Fault.Memory) }
+{
+    let mut text = String::new(alloc);
+    push_rest(&mut text, book)?;
+    writeln!(&mut text, "missed {missed}")?;
+    Ok(text)
 }
 
 /// Starts the debouncer, which emits to the sender.
@@ -126,13 +152,12 @@ fn fault_of<A: Allocator>(error: &Error<A>, other: Fault) -> Fault
     }
 }
 
-/// Prints what was sent, then what waits in the book, and last how many events and errors were missed.
+/// Prints what was sent, and then these last lines.
 fn print_reports<R: Wait, A: Allocator + Copy, O: Write>(
     rt: &R,
     alloc: A,
     receiver: &Receiver<DebounceEventResult<A>, A>,
-    book: &Book<RecommendedCache, A>,
-    missed: u64,
+    last: &str,
     out: &mut O,
 ) -> Result<(), Fault>
     ensures { IfErr result (λ e. (e ≡ Fault.Memory) ⊎ (e ≡ Fault.OutputFailed)) }
@@ -142,8 +167,7 @@ fn print_reports<R: Wait, A: Allocator + Copy, O: Write>(
         push_report(&mut text, &report)?;
         write_full(&mut text, out)?;
     }
-    push_rest(&mut text, book)?;
-    writeln!(&mut text, "missed {missed}")?;
+    text.push_str(last)?;
     write_last(&mut text, out)
 }
 

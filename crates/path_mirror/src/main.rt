@@ -5,8 +5,8 @@
 use anyhow::{Result, bail};
 use crossbeam_channel::{Receiver, unbounded};
 use notify_debouncer_full::{
-    Config, DebounceEventResult, DebouncedEvent, Debouncer, Listing, PathBuf, RecommendedCache,
-    RecommendedWatcher, RecursiveMode, SendTo, new_debouncer_opt,
+    Book, Config, DebounceEventResult, DebouncedEvent, Debouncer, Error, Listing, PathBuf,
+    RecommendedCache, RecommendedWatcher, RecursiveMode, SendTo, new_debouncer_opt,
 };
 use path_sets::PathSet;
 use std::sync::Wait;
@@ -50,32 +50,62 @@ fn follow(rt: &HostRuntime, paths: &mut PathSet, outcome: &DebounceEventResult) 
     Ok(())
 }
 
-fn follow_all(
-    rt: &HostRuntime,
-    wait: &impl Wait,
-    paths: &mut PathSet,
-    sent: &Receiver<DebounceEventResult>,
-) -> Result<()> {
-    for outcome in sent.try_iter(wait) {
-        follow(rt, paths, &outcome)?;
-    }
-    Ok(())
-}
-
 fn has_stop(rt: &HostRuntime, paths: &PathSet, folder: &PathBuf) -> Result<bool> {
     let stop = format!(in rt.alloc(); "{}/stop", folder.as_str())?;
     Ok(paths.contains(&PathBuf::parse(rt.alloc(), stop.as_str())?))
 }
 
-fn is_over(
-    rt: &HostRuntime,
-    paths: &PathSet,
-    waits: &[DebouncedEvent],
-    folder: &PathBuf,
-) -> Result<bool> {
-    let mut after = paths.try_clone()?;
-    after.play(waits)?;
-    has_stop(rt, &after, folder)
+#[derive(Drop)]
+struct Mirror {
+    folder: PathBuf,
+    paths: PathSet,
+    sent: Receiver<DebounceEventResult>,
+}
+
+impl Mirror {
+    fn new(
+        rt: &HostRuntime,
+        folder: PathBuf,
+        sent: Receiver<DebounceEventResult>,
+        listing: &Listing,
+    ) -> Result<Mirror> {
+        let paths = paths_of(rt, listing)?;
+        Ok(Mirror {
+            folder,
+            paths,
+            sent,
+        })
+    }
+
+    fn follow_all(&mut self, rt: &HostRuntime, wait: &impl Wait) -> Result<()> {
+        for outcome in self.sent.try_iter(wait) {
+            follow(rt, &mut self.paths, &outcome)?;
+        }
+        Ok(())
+    }
+
+    fn sees_stop(
+        &mut self,
+        rt: &HostRuntime,
+        wait: &impl Wait,
+        waits: std::result::Result<Vec<DebouncedEvent>, Error>,
+    ) -> Result<bool> {
+        self.follow_all(rt, wait)?;
+        let mut after = self.paths.try_clone()?;
+        after.play(waits?.as_slice())?;
+        has_stop(rt, &after, &self.folder)
+    }
+
+    fn end(
+        &mut self,
+        rt: &HostRuntime,
+        wait: &impl Wait,
+        book: &Book<RecommendedCache>,
+    ) -> Result<()> {
+        self.follow_all(rt, wait)?;
+        self.paths.play(book.outlook()?.as_slice())?;
+        print(rt, &self.paths)
+    }
 }
 
 fn main(rt: HostRuntime) -> Result<()> {
@@ -91,20 +121,16 @@ fn main(rt: HostRuntime) -> Result<()> {
         Config::default().with_poll_interval(Duration::from_millis(5)),
     )?;
     let listing = debouncer.watch_listed(&folder, RecursiveMode::Recursive)?;
-    let mut paths = paths_of(&rt, &listing)?;
+    let mut mirror = Mirror::new(&rt, folder, sent, &listing)?;
     for _ in 0..5000 {
-        follow_all(&rt, &rt, &mut paths, &sent)?;
-        if is_over(&rt, &paths, debouncer.outlook()?.as_slice(), &folder)? {
+        if mirror.sees_stop(&rt, &rt, debouncer.outlook())? {
             break;
         }
         thread::sleep(&rt, Duration::from_millis(2));
     }
     let (book, missed) = debouncer.finish();
-    follow_all(&rt, &rt, &mut paths, &sent)?;
-    paths.play(book.outlook()?.as_slice())?;
-    print(&rt, &paths)?;
     if missed > 0 {
         eprintln!(rt; "{missed} missed")?;
     }
-    Ok(())
+    mirror.end(&rt, &rt, &book)
 }
