@@ -70,17 +70,3 @@ impl<A: Allocator> PartialEq for Entry<A> {
 impl<A: Allocator> Eq for Entry<A> {
     ghost laws = { entry_eq_equiv };
 }
-
-/// Copies of these entries.
-pub fn clone_entries<A: Allocator + Copy>(
-    alloc: A,
-    entries: &[Entry<A>],
-) -> Result<Vec<Entry<A>, A>, AllocError>
-    ensures { IfOk result (λ copies. copies.items ≡ entries.now) }
-{
-    let mut copies = Vec::with_capacity(alloc, entries.len())?;
-    for entry in entries {
-        copies.push(entry.clone()?)?;
-    }
-    Ok(copies)
-}

@@ -8,7 +8,7 @@ ghost use Rattle.debounce_book.specs.Written.{Foretells, IsDraft, entered, IsNoD
 use crate::entry::Entry;
 use debounce_core::data::DebounceDataInner;
 use debounce_model::command::{Command, Reply};
-use notify_paths::error::{Error, ErrorKind, clone_errors};
+use notify_paths::error::{Error, ErrorKind};
 use std::alloc::Allocator;
 
 /// Whether the command is an event, and the count of events is at its limit.
@@ -34,7 +34,7 @@ fn foretold<C, A: Allocator + Copy>(
         Command::Error(_) => Ok(Reply::Noted),
         Command::Root(..) => Ok(Reply::Rooted),
         Command::Unroot(_) => Ok(Reply::Unrooted),
-        Command::Errors => match clone_errors(alloc, core.pending_errors()) {
+        Command::Errors => match core.pending_errors().to_vec(alloc) {
             Ok(errors) => Ok(Reply::Errors(errors)),
             Err(_) => Err(Error::out_of_memory(alloc)),
         },

@@ -13,7 +13,7 @@ ghost use Rattle.event_queue.specs.Front.{front_time};
 use crate::due::{Due, expired_count, lend_last_of_kind, move_last_of_kind, reverse_events};
 use crate::front::{were_created, were_removed};
 use notify_paths::error::Error;
-use notify_types::event::{DebouncedEvent, clone_events};
+use notify_types::event::DebouncedEvent;
 use notify_types::time::Moment;
 use std::alloc::{AllocError, Allocator, Global};
 use std::marker::Model;
@@ -72,7 +72,7 @@ impl<A: Allocator> Queue<A> {
         ensures err { IfErr result (λ e. e ≡ out_of_memory) }
     {
         let alloc = *self.events.allocator();
-        match clone_events(alloc, self.events.as_slice()) {
+        match self.events.to_vec(alloc) {
             Ok(events) => Ok(Queue { events }),
             Err(_) => Err(Error::out_of_memory(alloc)),
         }

@@ -117,24 +117,10 @@ fn put_copies<A: Allocator + Copy>(
         (length entries.new.entries ≡ count_with entries.old.entries pairs.now) }
     ensures unchanged { OnErr result (entries.new.entries ≡ entries.old.entries) }
 {
-    let copies = clone_pairs(alloc, pairs)?;
+    let copies = pairs.to_vec(alloc)?;
     entries.reserve(copies.len())?;
     put_pairs(entries, copies);
     Ok(())
-}
-
-/// Returns copies of the pairs.
-fn clone_pairs<A: Allocator + Copy>(
-    alloc: A,
-    pairs: &[(PathBuf<A>, FileId)],
-) -> Result<Vec<(PathBuf<A>, FileId), A>, AllocError>
-    ensures { IfOk result (λ copies. copies.items ≡ pairs.now) }
-{
-    let mut copies = Vec::with_capacity(alloc, pairs.len())?;
-    for (path, id) in pairs {
-        copies.push((path.clone()?, *id))?;
-    }
-    Ok(copies)
 }
 
 /// Puts the pairs over the entries, which have room for them.

@@ -7,6 +7,7 @@ ghost use Rattle.notify_mirror.specs.PlayedView.{IsPlayed, IsCarriedOut};
 ghost use Rattle.notify_mirror.specs.Transcript.{IsPrinted, BeginsOrNot};
 
 use crate::transcript::{Played, Report, print_run};
+use debounce_model::command::clone_commands;
 use mirror_script::{Counts, Fault, Script};
 use notify_debouncer_full::{Command, DebounceDataInner, Moment, NoCache, PathBuf};
 use path_sets::PathSet;
@@ -100,19 +101,4 @@ fn play_commands<A: Allocator + Copy, O: Write>(
         outlook: outlook.as_slice(),
     };
     print_run(alloc, report, &played, out)
-}
-
-/// Copies of the commands, since a run uses them up.
-fn clone_commands<A: Allocator + Copy>(
-    alloc: A,
-    commands: &[Command<A>],
-) -> Result<Vec<Command<A>, A>, Fault>
-    ensures ok { IfOk result (λ copies. command_values copies.items ≡ command_values commands.now) }
-    ensures err { IfErr result (λ e. e ≡ Fault.Memory) }
-{
-    let mut copies = Vec::with_capacity(alloc, commands.len())?;
-    for command in commands {
-        copies.push(command.try_clone(alloc)?)?;
-    }
-    Ok(copies)
 }

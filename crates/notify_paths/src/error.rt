@@ -7,7 +7,7 @@ ghost use Rattle.notify_paths.specs.ErrorLaws.{error_kind_eq_equiv, error_eq_equ
 ghost use Rattle.notify_paths.specs.Errors.{out_of_memory};
 ghost use Rattle.notify_paths.specs.ErrorView.{kind_value};
 
-use crate::path::{PathBuf, clone_paths};
+use crate::path::PathBuf;
 use std::alloc::{AllocError, Allocator, Global};
 use std::io;
 use std::marker::Model;
@@ -155,7 +155,7 @@ impl<A: Allocator + Copy> Clone for Error<A> {
     fn clone(&self) -> Result<Error<A>, AllocError> {
         Ok(Error {
             kind: self.kind.clone()?,
-            paths: clone_paths(&self.paths)?,
+            paths: self.paths.to_vec(*self.paths.allocator())?,
         })
     }
 }
@@ -175,18 +175,4 @@ impl<A: Allocator> PartialEq for Error<A> {
 
 impl<A: Allocator> Eq for Error<A> {
     ghost laws = { error_eq_equiv };
-}
-
-/// Copies of these errors.
-pub fn clone_errors<A: Allocator + Copy>(
-    alloc: A,
-    errors: &[Error<A>],
-) -> Result<Vec<Error<A>, A>, AllocError>
-    ensures { IfOk result (λ copies. copies.items ≡ errors.now) }
-{
-    let mut copies = Vec::with_capacity(alloc, errors.len())?;
-    for error in errors {
-        copies.push(error.clone()?)?;
-    }
-    Ok(copies)
 }

@@ -251,19 +251,6 @@ impl<A: Allocator + Copy> Clone for PathBuf<A> {
     }
 }
 
-/// Returns copies of these paths.
-pub fn clone_paths<A: Allocator + Copy>(
-    paths: &Vec<PathBuf<A>, A>,
-) -> Result<Vec<PathBuf<A>, A>, AllocError>
-    ensures { IfOk result (λ copies. copies.items ≡ paths.now.items) }
-{
-    let mut copies = Vec::with_capacity(*paths.allocator(), paths.len())?;
-    for path in paths {
-        copies.push(path.clone()?)?;
-    }
-    Ok(copies)
-}
-
 impl<A: Allocator> PartialEq for PathBuf<A> {
     ghost eq = { path_eq };
 

@@ -7,7 +7,7 @@ use Rattle.notify_mirror.proofs.play.play_commands.Goals as goal
 
 pub returns-clause-ok : goal.returns-clause-ok
 returns-clause-ok g c =
-    let told = ap command_values c.as_slice-2.ensures.value ∙ c.in_ok-copies.ensures.ok
+    let told = ap command_values c.as_slice-2.ensures.value ∙ c.in_ok-copies.ensures
     ∙ ap command_values c.as_slice.ensures.value in
     let said = ap reply_values c.as_slice-3.ensures.value in
     let run = ran_from c.args.core.now c.args.start.now (command_values c.args.commands.items) _
@@ -18,7 +18,7 @@ returns-clause-ok g c =
 
 pub returns-clause-begun : goal.returns-clause-begun
 returns-clause-begun g c =
-    let told = ap command_values c.as_slice-2.ensures.value ∙ c.in_ok-copies.ensures.ok
+    let told = ap command_values c.as_slice-2.ensures.value ∙ c.in_ok-copies.ensures
     ∙ ap command_values c.as_slice.ensures.value in
     let said = ap reply_values c.as_slice-3.ensures.value in
     let run = ran_from c.args.core.now c.args.start.now (command_values c.args.commands.items) _

@@ -1,6 +1,0 @@
--- The entries so far are copied.
-use Rattle.std.proofs.Common.{◌≡◌, take}
-use Rattle.debounce_book.proofs.entry.clone_entries.Given as goal
-
-abbrev pub invariant-loop-entry : goal.invariant-loop-entry
-invariant-loop-entry g l = l.copies.items ≡ take l.entry-index l.entries
