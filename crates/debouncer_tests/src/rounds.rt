@@ -1,62 +1,11 @@
 //! Listings one after the other, a debouncer that is given what changed, and a reader of its batches.
 use crate::build::path;
 use crate::cache::add_batch;
-use crate::trees::{Notes, entries, listing, tree};
+use crate::trees::{Notes, listing, tree};
+use calls_by_hand::follower::Follower;
 use folder_listing::compare::compare;
-use notify_debouncer_full::{
-    Command, DebounceDataInner, DebouncedEvent, Listing, NoCache, PathBuf, Polled, RecursiveMode,
-};
-use path_sets::PathSet;
+use notify_debouncer_full::{Listing, PathBuf, Polled, RecursiveMode};
 use std::process::Abort;
-
-/// A debouncer without a cache, what it was last told is there, and the paths that a reader has.
-#[derive(Drop)]
-struct Walk {
-    core: DebounceDataInner<NoCache>,
-    last: Listing,
-    reader: PathSet,
-}
-
-/// Begins at this listing: nothing waits, and the reader has its paths.
-fn begin(rt: &(impl Abort + AllocGlobal), text: &str) -> Walk {
-    let alloc = rt.alloc();
-    let mut reader = PathSet::new(alloc);
-    for (path, _, _) in entries(rt, alloc, text) {
-        reader.insert(path).expect(rt, "memory");
-    }
-    Walk {
-        core: DebounceDataInner::new(alloc, NoCache::new(), 50),
-        last: listing(rt, alloc, text),
-        reader,
-    }
-}
-
-impl Walk {
-    /// What changed up to this listing is taken at this moment.
-    fn see(&mut self, rt: &(impl Abort + AllocGlobal), text: &str, now: u128) {
-        let next = listing(rt, rt.alloc(), text);
-        let events = compare(rt.alloc(), &self.last, &next).expect(rt, "memory");
-        for event in events {
-            self.core.step(Command::Event(event, now, true));
-        }
-        self.last = next;
-    }
-
-    /// The reader plays what a tick emits. Returns it.
-    fn tick(&mut self, rt: &impl Abort, now: u128) -> Vec<DebouncedEvent> {
-        let batch = self.core.debounced_events(now).expect(rt, "memory");
-        self.reader.play(batch.as_slice()).expect(rt, "memory");
-        batch
-    }
-
-    /// The paths that the reader has once it has also played what waits.
-    fn paths_after(&self, rt: &impl Abort) -> Vec<PathBuf> {
-        let mut after = self.reader.try_clone().expect(rt, "memory");
-        let outlook = self.core.outlook().expect(rt, "memory");
-        after.play(outlook.as_slice()).expect(rt, "memory");
-        after.to_list().expect(rt, "memory")
-    }
-}
 
 /// Checks that these are the paths of the listing, which stand in their order in its text.
 fn check_paths(rt: &impl Abort, paths: &[PathBuf], text: &str) {
@@ -71,7 +20,7 @@ fn check_paths(rt: &impl Abort, paths: &[PathBuf], text: &str) {
     assert_eq!(rt; rest.len(), 0, "{text}");
 }
 
-/// Five listings, one after the other, after one of `/` and `/d`.
+/// Five listings, one after the other.
 const LISTINGS: [&str; 5] = [
     "/ folder, /d folder",
     "/ folder, /d folder, /d/e folder, /d/e/g file 1, /d/f file 2",
@@ -80,30 +29,58 @@ const LISTINGS: [&str; 5] = [
     "/ folder, /d folder, /d/f file 3",
 ];
 
+/// The follower once it has seen this listing, and then a tick 30 nanoseconds later. Adds what that emits.
+fn follow(
+    rt: &(impl Abort + AllocGlobal),
+    follower: Follower,
+    text: &str,
+    now: u128,
+    emitted: &mut String,
+) -> Follower {
+    let follower = follower
+        .see(listing(rt, rt.alloc(), text), now)
+        .expect(rt, "memory");
+    let (follower, batch) = follower.tick(now.saturating_add(30)).expect(rt, "memory");
+    add_batch(emitted, batch.as_slice()).expect(rt, "memory");
+    follower
+}
+
+/// Checks that a reader of what was emitted, and then of what is pending, has the paths of this listing.
+fn check_reader(rt: &impl Abort, follower: &Follower, text: &str) {
+    let paths = follower.paths().expect(rt, "memory");
+    check_paths(rt, paths.to_list().expect(rt, "memory").as_slice(), text);
+}
+
 #[test]
 fn a_reader_ends_with_the_paths_of_the_last_listing(rt: HostRuntime) {
-    let mut walk = begin(&rt, "/ folder");
+    let mut follower = Follower::new(rt.alloc(), 50);
+    let mut emitted = String::new(rt.alloc());
     let mut now = 0u128;
     for text in LISTINGS {
-        walk.see(&rt, text, now);
-        walk.tick(&rt, now.saturating_add(30));
-        check_paths(&rt, walk.paths_after(&rt).as_slice(), text);
+        follower = follow(&rt, follower, text, now, &mut emitted);
+        check_reader(&rt, &follower, text);
         now = now.saturating_add(40);
     }
 }
 
 #[test]
 fn a_folder_becomes_a_file(rt: HostRuntime) {
-    let mut walk = begin(&rt, "/ folder, /d folder");
-    walk.see(&rt, "/ folder, /d folder, /d/f file 2", 0);
-    walk.see(&rt, "/ folder, /d file 5", 10);
-    let batch = walk.tick(&rt, 100);
-    check_paths(&rt, walk.paths_after(&rt).as_slice(), "/ folder, /d file 5");
-    let mut text = String::new(rt.alloc());
-    add_batch(&mut text, batch.as_slice()).expect(&rt, "memory");
+    let mut emitted = String::new(rt.alloc());
+    let mut follower = Follower::new(rt.alloc(), 50);
+    // The file still waits when its folder becomes a file, and is dropped.
+    for (text, now) in [
+        ("/ folder, /d folder", 0u128),
+        ("/ folder, /d folder, /d/f file 2", 40),
+        ("/ folder, /d file 5", 75),
+        ("/ folder, /d file 5", 200),
+    ] {
+        follower = follow(&rt, follower, text, now, &mut emitted);
+    }
+    check_reader(&rt, &follower, "/ folder, /d file 5");
     assert_eq!(rt;
-        text.as_str(),
-        "[Remove(Folder) 10 /d, Create(File) 10 /d, ] "
+        emitted.as_str(),
+        "[] [Create(Folder) 0 /, Create(Folder) 0 /d, ] [] \
+        [Remove(Folder) 75 /d, Create(File) 75 /d, ] "
     );
 }
 
@@ -131,4 +108,93 @@ fn a_watch_lists_what_it_takes_from_the_rounds(rt: HostRuntime) {
     assert_eq!(rt; notes.take().as_str(), "");
     let differences = compare(rt.alloc(), &listed, &listing(&rt, rt.alloc(), later));
     assert_eq!(rt; differences.expect(&rt, "memory").len(), 0);
+}
+
+/// What happens, line by line: `now` and what stands in the folders; `deep` or `flat` and a path that is
+/// watched from then on, with all that is below it or what it holds; `unwatch` and a path; `round` and
+/// what it reports.
+const STORIES: [&str; 5] = [
+    // A folder that was watched as a whole is watched alone: what is deeper is let go without an event.
+    "now / folder, /d folder, /d/e folder, /d/e/f file 1
+deep /d
+flat /d
+now / folder, /d folder, /d/e folder
+round nothing
+now / folder, /d folder
+round Remove(Folder) /d/e",
+    // The other way round: what is deeper isn't new, and is followed from then on.
+    "now / folder, /d folder, /d/e folder, /d/e/f file 1
+flat /d
+deep /d
+round nothing
+now / folder, /d folder, /d/e folder, /d/e/f file 2
+round Modify(Data(Any)) /d/e/f",
+    // What the first root has keeps its old entry, so that its change is reported.
+    "now / folder, /d folder, /d/f file 1
+deep /
+now / folder, /d folder, /d/f file 2, /d/g file 1
+deep /d
+round Modify(Data(Any)) /d/f",
+    // What two roots show is reported once.
+    "now / folder, /d folder
+deep /
+flat /d
+now / folder, /d folder, /d/f file 1
+round Create(File) /d/f",
+    // One of two roots is left: what only the other showed is let go without an event.
+    "now / folder, /c file 1, /d folder, /d/f file 1
+deep /
+flat /d
+unwatch /
+round nothing
+now / folder, /c file 2, /d folder, /d/f file 2
+round Modify(Data(Any)) /d/f",
+];
+
+/// Carries out a line other than `now` in folders that hold these entries.
+fn carry_out(
+    rt: &(impl Abort + AllocGlobal),
+    polled: &mut Polled,
+    text: &str,
+    word: &str,
+    rest: &str,
+) {
+    let mut folders = tree(rt, rt.alloc(), text);
+    match word {
+        "round" => {
+            let mut notes = Notes::new(rt);
+            polled.round(&mut folders, &mut notes);
+            let wanted = if rest == "nothing" { "" } else { rest };
+            assert_eq!(rt; notes.take().as_str(), wanted, "{text}");
+        }
+        "unwatch" => {
+            polled.unwatch(&path(rt, rt.alloc(), rest)).expect(rt, rest);
+        }
+        _ => {
+            let mode = if word == "deep" {
+                RecursiveMode::Recursive
+            } else {
+                RecursiveMode::NonRecursive
+            };
+            polled
+                .watch(&mut folders, &path(rt, rt.alloc(), rest), mode)
+                .expect(rt, rest);
+        }
+    }
+}
+
+#[test]
+fn roots_overlap_and_change_their_modes(rt: HostRuntime) {
+    for story in STORIES {
+        let mut polled = Polled::new(rt.alloc());
+        let mut text = "";
+        for line in story.split('\n') {
+            let (word, rest) = line.split_once(' ').expect(&rt, line);
+            if word == "now" {
+                text = rest;
+            } else {
+                carry_out(&rt, &mut polled, text, word, rest);
+            }
+        }
+    }
 }

@@ -1,0 +1,9 @@
+-- The reader plays the batch.
+use Rattle.calls_by_hand.proofs.Following.{followed_tick}
+use Rattle.calls_by_hand.proofs.follower.Follower.tick.Goals as goal
+
+pub invariant_of-follower : goal.invariant_of-follower
+invariant_of-follower g c =
+    rw (c.in_ok-play.ensures.ok, c.as_slice.ensures.value)
+    (followed_tick c.self.inside.core c.debounced_events.new.self c.self.inside.last c.self.inside.reader c.args.now
+    c.in_ok-batch.batch.items c.self.invariant (c.in_ok-batch.ensures.batch, c.in_ok-batch.ensures.ok))

@@ -1,0 +1,130 @@
+//! A reader of listings: what changes from each to the next goes through a debouncer.
+ghost use Rattle.std.specs.Prelude.{◌≡◌, ◌⊎◌, [], IfErr, IfOk, OnOk};
+ghost use Rattle.std.specs.Map.{keys_of};
+ghost use Rattle.notify_paths.specs.Errors.{out_of_memory, FullKind};
+ghost use Rattle.calls_by_hand.specs.Followed.{TakesAll};
+
+use debounce_core::data::DebounceDataInner;
+use derived_laws::listings::law_of_listings;
+use file_id_cache::cache::NoCache;
+use folder_listing::compare::compare;
+use folder_listing::listing::Listing;
+use notify_paths::error::Error;
+use notify_types::event::{DebouncedEvent, Event};
+use notify_types::time::Moment;
+use path_sets::PathSet;
+use std::alloc::{Allocator, Global};
+use std::marker::Model;
+
+/// A debouncer without a cache, which is told what changes from each listing to the next, and a reader of
+/// its batches. It begins with the listing of nothing: what the first one has comes as creations.
+#[derive(Drop)]
+pub struct Follower<A: Allocator = Global> {
+    core: DebounceDataInner<NoCache, A>,
+    last: Listing<A>,
+    reader: PathSet<A>,
+    alloc: A,
+}
+
+impl<A: Allocator> Model for Follower<A> {
+    ghost use Rattle.calls_by_hand.specs.Followed.{Followed, IsFollowed};
+
+    ghost Value = { Followed };
+
+    ghost view = { λ a. record { core = a.core; last = a.last; reader = a.reader } };
+
+    ghost invariant = { λ a. IsFollowed a.core a.last a.reader };
+}
+
+impl<A: Allocator + Copy> Follower<A> {
+    /// Begins with nothing. An event is emitted once it is as old as the timeout, in nanoseconds.
+    pub fn new(alloc: A, timeout: Moment) -> Follower<A>
+        ensures last { result.last ≡ [] }
+        ensures reader { result.reader ≡ [] }
+    {
+        let core = DebounceDataInner::new(alloc, NoCache::new(), timeout);
+        // The proof reads here that the queues are well-formed.
+        let _waiting = core.waiting();
+        Follower {
+            core,
+            last: Listing::new(alloc),
+            reader: PathSet::new(alloc),
+            alloc,
+        }
+    }
+
+    /// Takes what changed up to this listing, at this moment. If an event is refused, the follower is
+    /// used up: what it took of the changes is no listing.
+    pub fn see(self, next: Listing<A>, now: Moment) -> Result<Follower<A>, Error<A>>
+        ensures ok { IfOk result (λ follower. follower.last ≡ next) }
+        ensures reader { IfOk result (λ follower. follower.reader ≡ self.reader) }
+        ensures err { IfErr result (λ e. (e ≡ out_of_memory)
+            ⊎ (e ≡ record { kind = FullKind; paths = [] })) }
+    {
+        let Follower {
+            mut core,
+            last,
+            reader,
+            alloc,
+        } = self;
+        let events = compare(alloc, &last, &next)?;
+        take_all(&mut core, events, now)?;
+        Ok(Follower {
+            core,
+            last: next,
+            reader,
+            alloc,
+        })
+    }
+
+    /// Emits what is expired at this moment, which the reader plays.
+    pub fn tick(self, now: Moment) -> Result<(Follower<A>, Vec<DebouncedEvent<A>, A>), Error<A>>
+        ensures last { IfOk result (λ r. r.0.last ≡ self.last) }
+        ensures err { IfErr result (λ e. e ≡ out_of_memory) }
+    {
+        let Follower {
+            mut core,
+            last,
+            mut reader,
+            alloc,
+        } = self;
+        let batch = core.debounced_events(now)?;
+        reader.play(batch.as_slice())?;
+        let follower = Follower {
+            core,
+            last,
+            reader,
+            alloc,
+        };
+        Ok((follower, batch))
+    }
+
+    /// Returns the paths that the reader has once it has also played what is pending: exactly those of
+    /// the last listing.
+    pub fn paths(&self) -> Result<PathSet<A>, Error<A>>
+        ensures ok { IfOk result (λ paths. paths ≡ keys_of self.now.last) }
+        ensures err { IfErr result (λ e. e ≡ out_of_memory) }
+    {
+        law_of_listings::<NoCache, A>();
+        let mut paths = self.reader.try_clone()?;
+        let outlook = self.core.outlook()?;
+        paths.play(outlook.as_slice())?;
+        Ok(paths)
+    }
+}
+
+/// Takes all these events at one moment.
+fn take_all<A: Allocator + Copy>(
+    core: &mut DebounceDataInner<NoCache, A>,
+    events: Vec<Event<A>, A>,
+    now: Moment,
+) -> Result<(), Error<A>>
+    ensures ok { OnOk result (TakesAll core.old events.items now core.new) }
+    ensures err { IfErr result (λ e. (e ≡ out_of_memory)
+        ⊎ (e ≡ record { kind = FullKind; paths = [] })) }
+{
+    for event in events {
+        core.add_event(event, now, true)?;
+    }
+    Ok(())
+}
