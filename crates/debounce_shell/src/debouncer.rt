@@ -198,12 +198,12 @@ fn start_worker<
     ensures { IfErr result (λ e. (e ≡ out_of_memory) ⊎ (e ≡ not_started)) }
 {
     let gate = shared.gate()?;
-    let stop = shared.stop_flag()?;
+    let signals = shared.signals()?;
     let rt = shared.rt;
     let alloc = shared.alloc;
     let run = move ||
         requires { F.ready handler }
-    { work(&rt, alloc, gate, handler, &stop, pace) };
+    { work(&rt, alloc, gate, handler, &signals, pace) };
     match thread::spawn(&rt, run) {
         Ok(worker) => Ok(worker),
         Err(_) => Err(Error::new(alloc, ErrorKind::Io(io::ErrorKind::Other))),
@@ -281,11 +281,32 @@ impl<
     {
         T::kind()
     }
+}
 
+impl<T: Drop, C: Drop, R: Threads + Wait + Clock + Drop, A: Allocator + Copy> Debouncer<
+    T,
+    C,
+    R,
+    A,
+> {
     /// Returns how many events and errors of the watcher were refused, so that no batch tells of them.
     /// After 2^64 - 1 it begins again at 0.
     pub fn missed(&self) -> u64 {
-        self.shared.missed.load(Ordering::SeqCst)
+        self.shared.signals.missed.load(Ordering::SeqCst)
+    }
+
+    /// Returns how many turns of the debouncer's thread were refused, since an allocation failed or the
+    /// clock couldn't be read. Nothing is lost by one: what was due waits for the next turn. After
+    /// 2^64 - 1 it begins again at 0.
+    pub fn refused_turns(&self) -> u64 {
+        self.shared.signals.refused_turns.load(Ordering::SeqCst)
+    }
+
+    /// Returns the watcher, to ask it.
+    pub fn watcher(&self) -> &T
+        ensures { result.now ≡ self.now.watcher }
+    {
+        &self.watcher
     }
 
     /// Returns what waits, in the order of a batch: the batch that would be emitted if all of it were as
@@ -323,13 +344,12 @@ impl<
             rt,
             alloc: _,
             book,
-            stop: _,
-            missed,
+            signals,
         } = shared;
         let book = wait_for_last(&rt, book).into_inner();
         // The proof reads here that the journal is legal.
         let _ = book.is_journaled();
-        (book, missed.load(Ordering::SeqCst))
+        (book, signals.missed.load(Ordering::SeqCst))
     }
 
     /// Stops the watcher and the debouncer's thread, and waits until that thread has ended. A turn that

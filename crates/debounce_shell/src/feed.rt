@@ -3,7 +3,7 @@ ghost use Rattle.std.specs.Prelude.{◌≡◌, IfErr};
 ghost use Rattle.notify_paths.specs.Errors.{out_of_memory};
 
 use crate::clock::now;
-use crate::locked::{Locked, Shared};
+use crate::locked::{Locked, Shared, Signals};
 use file_id_cache::cache::FileIdCache;
 use notify_paths::error::Error;
 use notify_types::event::Event;
@@ -12,7 +12,7 @@ use notify_watch::gate::feed_one;
 use notify_watch::handler::EventHandler;
 use std::alloc::{Allocator, Global};
 use std::fs::Files;
-use std::sync::atomic::{AtomicU64, Ordering};
+use std::sync::atomic::Ordering;
 use std::sync::{Arc, Wait};
 use std::time::{Clock, Instant};
 
@@ -22,7 +22,7 @@ pub struct Feed<C: Drop, R: Wait + Drop, A: Allocator = Global> {
     rt: R,
     alloc: A,
     gate: Locked<C, R, A>,
-    missed: Arc<AtomicU64, A>,
+    signals: Arc<Signals, A>,
     start: Instant,
 }
 
@@ -32,12 +32,12 @@ impl<C: Drop, R: Wait + Copy + Drop, A: Allocator + Copy> Feed<C, R, A> {
         ensures { IfErr result (λ e. e ≡ out_of_memory) }
     {
         let gate = shared.gate()?;
-        let missed = shared.missed_count()?;
+        let signals = shared.signals()?;
         Ok(Feed {
             rt: shared.rt,
             alloc: shared.alloc,
             gate,
-            missed,
+            signals,
             start,
         })
     }
@@ -58,7 +58,7 @@ impl<
         ensures handled { Unit {0} }
     {
         if self.feed(event).is_err() {
-            self.missed.fetch_add(1, Ordering::SeqCst);
+            self.signals.missed.fetch_add(1, Ordering::SeqCst);
         }
     }
 }

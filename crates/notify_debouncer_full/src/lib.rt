@@ -22,6 +22,8 @@
 #![tactic(auto)]
 
 mod recommended;
+mod reports;
+mod runtime;
 
 pub use debounce_book::book::{Book, command_step};
 pub use debounce_book::entry::Entry;
@@ -31,7 +33,7 @@ pub use debounce_core::laws::laws_of_runs;
 pub use debounce_model::command::{Command, Reply};
 pub use debounce_model::file_id::FileId;
 pub use debounce_shell::debouncer::{Debouncer, new_debouncer_opt, new_journaled_debouncer};
-pub use debounce_shell::send_to::SendTo;
+pub use debounce_shell::send_to::{SendTo, Unsent};
 pub use debounce_shell::{Feed, now};
 pub use debounce_threads::meet::{Meet, NoMeet};
 pub use debounce_threads::run::run_threads;
@@ -49,6 +51,7 @@ pub use notify_paths::part::{FoldersAbove, Part, Parts};
 pub use notify_paths::path::PathBuf;
 pub use notify_poll::folders::Folders;
 pub use notify_poll::list::list;
+pub use notify_poll::noting::NotingFolders;
 pub use notify_poll::polled::Polled;
 pub use notify_poll::real::RealFolders;
 pub use notify_poll::round::poll_round;
@@ -63,4 +66,6 @@ pub use notify_watch::config::{Config, WatcherKind};
 pub use notify_watch::gate::{Gate, feed_one, turn};
 pub use notify_watch::handler::{DebounceEventHandler, DebounceEventResult, EventHandler};
 pub use notify_watch::watcher::{ListingWatcher, Task, Watcher, start_task};
-pub use recommended::{RecommendedCache, RecommendedWatcher, new_debouncer};
+pub use recommended::{RecommendedCache, RecommendedDebouncer, RecommendedWatcher, new_debouncer};
+pub use reports::{LastReports, RecommendedReports, Reports};
+pub use runtime::{DebouncerAllocator, DebouncerRuntime};

@@ -1,3 +1,4 @@
 pub mod Folders
 pub mod Rounds
 pub mod Polled
+pub mod Noted

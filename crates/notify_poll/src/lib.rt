@@ -3,6 +3,7 @@
 
 pub mod folders;
 pub mod list;
+pub mod noting;
 pub mod polled;
 pub mod real;
 pub mod round;

@@ -3,17 +3,14 @@
 #![tactic(auto)]
 
 use anyhow::{Result, bail};
-use crossbeam_channel::{Receiver, unbounded};
 use notify_debouncer_full::{
-    Book, Config, DebounceEventResult, DebouncedEvent, Debouncer, Error, Listing, PathBuf,
-    RecommendedCache, RecommendedWatcher, RecursiveMode, SendTo, new_debouncer_opt,
+    Config, DebounceEventResult, DebouncerRuntime, LastReports, Listing, PathBuf,
+    RecommendedReports, RecursiveMode, Reports,
 };
 use path_sets::PathSet;
+use std::env;
 use std::sync::Wait;
 use std::time::Duration;
-use std::{env, thread};
-
-type FolderDebouncer = Debouncer<RecommendedWatcher<HostRuntime>, RecommendedCache, HostRuntime>;
 
 fn folder_of(rt: &HostRuntime) -> Result<PathBuf> {
     let words: Vec<String> = env::args(rt)?.collect(rt.alloc())?;
@@ -39,8 +36,8 @@ fn print(rt: &HostRuntime, paths: &PathSet) -> Result<()> {
     Ok(())
 }
 
-fn follow(rt: &HostRuntime, paths: &mut PathSet, outcome: &DebounceEventResult) -> Result<()> {
-    match outcome {
+fn follow(rt: &HostRuntime, paths: &mut PathSet, report: &DebounceEventResult) -> Result<()> {
+    match report {
         Ok(batch) => {
             paths.play(batch.as_slice())?;
             print(rt, paths)?;
@@ -50,87 +47,62 @@ fn follow(rt: &HostRuntime, paths: &mut PathSet, outcome: &DebounceEventResult) 
     Ok(())
 }
 
-fn has_stop(rt: &HostRuntime, paths: &PathSet, folder: &PathBuf) -> Result<bool> {
-    let stop = format!(in rt.alloc(); "{}/stop", folder.as_str())?;
-    Ok(paths.contains(&PathBuf::parse(rt.alloc(), stop.as_str())?))
+fn comes(
+    reports: &RecommendedReports<impl DebouncerRuntime>,
+    paths: &PathSet,
+    stop: &PathBuf,
+) -> Result<bool> {
+    let pending = reports.outlook()?;
+    Ok(paths.contains(stop) || pending.iter().any(|event| event.first_path() == Some(stop)))
 }
 
-#[derive(Drop)]
-struct Mirror {
-    folder: PathBuf,
-    paths: PathSet,
-    sent: Receiver<DebounceEventResult>,
-}
-
-impl Mirror {
-    fn new(
-        rt: &HostRuntime,
-        folder: PathBuf,
-        sent: Receiver<DebounceEventResult>,
-        listing: &Listing,
-    ) -> Result<Mirror> {
-        let paths = paths_of(rt, listing)?;
-        Ok(Mirror {
-            folder,
-            paths,
-            sent,
-        })
-    }
-
-    fn follow_all(&mut self, rt: &HostRuntime, wait: &impl Wait) -> Result<()> {
-        for outcome in self.sent.try_iter(wait) {
-            follow(rt, &mut self.paths, &outcome)?;
+fn mirror(
+    rt: &HostRuntime,
+    reports: &RecommendedReports<impl DebouncerRuntime>,
+    paths: &mut PathSet,
+    stop: &PathBuf,
+) -> Result<()> {
+    for _ in 0..5000 {
+        if comes(reports, paths, stop)? {
+            break;
         }
-        Ok(())
+        if let Some(report) = reports.next_within(Duration::from_millis(2)) {
+            follow(rt, paths, &report)?;
+        }
     }
+    Ok(())
+}
 
-    fn sees_stop(
-        &mut self,
-        rt: &HostRuntime,
-        wait: &impl Wait,
-        waits: std::result::Result<Vec<DebouncedEvent>, Error>,
-    ) -> Result<bool> {
-        self.follow_all(rt, wait)?;
-        let mut after = self.paths.try_clone()?;
-        after.play(waits?.as_slice())?;
-        has_stop(rt, &after, &self.folder)
+fn end(rt: &HostRuntime, wait: &impl Wait, paths: &mut PathSet, last: &LastReports) -> Result<()> {
+    for report in last.queue.try_iter(wait) {
+        follow(rt, paths, &report)?;
     }
+    paths.play(last.book.outlook()?.as_slice())?;
+    if last.missed > 0 || last.unsent > 0 {
+        eprintln!(rt; "{} missed, {} unsent", last.missed, last.unsent)?;
+    }
+    print(rt, paths)
+}
 
-    fn end(
-        &mut self,
-        rt: &HostRuntime,
-        wait: &impl Wait,
-        book: &Book<RecommendedCache>,
-    ) -> Result<()> {
-        self.follow_all(rt, wait)?;
-        self.paths.play(book.outlook()?.as_slice())?;
-        print(rt, &self.paths)
-    }
+fn stop_in(rt: &HostRuntime, folder: &PathBuf) -> Result<PathBuf> {
+    let stop = format!(in rt.alloc(); "{}/stop", folder.as_str())?;
+    Ok(PathBuf::parse(rt.alloc(), stop.as_str())?)
 }
 
 fn main(rt: HostRuntime) -> Result<()> {
     let folder = folder_of(&rt)?;
-    let (sender, sent) = unbounded(rt.alloc())?;
-    let mut debouncer: FolderDebouncer = new_debouncer_opt(
+    let config = Config::default().with_poll_interval(Duration::from_millis(5));
+    let mut reports: RecommendedReports<HostRuntime> = Reports::start(
         rt,
         rt.alloc(),
         Duration::from_millis(20),
         None,
-        SendTo::new(rt, sender),
-        RecommendedCache::new(),
-        Config::default().with_poll_interval(Duration::from_millis(5)),
+        config,
     )?;
-    let listing = debouncer.watch_listed(&folder, RecursiveMode::Recursive)?;
-    let mut mirror = Mirror::new(&rt, folder, sent, &listing)?;
-    for _ in 0..5000 {
-        if mirror.sees_stop(&rt, &rt, debouncer.outlook())? {
-            break;
-        }
-        thread::sleep(&rt, Duration::from_millis(2));
-    }
-    let (book, missed) = debouncer.finish();
-    if missed > 0 {
-        eprintln!(rt; "{missed} missed")?;
-    }
-    mirror.end(&rt, &rt, &book)
+    let mut paths = paths_of(
+        &rt,
+        &reports.watch_listed(&folder, RecursiveMode::Recursive)?,
+    )?;
+    mirror(&rt, &reports, &mut paths, &stop_in(&rt, &folder)?)?;
+    end(&rt, &rt, &mut paths, &reports.finish())
 }

@@ -8,7 +8,11 @@ mod build;
 #[cfg(test)]
 mod ending;
 #[cfg(test)]
+mod losses;
+#[cfg(test)]
 mod memory;
+#[cfg(test)]
+mod reports;
 #[cfg(test)]
 mod running;
 #[cfg(test)]

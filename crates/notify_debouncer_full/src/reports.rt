@@ -1,0 +1,221 @@
+//! What a running debouncer reports, one report after the other.
+ghost use Rattle.std.specs.Prelude.{◌≡◌, ◌↔◌, true, IfErr, IfOk, IfSome, IsErrOf};
+ghost use Rattle.notify_paths.specs.Errors.{out_of_memory};
+ghost use Rattle.debounce_model.specs.State.{State};
+ghost use Rattle.debounce_model.specs.Tick.{IsOutlook};
+ghost use Rattle.debounce_book.specs.Journal.{IsLegal};
+ghost use Rattle.debounce_shell.specs.Start.{IsStartError, IsTooSlow, too_slow};
+ghost use Rattle.debounce_shell.specs.Watched.{AsksFirst, ListsFirst};
+
+use crate::recommended::{RecommendedCache, RecommendedWatcher, new_debouncer_with_config};
+use crate::runtime::{DebouncerAllocator, DebouncerRuntime};
+use crossbeam_channel::{Receiver, Sender, unbounded};
+use debounce_book::book::Book;
+use debounce_shell::Feed;
+use debounce_shell::debouncer::Debouncer;
+use debounce_shell::send_to::{SendTo, Unsent};
+use notify_paths::error::{Error, ErrorKind};
+use notify_paths::path::PathBuf;
+use notify_types::event::{DebouncedEvent, RecursiveMode};
+use notify_watch::config::Config;
+use notify_watch::handler::DebounceEventResult;
+use notify_watch::watcher::{ListingWatcher, Watcher};
+use std::alloc::Global;
+use std::time::Duration;
+
+/// A debouncer without a cache whose batches and errors wait in a channel, of no bound, until they are
+/// asked for.
+///
+/// ```text
+/// let mut reports: RecommendedReports<HostRuntime> =
+///     Reports::start(rt, rt.alloc(), Duration::from_millis(200), None, Config::default())?;
+/// reports.watch(&path, RecursiveMode::Recursive)?;
+/// while let Some(report) = reports.next() { .. }
+/// ```
+///
+/// What a channel carries is in no contract. That each batch comes out once, in the order in which it
+/// was emitted, and that `finish` leaves out none, is tested.
+///
+/// Dropping it asks the debouncer to end, as a drop of a `Debouncer` does.
+#[derive(Drop)]
+pub struct Reports<T: Drop, R: DebouncerRuntime, A: DebouncerAllocator = Global> {
+    rt: R,
+    debouncer: Debouncer<T, RecommendedCache, R, A>,
+    queue: Receiver<DebounceEventResult<A>, A>,
+    unsent: Unsent<A>,
+}
+
+/// Reports over a [`RecommendedWatcher`].
+pub type RecommendedReports<R, A = Global> = Reports<RecommendedWatcher<R, A>, R, A>;
+
+/// What is left when reports end.
+#[derive(Drop)]
+pub struct LastReports<A: DebouncerAllocator = Global> {
+    /// What was emitted and not asked for, in its order. No more comes.
+    pub queue: Receiver<DebounceEventResult<A>, A>,
+    /// The debouncer's book. In it is what was never emitted: its `outlook` is what waits, in the order
+    /// of a batch, and `core().pending_errors()` are the errors.
+    pub book: Book<RecommendedCache, A>,
+    /// How many events and errors of the watcher were refused.
+    pub missed: u64,
+    /// How many batches and lists of errors could not be sent into the channel.
+    pub unsent: u64,
+}
+
+impl<
+    T: Watcher<Feed<RecommendedCache, R, A>, R, A>,
+    R: DebouncerRuntime,
+    A: DebouncerAllocator,
+> Reports<T, R, A> {
+    /// Starts a debouncer. An event is reported once it is as old as the timeout; the debouncer looks for
+    /// such events at each tick: `None` stands for a quarter of the timeout. The watcher is made with
+    /// `config`, which says how often a polling one looks at its folders.
+    ///
+    /// Its errors are those of `new_debouncer_opt`, and after one nothing goes on running.
+    pub fn start(
+        rt: R,
+        alloc: A,
+        timeout: Duration,
+        tick_rate: Option<Duration>,
+        config: Config,
+    ) -> Result<Reports<T, R, A>, Error<A>>
+        requires takes { (feed : _) → T.takes feed }
+        ensures rate { IsTooSlow timeout tick_rate → IsErrOf result too_slow }
+        ensures err { IfErr result (IsStartError T.refuses timeout tick_rate) }
+    {
+        if is_too_slow(timeout, tick_rate) {
+            return Err(Error::new(alloc, ErrorKind::Generic(String::new(alloc))));
+        }
+        let (sender, queue) = channel(alloc)?;
+        let (handler, unsent) = SendTo::counted(rt, alloc, sender)?;
+        let debouncer = new_debouncer_with_config(rt, alloc, timeout, tick_rate, handler, config)?;
+        Ok(Reports {
+            rt,
+            debouncer,
+            queue,
+            unsent,
+        })
+    }
+
+    /// Watches a path from now on; in the mode `Recursive` also what is below it. It is as
+    /// `Debouncer::watch`.
+    pub fn watch(&mut self, path: &PathBuf<A>, mode: RecursiveMode) -> Result<(), Error<A>>
+        ensures { AsksFirst (λ answer.
+            T.watches self.old.debouncer.watcher path.now mode answer
+            self.new.debouncer.watcher) result }
+    {
+        self.debouncer.watch(path, mode)
+    }
+
+    /// Watches a path no longer. It is as `Debouncer::unwatch`.
+    pub fn unwatch(&mut self, path: &PathBuf<A>) -> Result<(), Error<A>>
+        ensures { AsksFirst (λ answer.
+            T.unwatches self.old.debouncer.watcher path.now answer self.new.debouncer.watcher)
+            result }
+    {
+        self.debouncer.unwatch(path)
+    }
+}
+
+impl<
+    T: ListingWatcher<Feed<RecommendedCache, R, A>, R, A>,
+    R: DebouncerRuntime,
+    A: DebouncerAllocator,
+> Reports<T, R, A> {
+    /// Watches a path as `watch` does, and returns what stands there: what is reported from then on is
+    /// how this changes. It is as `Debouncer::watch_listed`.
+    pub fn watch_listed(
+        &mut self,
+        path: &PathBuf<A>,
+        mode: RecursiveMode,
+    ) -> Result<T::Listing, Error<A>>
+        ensures { ListsFirst (λ answer.
+            T.lists self.old.debouncer.watcher path.now mode answer self.new.debouncer.watcher)
+            result }
+    {
+        self.debouncer.watch_listed(path, mode)
+    }
+}
+
+impl<T: Drop, R: DebouncerRuntime, A: DebouncerAllocator> Reports<T, R, A> {
+    /// Waits for the next batch or the next errors. `None` says that no more can come, since the
+    /// debouncer's thread has ended.
+    pub fn next(&self) -> Option<DebounceEventResult<A>> {
+        self.queue.recv(&self.rt).ok()
+    }
+
+    /// Waits so long for the next batch or the next errors. `None` says that nothing came.
+    pub fn next_within(&self, duration: Duration) -> Option<DebounceEventResult<A>> {
+        self.queue.recv_timeout(&self.rt, duration).ok()
+    }
+
+    /// Returns what waits to be emitted, as `Debouncer::outlook`. What was emitted and waits in the
+    /// channel isn't among it.
+    pub fn outlook(&self) -> Result<Vec<DebouncedEvent<A>, A>, Error<A>>
+        ensures outlook { IfOk result (λ batch. (s : State) × IsOutlook s batch.items) }
+        ensures err { IfErr result (λ e. e ≡ out_of_memory) }
+    {
+        self.debouncer.outlook()
+    }
+
+    /// Returns how many events and errors of the watcher were refused, as `Debouncer::missed`.
+    pub fn missed(&self) -> u64 {
+        self.debouncer.missed()
+    }
+
+    /// Returns how many batches and lists of errors were emitted and could not be sent into the channel,
+    /// since an allocation failed.
+    pub fn unsent(&self) -> u64 {
+        self.unsent.count()
+    }
+
+    /// Returns the debouncer, to ask it.
+    pub fn debouncer(&self) -> &Debouncer<T, RecommendedCache, R, A>
+        ensures { result.now ≡ self.now.debouncer }
+    {
+        &self.debouncer
+    }
+
+    /// Stops the watcher and the debouncer as `Debouncer::finish` does, waits until both have ended, and
+    /// returns all that was not asked for: first what is in the channel, and then what was never
+    /// emitted. Nothing is lost but what was counted as missed or unsent.
+    pub fn finish(self) -> LastReports<A>
+        ensures legal { IfSome result.book.journal (λ es. IsLegal es result.book.core.state) }
+    {
+        let Reports {
+            rt: _,
+            debouncer,
+            queue,
+            unsent,
+        } = self;
+        let (book, missed) = debouncer.finish();
+        LastReports {
+            queue,
+            book,
+            missed,
+            unsent: unsent.count(),
+        }
+    }
+}
+
+/// Whether the tick rate is above the timeout.
+fn is_too_slow(timeout: Duration, tick_rate: Option<Duration>) -> bool
+    ensures { (result ≡ true) ↔ IsTooSlow timeout tick_rate }
+{
+    match tick_rate {
+        Some(rate) => timeout.as_nanos() < rate.as_nanos(),
+        None => false,
+    }
+}
+
+type Channel<A> = (
+    Sender<DebounceEventResult<A>, A>,
+    Receiver<DebounceEventResult<A>, A>,
+);
+
+/// A channel of no bound.
+fn channel<A: DebouncerAllocator>(alloc: A) -> Result<Channel<A>, Error<A>>
+    ensures { IfErr result (λ e. e ≡ out_of_memory) }
+{
+    unbounded(alloc).map_err(|_| Error::out_of_memory(alloc))
+}

@@ -1,0 +1,68 @@
+//! What could not be sent, and turns that were refused.
+use crate::build::{Heap, TURNS, new_heap, path, start};
+use crate::watchers::Replay;
+use crossbeam_channel::Receiver;
+use notify_debouncer_full::{
+    DebounceEventHandler, DebounceEventResult, Debouncer, NoCache, RecursiveMode, SendTo,
+};
+use std::process::Abort;
+use std::sync::Wait;
+use std::thread;
+use std::time::{Clock, Duration};
+
+#[test]
+fn what_cannot_be_sent_is_counted(rt: HostRuntime) {
+    let heap = new_heap(&rt);
+    let (sender, receiver) = crossbeam_channel::unbounded(heap).expect(&rt, "memory");
+    let (mut handler, unsent) = SendTo::counted(rt, heap, sender).expect(&rt, "memory");
+    heap.refuse(u64::MAX);
+    handler.handle_event(1u32);
+    let starved = unsent.count();
+    heap.refuse(0);
+    handler.handle_event(2u32);
+    let received = receiver.try_recv(&rt).ok();
+    drop(receiver);
+    let sent = unsent.count();
+    handler.handle_event(3u32);
+    assert_eq!(rt;
+        (starved, received, sent, unsent.count()),
+        (1, Some(2), 1, 2)
+    );
+}
+
+type Starving = Debouncer<Replay<HostRuntime, Heap>, NoCache, HostRuntime, Heap>;
+
+/// Waits for a batch, and answers whether one came.
+fn has_batch(rt: &(impl Wait + Clock), from: &Receiver<DebounceEventResult<Heap>>) -> bool {
+    for _ in 0..TURNS {
+        if let Ok(Ok(_batch)) = from.recv_timeout(rt, Duration::from_millis(1)) {
+            return true;
+        }
+    }
+    false
+}
+
+#[test]
+fn a_refused_turn_is_counted_and_loses_nothing(rt: HostRuntime) {
+    let heap = new_heap(&rt);
+    let (sender, from) = crossbeam_channel::unbounded(rt.alloc()).expect(&rt, "memory");
+    let handler = SendTo::new(rt, sender);
+    // The first tick comes after memory is refused.
+    let mut debouncer: Starving = start(rt, heap, Duration::from_secs(1), handler);
+    debouncer
+        .watch(&path(&rt, heap, "/w"), RecursiveMode::Recursive)
+        .expect(&rt, "a watch");
+    let before = debouncer.refused_turns();
+    heap.refuse(u64::MAX);
+    for _ in 0..TURNS {
+        if debouncer.refused_turns() > 0 {
+            break;
+        }
+        thread::sleep(&rt, Duration::from_millis(1));
+    }
+    let refused = debouncer.refused_turns() > 0;
+    heap.refuse(0);
+    let came = has_batch(&rt, &from);
+    debouncer.stop();
+    assert_eq!(rt; (before, refused, came), (0, true, true));
+}

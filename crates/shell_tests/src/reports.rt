@@ -1,0 +1,91 @@
+//! Reports of a folder of the test's own.
+use crate::build::{Host, TURNS, sleep_a_turn};
+use notify_debouncer_full::{Config, PathBuf, RecommendedReports, RecursiveMode, Reports};
+use std::fs::Files;
+use std::os::unix::fs::symlink;
+use std::process::Abort;
+use std::time::Duration;
+use std::{env, fs, process};
+
+/// The path of an entry of the folder at `top`.
+fn entry(rt: &(impl Abort + AllocGlobal), top: &str, name: &str) -> String {
+    format!(in rt.alloc(); "{top}{name}").expect(rt, "memory")
+}
+
+/// Makes a folder with a file in it, and a link to it.
+fn make_tree(rt: &(impl Abort + AllocGlobal + Files), top: &str) {
+    fs::create_dir(rt, top).expect(rt, "the top");
+    fs::create_dir(rt, entry(rt, top, "/d").as_str()).expect(rt, "a folder");
+    fs::write(rt, entry(rt, top, "/d/x").as_str(), "x").expect(rt, "a file");
+    turn_link(rt, top, "/d");
+}
+
+/// Lets the link lead to this entry.
+fn turn_link(rt: &(impl Abort + AllocGlobal + Files), top: &str, to: &str) {
+    let (link, next) = (entry(rt, top, "/l"), entry(rt, top, "/next"));
+    symlink(rt, entry(rt, top, to).as_str(), next.as_str()).expect(rt, "a link");
+    fs::rename(rt, next.as_str(), link.as_str()).expect(rt, "a link");
+}
+
+/// Waits until the watcher tells that its last round failed at this path, or at none.
+fn tells<R: Host>(rt: &R, reports: &RecommendedReports<R>, wanted: Option<&PathBuf>) -> bool {
+    for _ in 0..TURNS {
+        let failed = reports.debouncer().watcher().failed_path();
+        if failed.expect(rt, "memory").as_ref() == wanted {
+            return true;
+        }
+        sleep_a_turn(rt);
+    }
+    false
+}
+
+/// What is reported within some seconds: how many events, and how many errors.
+fn counts<R: Host>(reports: &RecommendedReports<R>) -> [usize; 2] {
+    match reports.next_within(Duration::from_secs(4)) {
+        Some(Ok(batch)) => [batch.len(), 0],
+        Some(Err(errors)) => [0, errors.len()],
+        None => [0, 0],
+    }
+}
+
+/// Watches a file behind a link that comes to lead to itself, and then back. Returns what was reported
+/// first, and whether the watcher told of the path and then of none.
+fn follow_link<R: Host>(
+    rt: &R,
+    top: &str,
+    reports: &RecommendedReports<R>,
+    file: &PathBuf,
+) -> ([usize; 2], bool, bool) {
+    turn_link(rt, top, "/l");
+    let told = tells(rt, reports, Some(file));
+    let first = counts(reports);
+    turn_link(rt, top, "/d");
+    (first, told, tells(rt, reports, None))
+}
+
+#[test]
+fn the_path_that_fails_is_told(rt: HostRuntime) {
+    let base = env::temp_dir(&rt).expect(&rt, "a folder for tests");
+    let id = process::id(rt.process());
+    let top = format!(in rt.alloc(); "{}/failed_{id}", base.as_str()).expect(&rt, "memory");
+    make_tree(&rt, top.as_str());
+    let config = Config::default().with_poll_interval(Duration::from_millis(2));
+    let mut reports: RecommendedReports<HostRuntime> = Reports::start(
+        rt,
+        rt.alloc(),
+        Duration::from_millis(4),
+        None,
+        config,
+    ).expect(&rt, "a start");
+    let file = PathBuf::parse(rt.alloc(), entry(&rt, top.as_str(), "/l/x").as_str()).expect(
+        &rt, "memory",
+    );
+    reports
+        .watch(&file, RecursiveMode::Recursive)
+        .expect(&rt, "a watch");
+    let answer = follow_link(&rt, top.as_str(), &reports, &file);
+    let last = reports.finish();
+    fs::remove_dir_all(&rt, top.as_str()).expect(&rt, "it is there");
+    assert!(rt; answer.0[1] > 0 && answer.1 && answer.2);
+    assert_eq!(rt; (last.missed, last.unsent), (0, 0));
+}
