@@ -4,13 +4,10 @@
 
 use anyhow::{Result, bail};
 use notify_debouncer_full::{
-    DebounceEventResult, Debouncer, PathBuf, RecommendedCache, RecommendedWatcher, RecursiveMode,
-    new_debouncer,
+    DebounceEventResult, PathBuf, RecommendedDebouncer, RecursiveMode, new_debouncer,
 };
 use std::time::Duration;
 use std::{env, io, thread};
-
-type FolderDebouncer = Debouncer<RecommendedWatcher<HostRuntime>, RecommendedCache, HostRuntime>;
 
 fn print(rt: &HostRuntime, outcome: &DebounceEventResult) -> io::Result<()> {
     match outcome {
@@ -41,7 +38,13 @@ fn main(rt: HostRuntime) -> Result<()> {
         let _ = print(&rt, &outcome);
     };
     let timeout = Duration::from_millis(200);
-    let mut debouncer: FolderDebouncer = new_debouncer(rt, rt.alloc(), timeout, None, handler)?;
+    let mut debouncer: RecommendedDebouncer<HostRuntime> = new_debouncer(
+        rt,
+        rt.alloc(),
+        timeout,
+        None,
+        handler,
+    )?;
     debouncer.watch(
         &PathBuf::parse(rt.alloc(), folder.as_str())?,
         RecursiveMode::Recursive,

@@ -66,6 +66,9 @@ pub use notify_watch::config::{Config, WatcherKind};
 pub use notify_watch::gate::{Gate, feed_one, turn};
 pub use notify_watch::handler::{DebounceEventHandler, DebounceEventResult, EventHandler};
 pub use notify_watch::watcher::{ListingWatcher, Task, Watcher, start_task};
-pub use recommended::{RecommendedCache, RecommendedDebouncer, RecommendedWatcher, new_debouncer};
+pub use recommended::{
+    RecommendedCache, RecommendedDebouncer, RecommendedWatcher, new_debouncer,
+    new_debouncer_with_config,
+};
 pub use reports::{LastReports, RecommendedReports, Reports};
 pub use runtime::{DebouncerAllocator, DebouncerRuntime};
