@@ -110,9 +110,9 @@ fn a_watch_lists_what_it_takes_from_the_rounds(rt: HostRuntime) {
     assert_eq!(rt; differences.expect(&rt, "memory").len(), 0);
 }
 
-/// What happens, line by line: `now` and what stands in the folders; `deep` or `flat` and a path that is
-/// watched from then on, with all that is below it or what it holds; `unwatch` and a path; `round` and
-/// what it reports.
+/// What happens, in scenes: each begins with `now` and what stands in the folders. Then come, line by line,
+/// `deep` or `flat` and a path that is watched from then on, with all that is below it or what it holds;
+/// `unwatch` and a path; `round` and what it reports.
 const STORIES: [&str; 5] = [
     // A folder that was watched as a whole is watched alone: what is deeper is let go without an event.
     "now / folder, /d folder, /d/e folder, /d/e/f file 1
@@ -151,7 +151,7 @@ now / folder, /c file 2, /d folder, /d/f file 2
 round Modify(Data(Any)) /d/f",
 ];
 
-/// Carries out a line other than `now` in folders that hold these entries.
+/// Carries out a line of a scene in folders that hold these entries.
 fn carry_out(
     rt: &(impl Abort + AllocGlobal),
     polled: &mut Polled,
@@ -183,17 +183,24 @@ fn carry_out(
     }
 }
 
+/// Plays a scene: its first line is what stands in the folders, and the others happen then.
+fn play_scene(rt: &(impl Abort + AllocGlobal), polled: &mut Polled, scene: &str) {
+    let (text, lines) = scene.split_once('\n').expect(rt, scene);
+    for line in lines.split('\n') {
+        if !line.is_empty() {
+            let (word, rest) = line.split_once(' ').expect(rt, line);
+            carry_out(rt, polled, text, word, rest);
+        }
+    }
+}
+
 #[test]
 fn roots_overlap_and_change_their_modes(rt: HostRuntime) {
     for story in STORIES {
         let mut polled = Polled::new(rt.alloc());
-        let mut text = "";
-        for line in story.split('\n') {
-            let (word, rest) = line.split_once(' ').expect(&rt, line);
-            if word == "now" {
-                text = rest;
-            } else {
-                carry_out(&rt, &mut polled, text, word, rest);
+        for scene in story.split("now ") {
+            if !scene.is_empty() {
+                play_scene(&rt, &mut polled, scene);
             }
         }
     }
