@@ -4,8 +4,8 @@ use Rattle.debounce_book.proofs.Replay.{LeadsTo-taken}
 use Rattle.debounce_book.proofs.Shown.{IsLegal-shown, IsPart-shown, parted-none, parted-some, written-none, written-some}
 use Rattle.debounce_book.proofs.book.Book.take_journal.Goals as goal
 
-pub returns-in_default-clause-taken : goal.returns-in_default-clause-taken
-returns-in_default-clause-taken g c =
+pub returns-in_default-clause-journal : goal.returns-in_default-clause-journal
+returns-in_default-clause-journal g c =
     let b = c.self.inside in
     rw (← c.self.view_is, c.in_default.is) (c.new.ensures.items ∙ written-none b.core b.is_whole)
 
@@ -19,8 +19,8 @@ returns-in_default-clause-part g c =
     let b = c.self.inside in
     rw (← c.self.view_is) (IsPart-shown (λ v. v.items) b.is_whole b.journal b.core.state c.self.invariant)
 
-pub returns-in_default-clause-rest : goal.returns-in_default-clause-rest
-returns-in_default-clause-rest g c =
+pub returns-in_default-clause-parted : goal.returns-in_default-clause-parted
+returns-in_default-clause-parted g c =
     let b = c.self.inside in
     rw (← c.self.view_is, c.in_default.is) (parted-none b.core b.is_whole)
 
@@ -31,8 +31,8 @@ invariant_of-self-2 g c =
     rw (c.replace-entries.ensures.after, c.new-2.ensures.items)
     (LeadsTo-taken b.is_whole c.in-Some.journal.items b.core.state leads)
 
-pub returns-clause-taken : goal.returns-clause-taken
-returns-clause-taken g c =
+pub returns-clause-journal : goal.returns-clause-journal
+returns-clause-journal g c =
     let b = c.self.inside in
     rw (← c.self.view_is, c.in-Some.is, c.replace-entries.ensures.value)
     (written-some b.core b.is_whole c.in-Some.journal.items)
@@ -47,8 +47,8 @@ returns-clause-part g c =
     let b = c.self.inside in
     rw (← c.self.view_is) (IsPart-shown (λ v. v.items) b.is_whole b.journal b.core.state c.self.invariant)
 
-pub returns-clause-rest : goal.returns-clause-rest
-returns-clause-rest g c =
+pub returns-clause-parted : goal.returns-clause-parted
+returns-clause-parted g c =
     let b = c.self.inside in
     rw (← c.self.view_is, c.in-Some.is, c.replace-entries.ensures.after, c.new-2.ensures.items)
     (parted-some b.core b.is_whole c.in-Some.journal.items)
