@@ -1,8 +1,8 @@
 -- What a book shows of the entries that it holds: they are its whole journal, or a part of it.
-use Rattle.std.proofs.Common.{◌≡◌, List, [], ◌∷◌, ◌++◌, Bool, true, false, Option, Some, None, IfSome, is_some, unwrap_or, refl}
+use Rattle.std.proofs.Common.{◌≡◌, List, [], Bool, true, false, Option, Some, None, IfSome, is_some, unwrap_or, refl}
 use Rattle.std.specs.Option.{option_map, option_or}
 use Rattle.debounce_model.specs.State.{State, Core, empty_state}
-use Rattle.debounce_book.specs.Book.{Kept, kept_as, kept_entries, whole_of, part_of, written, parted}
+use Rattle.debounce_book.specs.Book.{kept_as, kept_entries, whole_of, part_of, written, parted}
 use Rattle.debounce_book.specs.Journal.{EntryValue, IsLegal, IsPart, LeadsTo}
 
 module _ {J : Type 0} (items : J → List EntryValue) where
@@ -83,13 +83,9 @@ IsPart-whole : (es : List EntryValue) (s : State) → IsLegal es s → IsPart es
 IsPart-whole es s h =
     record { before = []; begun = empty_state s.timeout; led = refl; goes_on = h; legal = h }
 
--- what a book shows is a part of a journal, also if it is empty since none is kept
-pub IsPart-written : {C : Type 0} (k : Kept C) → IfSome k.journal (λ es. IsLegal es k.core.state) →
-    IfSome k.part (λ es. IsPart es k.core.state) → (s : State) × IsPart (written k) s
-IsPart-written k legal part = by k.journal k.part legal part
-  where
-    by : (journal rest : Option (List EntryValue)) → IfSome journal (λ es. IsLegal es k.core.state) →
-        IfSome rest (λ es. IsPart es k.core.state) → (s : State) × IsPart (unwrap_or (option_or journal rest) []) s
-    by (Some es) rest h p = (k.core.state, IsPart-whole es k.core.state h)
-    by None (Some es) h p = (k.core.state, p)
-    by None None h p = (empty_state 0, IsPart-whole [] (empty_state 0) refl)
+-- the entries that are shown are a part of a journal, also if there are none since none is kept
+pub IsPart-written : (journal rest : Option (List EntryValue)) (s : State) → IfSome journal (λ es. IsLegal es s) →
+    IfSome rest (λ es. IsPart es s) → (t : State) × IsPart (unwrap_or (option_or journal rest) []) t
+IsPart-written (Some es) rest s h p = (s, IsPart-whole es s h)
+IsPart-written None (Some es) s h p = (s, p)
+IsPart-written None None s h p = (empty_state 0, IsPart-whole [] (empty_state 0) refl)

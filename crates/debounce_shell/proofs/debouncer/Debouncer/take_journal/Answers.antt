@@ -5,4 +5,4 @@ use Rattle.debounce_shell.proofs.debouncer.Debouncer.take_journal.Goals as goal
 pub returns : goal.returns
 returns g c =
     let taken = c.take_journal.ensures in
-    rw taken.journal (IsPart-written _ taken.legal taken.part)
+    rw taken.journal (IsPart-written _ _ _ taken.legal taken.part)
