@@ -1,6 +1,5 @@
 -- Steps of a book: its journal is one entry longer and stays legal, or nothing is written.
-use Rattle.std.proofs.Common.{◌≡◌, ◌∙◌, ℕ, List, [], ◌∷◌, ◌++◌, Bool, true, false, Option, Some, None, IfSome, Result, Ok, Err, OnOk, IfErr, refl, sym, ap, subst, inl, inr}
-use Rattle.std.specs.Option.{option_map}
+use Rattle.std.proofs.Common.{◌≡◌, ◌∙◌, ℕ, List, [], ◌∷◌, ◌++◌, Bool, true, false, Option, Some, None, Result, Ok, Err, OnOk, IfErr, refl, sym, ap, subst, inl, inr}
 use Rattle.notify_paths.specs.Errors.{ErrorValue, ErrorKindValue, FullKind, MemoryKind}
 use Rattle.notify_types.specs.Event.{EventValue}
 use Rattle.debounce_model.specs.declared.case.Case.{Case}
@@ -12,8 +11,8 @@ use Rattle.debounce_model.specs.Run.{Step}
 use Rattle.debounce_model.specs.State.{State, Core, empty_state}
 use Rattle.debounce_model.specs.Step.{IsRefusedFor}
 use Rattle.debounce_model.specs.Table.{case_of, taken_as, event_step, raised_event}
-use Rattle.debounce_book.specs.Book.{Kept, entry_of, full, IsFull, IsDone, IsNotDone, Steps, fed_command, fed_reply}
-use Rattle.debounce_book.specs.Journal.{EntryValue, Accepts, Replays, IsLegal, IsJournal}
+use Rattle.debounce_book.specs.Book.{Kept, kept_as, kept_entries, whole_of, part_of, entry_of, with_entry, full, IsFull, IsDone, IsNotDone, Steps, fed_command, fed_reply}
+use Rattle.debounce_book.specs.Journal.{EntryValue, Accepts, Replays, IsLegal, IsJournal, IsPart, LeadsTo}
 use Rattle.debounce_book.specs.Written.{Foretells, IsDraft, IsNoDraft, is_refused, with_answer, entered}
 
 -- an event keeps the timeout
@@ -53,6 +52,52 @@ pub IsLegal-append : (es : List EntryValue) (s t : State) (e : EntryValue) → I
 IsLegal-append es s t e h a =
     subst (λ (n : ℕ). Replays (empty_state n) (es ++ e ∷ []) t) (sym (timeout-accepts s t e.command e.reply a))
     (Replays-append es _ s t e h a)
+
+-- entries that are accepted keep the timeout
+timeout-replays : (es : List EntryValue) (s t : State) → Replays s es t → t.timeout ≡ s.timeout
+timeout-replays [] s t h = ap (λ (k : State). k.timeout) h
+timeout-replays (e ∷ es) s t (m, first, more) =
+    timeout-replays es m t more ∙ timeout-accepts s m e.command e.reply first
+
+-- entries, and then those that go on from where they led, in a row
+pub Replays-row : (es fs : List EntryValue) (s m t : State) → Replays s es m → Replays m fs t → Replays s (es ++ fs) t
+Replays-row [] fs s m t h more = rw h at more
+Replays-row (x ∷ es) fs s m t (k, first, rest) more = (k, first, Replays-row es fs k m t rest more)
+
+-- .. are legal if the first are
+pub IsLegal-row : (es fs : List EntryValue) (m t : State) → IsLegal es m → Replays m fs t → IsLegal (es ++ fs) t
+IsLegal-row es fs m t h more =
+    subst (λ (n : ℕ). Replays (empty_state n) (es ++ fs) t) (sym (timeout-replays fs m t more))
+    (Replays-row es fs _ m t h more)
+
+-- a part of a journal goes on by one accepted command
+IsPart-append : (es : List EntryValue) (s t : State) (e : EntryValue) → IsPart es s →
+    Accepts s e.command e.reply t → IsPart (es ++ e ∷ []) t
+IsPart-append es s t e p a =
+    let longer = Replays-append es p.begun s t e p.goes_on a in
+    record {
+      before = p.before;
+      begun = p.begun;
+      led = p.led;
+      goes_on = longer;
+      legal = IsLegal-row p.before (es ++ e ∷ []) p.begun t p.led longer;
+    }
+
+-- a part begins where a legal journal led
+IsPart-begun : (es : List EntryValue) (s : State) → IsLegal es s → IsPart [] s
+IsPart-begun es s h =
+    record { before = es; begun = s; led = h; goes_on = refl; legal = IsLegal-row es [] s s h refl }
+
+-- entries, all or a part, go on by one accepted command
+LeadsTo-append : (whole : Bool) (es : List EntryValue) (s t : State) (e : EntryValue) → LeadsTo whole es s →
+    Accepts s e.command e.reply t → LeadsTo whole (es ++ e ∷ []) t
+LeadsTo-append true es s t e h a = IsLegal-append es s t e h a
+LeadsTo-append false es s t e h a = IsPart-append es s t e h a
+
+-- once they are taken out, a part begins
+pub LeadsTo-taken : (whole : Bool) (es : List EntryValue) (s : State) → LeadsTo whole es s → LeadsTo false [] s
+LeadsTo-taken true es s h = IsPart-begun es s h
+LeadsTo-taken false es s p = IsPart-begun (p.before ++ es) s p.legal
 
 -- the journal after an accepted command
 entered-accepted : (es : List EntryValue) (d : EntryValue) (y : ReplyValue) → is_refused y ≡ false →
@@ -116,74 +161,76 @@ module _ {C : Type 0} where
       λ i. record { from = draft.numbered i; command = draft.copied i; reply = reply i }
 
   -- a command that is accepted is done
-  IsDone-entered : (r : Rules C) (s t : Core C) (es : List EntryValue) (from : ℕ) (c : CommandValue)
+  IsDone-entered : (r : Rules C) (s t : Core C) (whole : Bool) (es : List EntryValue) (from : ℕ) (c : CommandValue)
       (y : ReplyValue) (d : EntryValue) → is_refused y ≡ false → IsDraft s.state from c d → Step r s c y t →
-      IsDone r (record { core = s; journal = Some es }) from c y (record {
-        core = t;
-        journal =
-            Some (entered es d y);
-      })
-  IsDone-entered r s t es from c y d n draft step = (
-    step,
-    ap Some (entered-accepted es d y n
-        ∙ ap (λ (e : EntryValue). es ++ e ∷ []) (entry_drafted r s t from c y d n draft step)),
-  )
+      IsDone r (kept_as s whole (Some es)) from c y (kept_as t whole (Some (entered es d y)))
+  IsDone-entered r s t whole es from c y d n draft step = let written = by whole in (step, written.0, written.1)
+    where
+      is : Some (entered es d y) ≡ with_entry (Some es) (entry_of from c y)
+      is = ap Some (entered-accepted es d y n
+          ∙ ap (λ (e : EntryValue). es ++ e ∷ []) (entry_drafted r s t from c y d n draft step))
+
+      by : (w : Bool) →
+          (whole_of w (Some (entered es d y)) ≡ with_entry (whole_of w (Some es)) (entry_of from c y))
+          × (part_of w (Some (entered es d y)) ≡ with_entry (part_of w (Some es)) (entry_of from c y))
+      by true = (is, refl)
+      by false = (refl, is)
 
   -- a command of which there is a draft steps
-  pub Steps-entered : (r : Rules C) (s t : Core C) (es : List EntryValue) (from : ℕ) (c : CommandValue)
+  pub Steps-entered : (r : Rules C) (s t : Core C) (whole : Bool) (es : List EntryValue) (from : ℕ) (c : CommandValue)
       (y : ReplyValue) (d : EntryValue) → IsDraft s.state from c d → Step r s c y t →
-      Steps r (record { core = s; journal = Some es }) from c y (record {
-        core = t;
-        journal =
-            Some (entered es d y);
-      })
-  Steps-entered r s t es from c (RefusedReply error) d draft step = inl (step, refl)
-  Steps-entered r s t es from c (TakenReply answer) d draft step =
-      IsDone-entered r s t es from c (TakenReply answer) d refl draft step
-  Steps-entered r s t es from c NotedReply d draft step =
-      IsDone-entered r s t es from c NotedReply d refl draft step
-  Steps-entered r s t es from c RootedReply d draft step =
-      IsDone-entered r s t es from c RootedReply d refl draft step
-  Steps-entered r s t es from c UnrootedReply d draft step =
-      IsDone-entered r s t es from c UnrootedReply d refl draft step
-  Steps-entered r s t es from c (ErrorsReply errors) d draft step =
-      IsDone-entered r s t es from c (ErrorsReply errors) d refl draft step
-  Steps-entered r s t es from c (BatchReply batch) d draft step =
-      IsDone-entered r s t es from c (BatchReply batch) d refl draft step
+      Steps r (kept_as s whole (Some es)) from c y (kept_as t whole (Some (entered es d y)))
+  Steps-entered r s t whole es from c (RefusedReply error) d draft step = inl (step, refl, refl)
+  Steps-entered r s t whole es from c (TakenReply answer) d draft step =
+      IsDone-entered r s t whole es from c (TakenReply answer) d refl draft step
+  Steps-entered r s t whole es from c NotedReply d draft step =
+      IsDone-entered r s t whole es from c NotedReply d refl draft step
+  Steps-entered r s t whole es from c RootedReply d draft step =
+      IsDone-entered r s t whole es from c RootedReply d refl draft step
+  Steps-entered r s t whole es from c UnrootedReply d draft step =
+      IsDone-entered r s t whole es from c UnrootedReply d refl draft step
+  Steps-entered r s t whole es from c (ErrorsReply errors) d draft step =
+      IsDone-entered r s t whole es from c (ErrorsReply errors) d refl draft step
+  Steps-entered r s t whole es from c (BatchReply batch) d draft step =
+      IsDone-entered r s t whole es from c (BatchReply batch) d refl draft step
 
-  -- .. and its journal stays legal
-  pub IsLegal-entered : (r : Rules C) (s t : Core C) (es : List EntryValue) (from : ℕ) (c : CommandValue)
-      (y : ReplyValue) (d : EntryValue) → IsDraft s.state from c d → IsLegal es s.state → Step r s c y t →
-      IsLegal (entered es d y) t.state
-  IsLegal-entered r s t es from c y d draft legal step = by (is_refused y) refl
+  -- .. and its entries still lead to its state
+  pub LeadsTo-entered : (r : Rules C) (s t : Core C) (whole : Bool) (es : List EntryValue) (from : ℕ)
+      (c : CommandValue) (y : ReplyValue) (d : EntryValue) → IsDraft s.state from c d → LeadsTo whole es s.state →
+      Step r s c y t → LeadsTo whole (entered es d y) t.state
+  LeadsTo-entered r s t whole es from c y d draft leads step = by (is_refused y) refl
     where
-      accepted : is_refused y ≡ false → IsLegal (entered es d y) t.state
+      accepted : is_refused y ≡ false → LeadsTo whole (entered es d y) t.state
       accepted n =
           let entry = entry_drafted r s t from c y d n draft step in
-          let after : IsLegal (es ++ entry_of from c y ∷ []) t.state =
-          IsLegal-append es s.state t.state (entry_of from c y) legal (Accepts-step r s t c y n step) in
-          subst (λ (k : List EntryValue). IsLegal k t.state) (sym (entered-accepted es d y n
+          let after : LeadsTo whole (es ++ entry_of from c y ∷ []) t.state =
+          LeadsTo-append whole es s.state t.state (entry_of from c y) leads (Accepts-step r s t c y n step) in
+          subst (λ (k : List EntryValue). LeadsTo whole k t.state) (sym (entered-accepted es d y n
           ∙ ap (λ (e : EntryValue). es ++ e ∷ []) entry)) after
 
-      refused : (z : ReplyValue) → is_refused z ≡ true → Step r s c z t → IsLegal (entered es d z) t.state
+      refused : (z : ReplyValue) → is_refused z ≡ true → Step r s c z t → LeadsTo whole (entered es d z) t.state
       refused (RefusedReply error) n h =
-          subst (λ (k : State). IsLegal es k) (sym (state-refused r s t c error h)) legal
+          subst (λ (k : State). LeadsTo whole es k) (sym (state-refused r s t c error h)) leads
       refused z n h = cc
 
-      by : (b : Bool) → is_refused y ≡ b → IsLegal (entered es d y) t.state
+      by : (b : Bool) → is_refused y ≡ b → LeadsTo whole (entered es d y) t.state
       by true n = refused y n step
       by false n = accepted n
 
   -- a command without a draft is not done
-  pub IsNotDone-draft : (r : Rules C) (s : Core C) (es : List EntryValue) (c : CommandValue)
+  pub IsNotDone-draft : (r : Rules C) (s : Core C) (whole : Bool) (es : List EntryValue) (c : CommandValue)
       (error : ErrorValue) → IsNoDraft s.state c error →
-      IsNotDone r (record { core = s; journal = Some es }) c error (record { core = s; journal = Some es })
-  IsNotDone-draft r s es c error (inl (is, at)) = inl (rw is (by c at), refl)
+      IsNotDone r (kept_as s whole (Some es)) c error (kept_as s whole (Some es))
+  IsNotDone-draft r s whole es c error (inl (is, at)) = inl (rw is (by c at), refl, refl)
     where
       by : (k : CommandValue) → IsFull s.state k → Step r s k (RefusedReply full) s
       by (EventCommand event now exists) at = (refl, (at, refl))
       by k at = absurd at
-  IsNotDone-draft r s es c error (inr (is, below)) = inr (is, (λ none. cc), below, refl)
+  IsNotDone-draft r s whole es c error (inr (is, below)) = inr (is, by whole, below, refl)
+    where
+      by : (w : Bool) → kept_entries (kept_as s w (Some es)) ≡ None → ⊥
+      by true none = cc
+      by false none = cc
 
   -- what is fed and not refused is done, and the reply has the cache's answer
   pub fed_done : {T E : Type 0} (r : Rules C) (old new : Kept C) (item : Result EventValue ErrorValue) (now : ℕ)
@@ -205,12 +252,6 @@ module _ {C : Type 0} where
       IfErr res (λ e. IsNotDone r old c e new)
   fed_not_done r old new c y (Ok x) s h = tt
   fed_not_done r old new c y (Err e) s h = rw h at s
-
--- a journal that is legal as the code holds it is legal as it is shown
-pub IsLegal-shown : {J : Type 0} (items : J → List EntryValue) (journal : Option J) (s : State)
-    → IfSome journal (λ j. IsLegal (items j) s) → IfSome (option_map items journal) (λ es. IsLegal es s)
-IsLegal-shown items None s h = h
-IsLegal-shown items (Some j) s h = h
 
 -- the empty journal is legal
 pub IsJournal-empty : (timeout : ℕ) → IsJournal timeout []

@@ -1,5 +1,5 @@
 -- Journals: the commands that a debouncer accepted, with its replies, in order.
-use Rattle.std.specs.Prelude.{◌≡◌, ◌≢◌, ◌-◌, ◌^◌, ℕ, List, [], ◌∷◌}
+use Rattle.std.specs.Prelude.{◌≡◌, ◌≢◌, ◌-◌, ◌^◌, ℕ, Bool, true, false, List, [], ◌∷◌, ◌++◌}
 use Rattle.debounce_model.specs.Command.{CommandValue, EventCommand, ErrorCommand, RootCommand, UnrootCommand, ErrorsCommand, TickCommand, ReplyValue, TakenReply, NotedReply, RootedReply, UnrootedReply, ErrorsReply, BatchReply}
 use Rattle.debounce_model.specs.Roots.{with_root, without_roots}
 use Rattle.debounce_model.specs.State.{State, empty_state, with_error, without_errors}
@@ -35,3 +35,17 @@ IsLegal es s = Replays (empty_state s.timeout) es s
 -- a legal journal of some state with this timeout
 abbrev pub IsJournal : ℕ → List EntryValue → Type 0
 IsJournal timeout es = (s : State) × (s.timeout ≡ timeout) × IsLegal es s
+
+-- a part of a journal up to this state: it goes on from the state to which the entries before it led, and with them
+-- it is a legal journal
+pub record IsPart (es : List EntryValue) (s : State) : Type 0 where
+  pub before : List EntryValue
+  pub begun : State
+  pub led : IsLegal before begun
+  pub goes_on : Replays begun es s
+  pub legal : IsLegal (before ++ es) s
+
+-- the entries lead to this state: as a legal journal if they are all, and else as a part of one
+abbrev pub LeadsTo : Bool → List EntryValue → State → Type 0
+LeadsTo true es s = IsLegal es s
+LeadsTo false es s = IsPart es s

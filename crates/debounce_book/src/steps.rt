@@ -105,7 +105,7 @@ pub fn root_step<C: FileIdCache<A>, A: Allocator + Copy>(
         IsNotDone C.rules book.old (RootCommand path.now mode) e book.new) }
     ensures memory { IfErr result (λ e. e ≡ out_of_memory) }
 {
-    if !book.is_journaled() {
+    if !book.is_kept() {
         return book.add_root(path, mode);
     }
     let copy = path.try_clone()?;
@@ -124,7 +124,7 @@ pub fn unroot_step<C: FileIdCache<A>, A: Allocator + Copy>(
         IsNotDone C.rules book.old (UnrootCommand path.now) e book.new) }
     ensures memory { IfErr result (λ e. e ≡ out_of_memory) }
 {
-    if !book.is_journaled() {
+    if !book.is_kept() {
         return book.remove_root(path);
     }
     let copy = path.try_clone()?;

@@ -5,7 +5,7 @@ ghost use Rattle.notify_paths.specs.Errors.{out_of_memory};
 ghost use Rattle.notify_watch.specs.Config.{not_started};
 ghost use Rattle.debounce_model.specs.State.{State};
 ghost use Rattle.debounce_model.specs.Tick.{IsOutlook};
-ghost use Rattle.debounce_book.specs.Journal.{IsJournal, IsLegal};
+ghost use Rattle.debounce_book.specs.Journal.{IsJournal, IsLegal, IsPart};
 ghost use Rattle.debounce_book.specs.JournalLaws.{LosesNoChange, GivesRawPaths, InventsNoRename};
 ghost use Rattle.debounce_shell.specs.Start.{IsIo, IsStartError, IsStopped, IsTooSlow, too_slow, tick_nanos};
 ghost use Rattle.debounce_shell.specs.Watched.{AsksFirst, ListsFirst};
@@ -93,7 +93,8 @@ pub fn new_debouncer_opt<
 }
 
 /// Starts a debouncer that keeps a journal of the commands that it accepts, for
-/// [`Debouncer::stop_journal`]. In all else it is as [`new_debouncer_opt`].
+/// [`Debouncer::take_journal`] and [`Debouncer::stop_journal`]. In all else it is as
+/// [`new_debouncer_opt`].
 pub fn new_journaled_debouncer<
     F: DebounceEventHandler<DebounceEventResult<A>>,
     T: Watcher<Feed<C, R, A>, R, A>,
@@ -319,6 +320,19 @@ impl<T: Drop, C: Drop, R: Threads + Wait + Clock + Drop, A: Allocator + Copy> De
         book.outlook()
     }
 
+    /// Takes out the entries of the journal so far, while the debouncer runs: all of them, or those since
+    /// the last such call; an empty list if no journal is kept. It takes no memory.
+    ///
+    /// From then on the journal is kept in parts, and `stop_journal` answers as without one. Each part
+    /// goes on from the state to which the one before it led, so the parts in a row are the journal. The
+    /// last one comes by `finish`, and `take_journal` of its book.
+    pub fn take_journal(&self) -> Vec<Entry<A>, A>
+        ensures { (s : State) × IsPart result.items s }
+    {
+        let mut book = self.shared.book.lock(&self.shared.rt);
+        book.take_journal()
+    }
+
     /// Stops the watcher and the debouncer's thread, waits until both have ended, and returns the book
     /// and how many events and errors were missed in all. A turn that has begun is finished, as by
     /// `stop`, and what the watcher reports until it has ended goes to the book.
@@ -326,11 +340,12 @@ impl<T: Drop, C: Drop, R: Threads + Wait + Clock + Drop, A: Allocator + Copy> De
     /// In the book is what was never emitted: its `outlook` is what waits, in the order of a batch, and
     /// `core().pending_errors()` are the errors. A reader that applies each batch and then that outlook
     /// has applied all that the watcher reported, but for what was missed. The journal comes out by
-    /// `into_journal`, and is not copied.
+    /// `into_journal`, and is not copied; the last part of one that was taken in parts, by `take_journal`.
     ///
     /// It waits until each [`Feed`] was dropped: for ever, if a watcher keeps one after its own drop.
     pub fn finish(self) -> (Book<C, A>, u64)
         ensures legal { IfSome result.0.journal (λ es. IsLegal es result.0.core.state) }
+        ensures part { IfSome result.0.part (λ es. IsPart es result.0.core.state) }
     {
         self.shared.set_stop();
         let Self {
@@ -347,7 +362,7 @@ impl<T: Drop, C: Drop, R: Threads + Wait + Clock + Drop, A: Allocator + Copy> De
             signals,
         } = shared;
         let book = wait_for_last(&rt, book).into_inner();
-        // The proof reads here that the journal is legal.
+        // The proof reads here that the journal is legal, or the part of it.
         let _ = book.is_journaled();
         (book, signals.missed.load(Ordering::SeqCst))
     }
@@ -373,7 +388,8 @@ impl<T: Drop, C: Drop, R: Threads + Wait + Clock + Drop, A: Allocator + Copy> De
     }
 
     /// Stops as `stop` does, and returns the timeout in nanoseconds and the journal: an empty list if
-    /// none is kept. If memory for a copy of the journal is refused, the thread has ended too.
+    /// none is kept, or a part of it was taken out. If memory for a copy of the journal is refused, the
+    /// thread has ended too.
     pub fn stop_journal(self) -> Result<(Moment, Vec<Entry<A>, A>), Error<A>>
         ensures legal { IfOk result (λ r. IsJournal r.0 r.1.items) }
         ensures kept { IfOk result (λ r. LosesNoChange r.0 r.1.items) }

@@ -4,8 +4,8 @@ use crate::memory::Silent;
 use crate::running::wait_for_any;
 use crate::watchers::{Replay, Starved};
 use notify_debouncer_full::{
-    Command, Config, DebounceEventResult, Debouncer, ErrorKind, NoCache, PathBuf, RecursiveMode,
-    new_debouncer_opt, new_journaled_debouncer,
+    Command, Config, DebounceDataInner, DebounceEventResult, Debouncer, Entry, ErrorKind, NoCache,
+    PathBuf, RecursiveMode, new_debouncer_opt, new_journaled_debouncer,
 };
 use std::alloc::Global;
 use std::process::Abort;
@@ -40,6 +40,66 @@ fn what_was_never_emitted_is_in_the_book(rt: HostRuntime) {
     assert_eq!(rt; book.core().pending_errors().len(), 1);
     let (timeout, journal) = book.into_journal();
     assert_eq!(rt; (timeout, journal.len()), (3_600_000_000_000, 5));
+}
+
+/// Whether the core gives the replies of this part of a journal to its commands.
+fn goes_on(core: &mut DebounceDataInner<NoCache, Heap>, part: Vec<Entry<Heap>, Heap>) -> bool {
+    for entry in part {
+        let Entry {
+            from: _,
+            command,
+            reply,
+        } = entry;
+        if core.step(command) != reply {
+            return false;
+        }
+    }
+    true
+}
+
+#[test]
+fn the_parts_of_a_journal_in_a_row_are_the_journal(rt: HostRuntime) {
+    let heap = new_heap(&rt);
+    let place = path(&rt, heap, "/w");
+    let mut debouncer: Replayed = start(rt, heap, long(), Silent);
+    debouncer
+        .watch(&place, RecursiveMode::Recursive)
+        .expect(&rt, "a watch");
+    heap.refuse(1);
+    let first = debouncer.take_journal();
+    let asked = heap.left() == 0;
+    heap.refuse(0);
+    let empty = debouncer.take_journal();
+    debouncer.unwatch(&place).expect(&rt, "no watch any longer");
+    let second = debouncer.take_journal();
+    debouncer
+        .watch(&place, RecursiveMode::Recursive)
+        .expect(&rt, "a watch");
+    let (mut book, missed) = debouncer.finish();
+    let third = book.take_journal();
+    assert!(rt; !asked && missed == 0 && !book.is_journaled());
+    assert_eq!(rt;
+        [first.len(), empty.len(), second.len(), third.len()],
+        [5, 0, 1, 5]
+    );
+    let mut core = DebounceDataInner::new(heap, NoCache::new(), 3_600_000_000_000);
+    assert!(rt; goes_on(&mut core, first));
+    assert!(rt; goes_on(&mut core, second));
+    assert!(rt; goes_on(&mut core, third));
+    let reached = core.outlook().expect(&rt, "memory");
+    assert!(rt; reached == book.outlook().expect(&rt, "memory"));
+}
+
+#[test]
+fn a_journal_that_was_taken_is_not_given_whole(rt: HostRuntime) {
+    let heap = new_heap(&rt);
+    let mut debouncer: Replayed = start(rt, heap, long(), Silent);
+    debouncer
+        .watch(&path(&rt, heap, "/w"), RecursiveMode::Recursive)
+        .expect(&rt, "a watch");
+    let taken = debouncer.take_journal();
+    let (_, journal) = debouncer.stop_journal().expect(&rt, "memory");
+    assert_eq!(rt; (taken.len(), journal.len()), (5, 0));
 }
 
 #[test]
