@@ -6,19 +6,7 @@ use Rattle.debounce_book.specs.Book.{kept_as, kept_entries, whole_of, part_of, w
 use Rattle.debounce_book.specs.Journal.{EntryValue, IsLegal, IsPart, LeadsTo}
 
 module _ {J : Type 0} (items : J → List EntryValue) where
-  -- a whole journal is shown where one is held
-  pub whole-held : (whole : Bool) (journal : Option J) → whole ≡ true →
-      whole_of whole (option_map items journal) ≡ option_map items journal
-  whole-held true journal is = refl
-  whole-held false journal is = cc
-
-  -- .. and none where a part is held
-  pub whole-parted : (whole : Bool) (journal : Option J) → whole ≡ false →
-      whole_of whole (option_map items journal) ≡ None
-  whole-parted false journal is = refl
-  whole-parted true journal is = cc
-
-  -- .. nor where nothing is held
+  -- no whole journal is shown where nothing is held
   pub whole-none : (whole : Bool) (journal : Option J) → is_some journal ≡ false →
       whole_of whole (option_map items journal) ≡ None
   whole-none true None is = refl
