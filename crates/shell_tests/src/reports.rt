@@ -1,10 +1,12 @@
 //! Reports of a folder of the test's own.
-use crate::build::{Host, TURNS, sleep_a_turn};
-use notify_debouncer_full::{Config, PathBuf, RecommendedReports, RecursiveMode, Reports};
+use crate::build::{TURNS, sleep_a_turn};
+use notify_debouncer_full::{
+    Config, DebouncerRuntime, PathBuf, RecommendedReports, RecursiveMode, Reports,
+};
 use std::fs::Files;
 use std::os::unix::fs::symlink;
 use std::process::Abort;
-use std::time::Duration;
+use std::time::{Clock, Duration};
 use std::{env, fs, process};
 
 /// The path of an entry of the folder at `top`.
@@ -28,7 +30,11 @@ fn turn_link(rt: &(impl Abort + AllocGlobal + Files), top: &str, to: &str) {
 }
 
 /// Waits until the watcher tells that its last round failed at this path, or at none.
-fn tells<R: Host>(rt: &R, reports: &RecommendedReports<R>, wanted: Option<&PathBuf>) -> bool {
+fn tells(
+    rt: &(impl Abort + Clock),
+    reports: &RecommendedReports<impl DebouncerRuntime>,
+    wanted: Option<&PathBuf>,
+) -> bool {
     for _ in 0..TURNS {
         let failed = reports.debouncer().watcher().failed_path();
         if failed.expect(rt, "memory").as_ref() == wanted {
@@ -40,7 +46,7 @@ fn tells<R: Host>(rt: &R, reports: &RecommendedReports<R>, wanted: Option<&PathB
 }
 
 /// What is reported within some seconds: how many events, and how many errors.
-fn counts<R: Host>(reports: &RecommendedReports<R>) -> [usize; 2] {
+fn counts(reports: &RecommendedReports<impl DebouncerRuntime>) -> [usize; 2] {
     match reports.next_within(Duration::from_secs(4)) {
         Some(Ok(batch)) => [batch.len(), 0],
         Some(Err(errors)) => [0, errors.len()],
@@ -50,10 +56,10 @@ fn counts<R: Host>(reports: &RecommendedReports<R>) -> [usize; 2] {
 
 /// Watches a file behind a link that comes to lead to itself, and then back. Returns what was reported
 /// first, and whether the watcher told of the path and then of none.
-fn follow_link<R: Host>(
-    rt: &R,
+fn follow_link(
+    rt: &(impl Abort + AllocGlobal + Files + Clock),
     top: &str,
-    reports: &RecommendedReports<R>,
+    reports: &RecommendedReports<impl DebouncerRuntime>,
     file: &PathBuf,
 ) -> ([usize; 2], bool, bool) {
     turn_link(rt, top, "/l");
