@@ -6,7 +6,7 @@ ghost use Rattle.debounce_model.specs.Queues.{push};
 ghost use Rattle.front_index.specs.Fronts.{IsIndexed};
 
 use crate::fronts::Fronts;
-use crate::put::put_new;
+use crate::put::put;
 use crate::queues::QueueMap;
 use debounce_model::case::first_path;
 use event_queue::queue::Queue;
@@ -36,7 +36,7 @@ pub(crate) fn push<A: Allocator + Copy>(
         return queue.append(event);
     }
     let time = event.time();
-    spare.reserve(path)?;
     let key = path.clone()?;
-    put_new(queues, fronts, key, time, Queue::single(alloc, event)?)
+    let queue = Queue::single(alloc, event)?;
+    put(queues, fronts, spare, alloc, key, time, queue)
 }

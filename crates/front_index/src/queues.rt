@@ -13,7 +13,7 @@ ghost use Rattle.front_index.specs.Plan.{IsLent, IsPlan, moves};
 ghost use Rattle.front_index.specs.Steps.{AreFilled};
 
 use crate::below::{drop_below, remove};
-use crate::fronts::{Fronts, front_of, is_first_due};
+use crate::fronts::{Fronts, is_first_due};
 use crate::plan::DuePlan;
 use crate::push::push;
 use crate::put::put;
@@ -107,10 +107,16 @@ impl<A: Allocator + Copy> IndexedQueues<A> {
         ensures ok { OnOk result (self.new ≡ with_queue self.old path queue) }
         ensures unchanged { OnErr result (self.new ≡ self.old) }
     {
-        self.spare.reserve(&path)?;
-        let was = front_of(self.map.get(&path));
         let time = queue.front_time().unwrap();
-        put(&mut self.map, &mut self.fronts, path, was, time, queue)
+        put(
+            &mut self.map,
+            &mut self.fronts,
+            &mut self.spare,
+            self.alloc,
+            path,
+            time,
+            queue,
+        )
     }
 
     /// Puts the event alone in the place of what waits at its first path, if something does. If an

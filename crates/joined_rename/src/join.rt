@@ -5,10 +5,10 @@ ghost use Rattle.std.specs.Map.{keys_of};
 ghost use Rattle.notify_paths.specs.Path.{path_cmp};
 ghost use Rattle.debounce_model.specs.WellFormed.{AreQueues};
 ghost use Rattle.joined_rename.specs.Renames.{joined_by};
-ghost use Rattle.joined_rename.specs.Steps.{IsSource, left_by, puts_by, staying_at};
+ghost use Rattle.joined_rename.specs.Steps.{IsSource, left_by, puts_at_two_by, staying_at};
 
 use crate::arrived::arrived;
-use crate::below::{add_going_along, drop_moved, stale_paths};
+use crate::below::{going_along, stale_paths};
 use crate::rename::Rename;
 use crate::source::{Source, source_at};
 use crate::target::target_at;
@@ -35,13 +35,17 @@ pub fn join<A: Allocator + Copy>(
     let map = queues.by_path();
     let source = source_at(map, from);
     let stays = source.keeps_event();
+    let going = going_along(map, alloc, from, to, source.original_time(rename.time))?;
+    let goes = !going.as_slice().is_empty();
     let stale = stale_paths(map, alloc, from, to)?;
-    let puts = puts(map, alloc, &source, rename)?;
+    let puts = puts(map, alloc, &source, rename, going)?;
     queues.put_all(puts)?;
     // From here on nothing can fail.
     leave(queues, from, to, stays);
     queues.take_out_all(stale.as_slice());
-    drop_moved(queues, from, to);
+    if goes {
+        queues.drop_below(from);
+    }
     Ok(())
 }
 
@@ -52,9 +56,11 @@ fn puts<A: Allocator + Copy>(
     alloc: A,
     source: &Source<'_, A>,
     rename: Rename<'_, A>,
+    mut going: Placed<A>,
 ) -> Result<Placed<A>, AllocError>
     requires { IsSource queues.now.entries rename.from.now source.now }
-    ensures puts { IfOk result (λ puts. puts.items ≡ puts_by queues.now.entries rename.entry) }
+    ensures puts { IfOk result (λ puts. puts.items
+        ≡ puts_at_two_by queues.now.entries rename.entry ++ going.items) }
     ensures ordered { IsStrictlySortedBy path_cmp (keys_of queues.now.entries) }
 {
     // The proof reads here that the paths ascend.
@@ -62,11 +68,10 @@ fn puts<A: Allocator + Copy>(
     let from = rename.from;
     let to = rename.to;
     let target = target_at(queues, source, from, to);
-    let began = source.original_time(rename.time);
     let queue = arrived(alloc, source, target, rename)?;
     let mut puts = put_at(alloc, to, queue)?;
     add_staying(&mut puts, from, source.stays)?;
-    add_going_along(&mut puts, queues, from, to, began)?;
+    puts.append(&mut going)?;
     Ok(puts)
 }
 
