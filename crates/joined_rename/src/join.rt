@@ -1,19 +1,17 @@
 //! The joined rename, whole.
 ghost use Rattle.std.specs.Prelude.{◌≡◌, ◌∷◌, ◌++◌, [], IfOk, OnErr, OnOk, option_copied};
-ghost use Rattle.std.specs.List.Sorted.{IsStrictlySortedBy};
-ghost use Rattle.std.specs.Map.{keys_of};
-ghost use Rattle.notify_paths.specs.Path.{path_cmp};
 ghost use Rattle.debounce_model.specs.WellFormed.{AreQueues};
 ghost use Rattle.joined_rename.specs.Renames.{joined_by};
-ghost use Rattle.joined_rename.specs.Steps.{IsSource, left_by, puts_at_two_by, staying_at};
+ghost use Rattle.joined_rename.specs.Steps.{IsPuts, left_by, staying_at};
 
 use crate::arrived::arrived;
 use crate::below::{going_along, stale_paths};
+use crate::look::{Look, look_at};
 use crate::rename::Rename;
 use crate::source::{Source, source_at};
 use crate::target::target_at;
 use event_queue::queue::Queue;
-use front_index::queues::{IndexedQueues, Placed, QueueMap};
+use front_index::queues::{IndexedQueues, Placed};
 use notify_paths::path::PathBuf;
 use notify_types::event::DebouncedEvent;
 use std::alloc::{AllocError, Allocator};
@@ -33,16 +31,25 @@ pub fn join<A: Allocator + Copy>(
     let to = rename.to;
     let alloc = queues.allocator();
     let map = queues.by_path();
-    let source = source_at(map, from);
+    let at_source = look_at(map, from);
+    let at_target = look_at(map, to);
+    let source = source_at(at_source.queue);
     let stays = source.keeps_event();
-    let going = going_along(map, alloc, from, to, source.original_time(rename.time))?;
+    let going = going_along(
+        map,
+        alloc,
+        &at_source,
+        to,
+        source.original_time(rename.time),
+    )?;
     let goes = !going.as_slice().is_empty();
-    let stale = stale_paths(map, alloc, from, to)?;
-    let puts = puts(map, alloc, &source, rename, going)?;
+    let stale = stale_paths(map, alloc, from, &at_target)?;
+    let puts = puts(alloc, &source, &at_target, rename, going)?;
     queues.put_all(puts)?;
     // From here on nothing can fail.
     leave(queues, from, to, stays);
     queues.take_out_all(stale.as_slice());
+    // If nothing goes along, nothing waits below the source either, or it stays there.
     if goes {
         queues.drop_below(from);
     }
@@ -52,22 +59,19 @@ pub fn join<A: Allocator + Copy>(
 /// The queues that a rename of this source puts: what then waits at the target, the event that stays at
 /// the source, and what goes along below it.
 fn puts<A: Allocator + Copy>(
-    queues: &QueueMap<A>,
     alloc: A,
     source: &Source<'_, A>,
+    at_target: &Look<'_, A>,
     rename: Rename<'_, A>,
     mut going: Placed<A>,
 ) -> Result<Placed<A>, AllocError>
-    requires { IsSource queues.now.entries rename.from.now source.now }
-    ensures puts { IfOk result (λ puts. puts.items
-        ≡ puts_at_two_by queues.now.entries rename.entry ++ going.items) }
-    ensures ordered { IsStrictlySortedBy path_cmp (keys_of queues.now.entries) }
+    requires { at_target.now.path.now ≡ rename.to.now }
+    ensures { IfOk result (λ puts. IsPuts source.now (option_copied at_target.now.queue)
+        rename.entry going.items puts.items) }
 {
-    // The proof reads here that the paths ascend.
-    let _len = queues.len();
     let from = rename.from;
     let to = rename.to;
-    let target = target_at(queues, source, from, to);
+    let target = target_at(source, from, at_target);
     let queue = arrived(alloc, source, target, rename)?;
     let mut puts = put_at(alloc, to, queue)?;
     add_staying(&mut puts, from, source.stays)?;
