@@ -1,0 +1,34 @@
+# shellcheck shell=bash disable=SC2154
+# A program of another repository, over the crates that scripts/vendor copies: the toolchain's trial runs it.
+printf '%s\n' 'vendor: no crate nothing' >wanted
+"$top/scripts/vendor" elsewhere nothing >out 2>err
+report 'no crate of that name is copied' "$([ $? = 2 ] && [ ! -s out ] && [ ! -e elsewhere ] && cmp -s err wanted && echo yes)"
+mkdir -p elsewhere/crates/mine/src elsewhere/crates/notify_paths
+"$top/scripts/vendor" elsewhere >out 2>err
+report 'a crate that is there already stays' "$([ $? = 2 ] && [ -z "$(ls elsewhere/crates/notify_paths)" ] && echo yes)"
+rmdir elsewhere/crates/notify_paths
+echo 'mine: notify_debouncer_full anyhow' >elsewhere/crates.txt
+cat >elsewhere/crates/mine/src/main.rt <<'END'
+#![tactic(auto)]
+use anyhow::Result;
+use notify_debouncer_full::{DebounceEventResult, PathBuf, RecommendedDebouncer, RecursiveMode, new_debouncer};
+use std::time::Duration;
+
+fn main(rt: HostRuntime) -> Result<()> {
+    let handler = |_outcome: DebounceEventResult| {};
+    let mut debouncer: RecommendedDebouncer<HostRuntime> =
+        new_debouncer(rt, rt.alloc(), Duration::from_millis(200), None, handler)?;
+    debouncer.watch(&PathBuf::parse(rt.alloc(), "/")?, RecursiveMode::NonRecursive)?;
+    println!(rt; "watched")?;
+    debouncer.stop();
+    Ok(())
+}
+END
+well=no
+for _ in 1 2; do
+    "$top/scripts/vendor" elsewhere >out 2>err && grep -qx 'mine: .*' elsewhere/crates.txt &&
+        [ "$(ls elsewhere/crates | wc -l)" = "$(($(cut -d ' ' -f 1 out) + 1))" ] && well=yes || well=no
+done
+report 'crates are copied, and once more' $well
+(cd elsewhere/crates/mine && "$toolchain" try) >out 2>err
+report 'a program of another repository' "$([ $? = 0 ] && [ "$(cat out)" = watched ] && echo yes)"
