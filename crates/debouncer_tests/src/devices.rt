@@ -9,9 +9,9 @@ use folder_listing::entry::Found;
 use folder_listing::listing::Listing;
 use notify_paths::error::{Error, ErrorKind};
 use notify_paths::path::PathBuf;
-use notify_poll::folders::Folders;
-use notify_poll::list::list;
-use notify_poll::round::poll_round;
+use poll_rounds::folders::Folders;
+use poll_rounds::list::list;
+use poll_rounds::round::poll_round;
 use std::io;
 use std::process::Abort;
 

@@ -16,7 +16,7 @@ use Rattle.debounce_model.specs.Play.{has_path}
 use Rattle.folder_listing.specs.declared.entry.Found.{Found}
 use Rattle.folder_listing.specs.Listing.{ListingValue, has_entry}
 use Rattle.folder_listing.proofs.BehindLemmas.{at-same, prefix-append, prefix-rest}
-use Rattle.notify_poll.specs.Folders.{AreNames}
+use Rattle.poll_rounds.specs.Folders.{AreNames}
 use Rattle.fake_folders.specs.Tree.{only_name, name_in}
 
 -- the name is this one, if it is one

@@ -1,11 +1,11 @@
 //! Folders that fail at one call, for tests.
 ghost use Rattle.std.specs.Prelude.{◌≡◌, ◌≤◌, ◌^◌, true, false};
-ghost use Rattle.notify_poll.specs.Folders.{CountsFailure};
+ghost use Rattle.poll_rounds.specs.Folders.{CountsFailure};
 
 use folder_listing::entry::Found;
 use notify_paths::error::{Error, ErrorKind};
 use notify_paths::path::PathBuf;
-use notify_poll::folders::Folders;
+use poll_rounds::folders::Folders;
 use std::alloc::Allocator;
 use std::io;
 

@@ -5,7 +5,7 @@ ghost use Rattle.std.specs.Option.{option_copied, option_map};
 ghost use Rattle.std.specs.Path.{components_remaining};
 ghost use Rattle.std.specs.String.{string_bytes};
 ghost use Rattle.notify_paths.specs.PathText.{part_of};
-ghost use Rattle.notify_poll.specs.Folders.{AreNames, IsTree, has_own_length};
+ghost use Rattle.poll_rounds.specs.Folders.{AreNames, IsTree, has_own_length};
 ghost use Rattle.fake_folders.specs.Tree.{name_in, only_name};
 
 use folder_listing::entry::Found;
@@ -13,7 +13,7 @@ use folder_listing::listing::Listing;
 use folder_listing::near::components_past;
 use notify_paths::error::Error;
 use notify_paths::path::PathBuf;
-use notify_poll::folders::Folders;
+use poll_rounds::folders::Folders;
 use std::alloc::{AllocError, Allocator};
 use std::path::{Component, Components};
 

@@ -49,12 +49,9 @@ pub use folder_scan::folder_scan::FolderScan;
 pub use notify_paths::error::{Error, ErrorKind};
 pub use notify_paths::part::{FoldersAbove, Part, Parts};
 pub use notify_paths::path::PathBuf;
-pub use notify_poll::folders::Folders;
-pub use notify_poll::list::list;
 pub use notify_poll::noting::NotingFolders;
 pub use notify_poll::polled::Polled;
 pub use notify_poll::real::RealFolders;
-pub use notify_poll::round::poll_round;
 pub use notify_poll::watcher::{PollTask, PollWatcher};
 pub use notify_types::event::{DebouncedEvent, Event, EventAttributes, Flag, RecursiveMode};
 pub use notify_types::kind::{
@@ -66,6 +63,9 @@ pub use notify_watch::config::{Config, WatcherKind};
 pub use notify_watch::gate::{Gate, feed_one, turn};
 pub use notify_watch::handler::{DebounceEventHandler, DebounceEventResult, EventHandler};
 pub use notify_watch::watcher::{ListingWatcher, Task, Watcher, start_task};
+pub use poll_rounds::folders::Folders;
+pub use poll_rounds::list::list;
+pub use poll_rounds::round::poll_round;
 pub use recommended::{
     RecommendedCache, RecommendedDebouncer, RecommendedWatcher, new_debouncer,
     new_debouncer_with_config,

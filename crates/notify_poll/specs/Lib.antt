@@ -1,4 +1,2 @@
-pub mod Folders
-pub mod Rounds
 pub mod Polled
 pub mod Noted

@@ -7,7 +7,7 @@ use Rattle.notify_types.specs.declared.event.RecursiveMode.{RecursiveMode}
 use Rattle.folder_listing.specs.Listing.{ListingValue, has_entry}
 use Rattle.folder_listing.specs.MergedListings.{IsMerged}
 use Rattle.folder_listing.specs.Near.{seen}
-use Rattle.notify_poll.specs.Folders.{IsTree, shown, IsRefusal}
+use Rattle.poll_rounds.specs.Folders.{IsTree, shown, IsRefusal}
 
 -- the watched paths, each with its mode, and what their last listing found
 pub record PolledValue : Type 0 where

@@ -1,10 +1,7 @@
-//! Polling: folders are listed again and again, and what changed since the last listing is reported.
+//! The watcher that polls: its roots and their last listing, real folders, and its thread.
 #![tactic(auto)]
 
-pub mod folders;
-pub mod list;
 pub mod noting;
 pub mod polled;
 pub mod real;
-pub mod round;
 pub mod watcher;

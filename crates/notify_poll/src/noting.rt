@@ -3,13 +3,13 @@ ghost use Rattle.std.specs.Prelude.{◌≡◌, ◌≤◌, None, Some, Option, ma
 ghost use Rattle.std.specs.Option.{option_copied, option_map};
 ghost use Rattle.std.specs.String.{string_bytes};
 ghost use Rattle.folder_listing.specs.Listing.{entry_at};
-ghost use Rattle.notify_poll.specs.Folders.{IsRefusal, NamesOf};
+ghost use Rattle.poll_rounds.specs.Folders.{IsRefusal, NamesOf};
 ghost use Rattle.notify_poll.specs.Noted.{IsNoted, Notes};
 
-use crate::folders::Folders;
 use folder_listing::entry::Found;
 use notify_paths::error::Error;
 use notify_paths::path::PathBuf;
+use poll_rounds::folders::Folders;
 use std::alloc::{Allocator, Global};
 
 /// Other folders, and the path of their last call that failed. They tell what the others tell.

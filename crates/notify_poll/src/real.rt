@@ -1,12 +1,12 @@
 //! The real file system.
 ghost use Rattle.std.specs.Prelude.{◌≡◌, ◌≤◌, None, IfErr};
 ghost use Rattle.notify_paths.specs.Errors.{out_of_memory};
-ghost use Rattle.notify_poll.specs.Folders.{IsRefusal};
+ghost use Rattle.poll_rounds.specs.Folders.{IsRefusal};
 
-use crate::folders::Folders;
 use folder_listing::entry::{EntryKind, Found};
 use notify_paths::error::{Error, ErrorKind};
 use notify_paths::path::PathBuf;
+use poll_rounds::folders::Folders;
 use std::alloc::{AllocError, Allocator, Global};
 use std::fs::{DirEntry, Files, Metadata, ReadDir};
 use std::{fs, io};

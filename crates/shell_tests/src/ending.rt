@@ -1,19 +1,17 @@
 //! Debouncers that end: how soon, and what they give back then.
-use crate::build::{Heap, Host, new_heap, path, sleep_a_turn, start};
+use crate::build::{Heap, Host, Running, new_heap, path, sleep_a_turn, start};
 use crate::memory::Silent;
 use crate::running::wait_for_any;
 use crate::watchers::{Replay, Starved};
 use notify_debouncer_full::{
-    Command, Config, DebounceDataInner, DebounceEventResult, Debouncer, Entry, ErrorKind, NoCache,
-    PathBuf, RecursiveMode, new_debouncer_opt, new_journaled_debouncer,
+    Command, Config, DebounceDataInner, DebounceEventResult, Entry, ErrorKind, Feed, NoCache,
+    PathBuf, RecursiveMode, Watcher, new_debouncer_opt, new_journaled_debouncer,
 };
 use std::alloc::Global;
 use std::process::Abort;
 use std::sync::Arc;
 use std::sync::atomic::{AtomicU64, Ordering};
 use std::time::{Clock, Duration, Instant};
-
-type Replayed = Debouncer<Replay<HostRuntime, Heap>, NoCache, HostRuntime, Heap>;
 
 /// So long a timeout that nothing is emitted while a test runs, and no tick ends.
 fn long() -> Duration {
@@ -27,8 +25,14 @@ fn millis_since(rt: &(impl Abort + Clock), start: Instant) -> u128 {
 
 #[test]
 fn what_was_never_emitted_is_in_the_book(rt: HostRuntime) {
+    check_the_book::<Replay<HostRuntime, Heap>, HostRuntime>(rt);
+}
+
+fn check_the_book<T: Watcher<Feed<NoCache, R, Heap>, R, Heap>, R: Host>(rt: R)
+    requires takes { (feed : _) → T.takes feed }
+{
     let heap = new_heap(&rt);
-    let mut debouncer: Replayed = start(rt, heap, long(), Silent);
+    let mut debouncer: Running<T, R> = start(rt, heap, long(), Silent);
     debouncer
         .watch(&path(&rt, heap, "/w"), RecursiveMode::Recursive)
         .expect(&rt, "a watch");
@@ -59,9 +63,15 @@ fn goes_on(core: &mut DebounceDataInner<NoCache, Heap>, part: Vec<Entry<Heap>, H
 
 #[test]
 fn the_parts_of_a_journal_in_a_row_are_the_journal(rt: HostRuntime) {
+    check_the_parts::<Replay<HostRuntime, Heap>, HostRuntime>(rt);
+}
+
+fn check_the_parts<T: Watcher<Feed<NoCache, R, Heap>, R, Heap>, R: Host>(rt: R)
+    requires takes { (feed : _) → T.takes feed }
+{
     let heap = new_heap(&rt);
     let place = path(&rt, heap, "/w");
-    let mut debouncer: Replayed = start(rt, heap, long(), Silent);
+    let mut debouncer: Running<T, R> = start(rt, heap, long(), Silent);
     debouncer
         .watch(&place, RecursiveMode::Recursive)
         .expect(&rt, "a watch");
@@ -92,8 +102,14 @@ fn the_parts_of_a_journal_in_a_row_are_the_journal(rt: HostRuntime) {
 
 #[test]
 fn a_journal_that_was_taken_is_not_given_whole(rt: HostRuntime) {
+    check_the_rest::<Replay<HostRuntime, Heap>, HostRuntime>(rt);
+}
+
+fn check_the_rest<T: Watcher<Feed<NoCache, R, Heap>, R, Heap>, R: Host>(rt: R)
+    requires takes { (feed : _) → T.takes feed }
+{
     let heap = new_heap(&rt);
-    let mut debouncer: Replayed = start(rt, heap, long(), Silent);
+    let mut debouncer: Running<T, R> = start(rt, heap, long(), Silent);
     debouncer
         .watch(&path(&rt, heap, "/w"), RecursiveMode::Recursive)
         .expect(&rt, "a watch");
@@ -104,14 +120,20 @@ fn a_journal_that_was_taken_is_not_given_whole(rt: HostRuntime) {
 
 #[test]
 fn a_long_tick_does_not_hold_up_a_stop(rt: HostRuntime) {
+    check_stops::<Replay<HostRuntime, Heap>, HostRuntime>(rt);
+}
+
+fn check_stops<T: Watcher<Feed<NoCache, R, Heap>, R, Heap>, R: Host>(rt: R)
+    requires takes { (feed : _) → T.takes feed }
+{
     let heap = new_heap(&rt);
     let mut soon = false;
     // A machine that is busy elsewhere may need another try.
     for _ in 0..3 {
         let begun = Instant::now(&rt).expect(&rt, "a clock");
-        let stopped: Replayed = start(rt, heap, long(), Silent);
+        let stopped: Running<T, R> = start(rt, heap, long(), Silent);
         stopped.stop();
-        let finished: Replayed = start(rt, heap, long(), Silent);
+        let finished: Running<T, R> = start(rt, heap, long(), Silent);
         finished.finish();
         if millis_since(&rt, begun) < 2000 {
             soon = true;
@@ -123,17 +145,22 @@ fn a_long_tick_does_not_hold_up_a_stop(rt: HostRuntime) {
 
 #[test]
 fn a_tick_of_nothing_does_not_spin(rt: HostRuntime) {
+    check_ticks::<Replay<HostRuntime, Global>, HostRuntime>(rt);
+}
+
+fn check_ticks<T: Watcher<Feed<NoCache, R>, R, Global>, R: Host>(rt: R)
+    requires takes { (feed : _) → T.takes feed }
+{
     let start = Instant::now(&rt).expect(&rt, "a clock");
-    let made: Result<Debouncer<Replay<HostRuntime, Global>, NoCache, HostRuntime>, _> =
-        new_journaled_debouncer(
-            rt,
-            rt.alloc(),
-            Duration::from_millis(4),
-            Some(Duration::from_nanos(0)),
-            |_outcome: DebounceEventResult| {},
-            NoCache::new(),
-            Config::default(),
-        );
+    let made: Result<Running<T, R, Global>, _> = new_journaled_debouncer(
+        rt,
+        rt.alloc(),
+        Duration::from_millis(4),
+        Some(Duration::from_nanos(0)),
+        |_outcome: DebounceEventResult| {},
+        NoCache::new(),
+        Config::default(),
+    );
     let debouncer = made.expect(&rt, "a debouncer");
     for _ in 0..20 {
         sleep_a_turn(&rt);
@@ -151,6 +178,12 @@ fn a_tick_of_nothing_does_not_spin(rt: HostRuntime) {
 
 #[test]
 fn a_closure_counts_what_it_cannot_send(rt: HostRuntime) {
+    check_count::<Replay<HostRuntime, Global>, HostRuntime>(rt);
+}
+
+fn check_count<T: Watcher<Feed<NoCache, R>, R, Global>, R: Host>(rt: R)
+    requires takes { (feed : _) → T.takes feed }
+{
     let (to, from) = crossbeam_channel::unbounded(rt.alloc()).expect(&rt, "memory");
     let lost = Arc::new(rt.alloc(), AtomicU64::new(0)).expect(&rt, "memory");
     let count = Arc::try_clone(&lost).expect(&rt, "memory");
@@ -160,16 +193,15 @@ fn a_closure_counts_what_it_cannot_send(rt: HostRuntime) {
         }
     };
     drop(from);
-    let made: Result<Debouncer<Replay<HostRuntime, Global>, NoCache, HostRuntime>, _> =
-        new_debouncer_opt(
-            rt,
-            rt.alloc(),
-            Duration::from_millis(4),
-            None,
-            send,
-            NoCache::new(),
-            Config::default(),
-        );
+    let made: Result<Running<T, R, Global>, _> = new_debouncer_opt(
+        rt,
+        rt.alloc(),
+        Duration::from_millis(4),
+        None,
+        send,
+        NoCache::new(),
+        Config::default(),
+    );
     let mut debouncer = made.expect(&rt, "a debouncer");
     debouncer
         .watch(&path(&rt, rt.alloc(), "/w"), RecursiveMode::Recursive)
@@ -180,9 +212,9 @@ fn a_closure_counts_what_it_cannot_send(rt: HostRuntime) {
 }
 
 /// Watches the path no longer, without memory. Returns whether memory was what lacked.
-fn is_starved<R: Host>(
+fn is_starved<T: Watcher<Feed<NoCache, R, Heap>, R, Heap>, R: Host>(
     heap: Heap,
-    debouncer: &mut Debouncer<Starved<R>, NoCache, R, Heap>,
+    debouncer: &mut Running<T, R>,
     place: &PathBuf<Heap>,
 ) -> bool {
     heap.refuse(u64::MAX);
@@ -193,13 +225,14 @@ fn is_starved<R: Host>(
 
 #[test]
 fn a_root_that_a_refused_unwatch_left_is_removed(rt: HostRuntime) {
+    check_the_root::<Starved<HostRuntime>, HostRuntime>(rt);
+}
+
+fn check_the_root<T: Watcher<Feed<NoCache, R, Heap>, R, Heap>, R: Host>(rt: R)
+    requires takes { (feed : _) → T.takes feed }
+{
     let heap = new_heap(&rt);
-    let mut debouncer: Debouncer<Starved<HostRuntime>, NoCache, HostRuntime, Heap> = start(
-        rt,
-        heap,
-        long(),
-        Silent,
-    );
+    let mut debouncer: Running<T, R> = start(rt, heap, long(), Silent);
     let place = path(&rt, heap, "/w");
     debouncer
         .watch(&place, RecursiveMode::Recursive)

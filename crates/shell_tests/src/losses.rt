@@ -1,9 +1,9 @@
 //! What could not be sent, and turns that were refused.
-use crate::build::{Heap, TURNS, new_heap, path, start};
+use crate::build::{Heap, Host, Running, TURNS, new_heap, path, start};
 use crate::watchers::Replay;
 use crossbeam_channel::Receiver;
 use notify_debouncer_full::{
-    DebounceEventHandler, DebounceEventResult, Debouncer, NoCache, RecursiveMode, SendTo,
+    DebounceEventHandler, DebounceEventResult, Feed, NoCache, RecursiveMode, SendTo, Watcher,
 };
 use std::process::Abort;
 use std::sync::Wait;
@@ -30,8 +30,6 @@ fn what_cannot_be_sent_is_counted(rt: HostRuntime) {
     );
 }
 
-type Starving = Debouncer<Replay<HostRuntime, Heap>, NoCache, HostRuntime, Heap>;
-
 /// Waits for a batch, and answers whether one came.
 fn has_batch(rt: &(impl Wait + Clock), from: &Receiver<DebounceEventResult<Heap>>) -> bool {
     for _ in 0..TURNS {
@@ -44,11 +42,17 @@ fn has_batch(rt: &(impl Wait + Clock), from: &Receiver<DebounceEventResult<Heap>
 
 #[test]
 fn a_refused_turn_is_counted_and_loses_nothing(rt: HostRuntime) {
+    check_turns::<Replay<HostRuntime, Heap>, HostRuntime>(rt);
+}
+
+fn check_turns<T: Watcher<Feed<NoCache, R, Heap>, R, Heap>, R: Host>(rt: R)
+    requires takes { (feed : _) → T.takes feed }
+{
     let heap = new_heap(&rt);
     let (sender, from) = crossbeam_channel::unbounded(rt.alloc()).expect(&rt, "memory");
     let handler = SendTo::new(rt, sender);
     // The first tick comes after memory is refused.
-    let mut debouncer: Starving = start(rt, heap, Duration::from_secs(1), handler);
+    let mut debouncer: Running<T, R> = start(rt, heap, Duration::from_secs(1), handler);
     debouncer
         .watch(&path(&rt, heap, "/w"), RecursiveMode::Recursive)
         .expect(&rt, "a watch");

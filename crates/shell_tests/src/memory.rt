@@ -1,9 +1,9 @@
 //! Each request for memory refused in turn, and what a feed notes of an event.
-use crate::build::{Heap, Host, commands, new_heap, path, start};
+use crate::build::{Heap, Host, Running, commands, new_heap, path, start};
 use crate::watchers::Starved;
 use notify_debouncer_full::{
-    Book, Command, Config, DebounceEventHandler, DebounceEventResult, Debouncer, Entry, Error,
-    ErrorKind, NoCache, PathBuf, RecursiveMode, command_step, tick_step,
+    Book, Command, Config, DebounceEventHandler, DebounceEventResult, Entry, Error, ErrorKind,
+    Feed, NoCache, PathBuf, RecursiveMode, Watcher, command_step, tick_step,
 };
 use std::process::Abort;
 use std::time::Duration;
@@ -90,13 +90,16 @@ impl DebounceEventHandler<DebounceEventResult<Heap>> for Silent {
     {}
 }
 
-type Hungry<R> = Debouncer<Starved<R>, NoCache, R, Heap>;
-
 /// How often a list may have room already for what comes.
 const ROOM: u32 = 20;
 
 /// Whether something is missed if the nth request for memory is refused.
-fn is_missed<R: Host>(rt: &R, debouncer: &mut Hungry<R>, place: &PathBuf<Heap>, n: u64) -> bool {
+fn is_missed<T: Watcher<Feed<NoCache, R, Heap>, R, Heap>, R: Host>(
+    rt: &R,
+    debouncer: &mut Running<T, R>,
+    place: &PathBuf<Heap>,
+    n: u64,
+) -> bool {
     let config = Config::default().with_poll_interval(Duration::from_nanos(n));
     debouncer.configure(config).expect(rt, "a setting");
     let before = debouncer.missed();
@@ -113,10 +116,16 @@ fn is_missed<R: Host>(rt: &R, debouncer: &mut Hungry<R>, place: &PathBuf<Heap>, 
 
 #[test]
 fn each_refused_event_and_error_is_missed(rt: HostRuntime) {
+    check_missed::<Starved<HostRuntime>, HostRuntime>(rt);
+}
+
+fn check_missed<T: Watcher<Feed<NoCache, R, Heap>, R, Heap>, R: Host>(rt: R)
+    requires takes { (feed : _) → T.takes feed }
+{
     let heap = new_heap(&rt);
     for place in ["/a", "/error"] {
         // The worker sleeps all the while, and asks for no memory.
-        let mut debouncer: Hungry<HostRuntime> = start(rt, heap, Duration::from_secs(240), Silent);
+        let mut debouncer: Running<T, R> = start(rt, heap, Duration::from_secs(240), Silent);
         let place = path(&rt, heap, place);
         assert!(rt; !is_missed(&rt, &mut debouncer, &place, 0));
         let mut missed = 0u64;
@@ -136,10 +145,16 @@ fn each_refused_event_and_error_is_missed(rt: HostRuntime) {
 
 #[test]
 fn each_refused_copy_of_the_journal_is_reported(rt: HostRuntime) {
+    check_copies::<Starved<HostRuntime>, HostRuntime>(rt);
+}
+
+fn check_copies<T: Watcher<Feed<NoCache, R, Heap>, R, Heap>, R: Host>(rt: R)
+    requires takes { (feed : _) → T.takes feed }
+{
     let heap = new_heap(&rt);
     let mut count = 0u64;
     for n in 1..200u64 {
-        let mut debouncer: Hungry<HostRuntime> = start(rt, heap, Duration::from_millis(4), Silent);
+        let mut debouncer: Running<T, R> = start(rt, heap, Duration::from_millis(4), Silent);
         debouncer
             .watch(&path(&rt, heap, "/a"), RecursiveMode::Recursive)
             .expect(&rt, "memory");
@@ -176,8 +191,14 @@ fn existing(rt: &(impl Abort + AllocGlobal), journal: &[Entry<Heap>]) -> String 
 
 #[test]
 fn a_feed_sees_whether_the_path_of_a_half_exists(rt: HostRuntime) {
+    check_halves::<Starved<HostRuntime>, HostRuntime>(rt);
+}
+
+fn check_halves<T: Watcher<Feed<NoCache, R, Heap>, R, Heap>, R: Host>(rt: R)
+    requires takes { (feed : _) → T.takes feed }
+{
     let heap = new_heap(&rt);
-    let mut debouncer: Hungry<HostRuntime> = start(rt, heap, Duration::from_millis(4), Silent);
+    let mut debouncer: Running<T, R> = start(rt, heap, Duration::from_millis(4), Silent);
     for place in ["/", "/nothing has this name"] {
         debouncer
             .watch(&path(&rt, heap, place), RecursiveMode::Recursive)

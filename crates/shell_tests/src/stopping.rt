@@ -1,5 +1,5 @@
 //! Debouncers that are stopped, and watchers that refuse.
-use crate::build::{Heap, Host, new_heap, path, start};
+use crate::build::{Heap, Host, Running, new_heap, path, start};
 use crate::memory::Silent;
 use crate::running::{Holder, Seen, wait_for, wait_for_any};
 use crate::watchers::{Replay, Stubborn};
@@ -14,8 +14,6 @@ use std::sync::atomic::Ordering;
 use std::sync::{Arc, Wait};
 use std::thread::Threads;
 use std::time::{Clock, Duration};
-
-type Replayed = Debouncer<Replay<HostRuntime, Global>, NoCache, HostRuntime>;
 
 /// The ways to stop a debouncer.
 #[derive(Clone, Copy, Debug)]
@@ -114,6 +112,12 @@ fn new_seen(rt: &(impl Abort + AllocGlobal), phase: Phase) -> Arc<Seen> {
 
 #[test]
 fn a_stop_lets_one_turn_end_at_most(rt: HostRuntime) {
+    check_stops::<Replay<HostRuntime, Global>, HostRuntime>(rt);
+}
+
+fn check_stops<T: Watcher<Feed<NoCache, R>, R, Global>, R: Host>(rt: R)
+    requires takes { (feed : _) → T.takes feed }
+{
     for (phase, way) in STOPS {
         let seen = new_seen(&rt, phase);
         let handler = Holder {
@@ -122,7 +126,7 @@ fn a_stop_lets_one_turn_end_at_most(rt: HostRuntime) {
         };
         let timeout = Duration::from_millis(40);
         let (rate, config) = (Some(timeout), Config::default());
-        let debouncer: Result<Replayed, Error> = new_debouncer_opt(
+        let debouncer: Result<Running<T, R, Global>, Error> = new_debouncer_opt(
             rt,
             rt.alloc(),
             timeout,
@@ -153,8 +157,6 @@ fn replayed(heap: Heap, journal: Vec<Entry<Heap>, Heap>) -> DebounceDataInner<No
     core
 }
 
-type Refusing<R> = Debouncer<Stubborn<Heap>, NoCache, R, Heap>;
-
 /// Why a call was refused, if it was.
 fn word_of(answer: Result<(), Error<Heap>>) -> &'static str {
     match answer {
@@ -169,10 +171,10 @@ fn word_of(answer: Result<(), Error<Heap>>) -> &'static str {
 }
 
 /// Watches a path, and returns why it was refused, if it was. There is no memory for `/starved`.
-fn refusal_of<R: Host>(
+fn refusal_of<T: Watcher<Feed<NoCache, R, Heap>, R, Heap>, R: Host>(
     rt: &R,
     heap: Heap,
-    debouncer: &mut Refusing<R>,
+    debouncer: &mut Running<T, R>,
     place: &str,
 ) -> &'static str {
     let place = path(rt, heap, place);
@@ -205,8 +207,14 @@ fn is_root(core: &DebounceDataInner<NoCache, Heap>, place: &PathBuf<Heap>) -> bo
 
 #[test]
 fn a_refused_watch_adds_no_root_and_a_refused_unwatch_drops_none(rt: HostRuntime) {
+    check_roots::<Stubborn<Heap>, HostRuntime>(rt);
+}
+
+fn check_roots<T: Watcher<Feed<NoCache, R, Heap>, R, Heap>, R: Host>(rt: R)
+    requires takes { (feed : _) → T.takes feed }
+{
     let heap = new_heap(&rt);
-    let mut debouncer: Refusing<HostRuntime> = start(rt, heap, Duration::from_millis(4), Silent);
+    let mut debouncer: Running<T, R> = start(rt, heap, Duration::from_millis(4), Silent);
     let places = ["/gone", "/starved", "/w"];
     let gone = refusal_of(&rt, heap, &mut debouncer, "/gone");
     let starved = refusal_of(&rt, heap, &mut debouncer, "/starved");

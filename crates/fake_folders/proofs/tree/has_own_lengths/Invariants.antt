@@ -1,6 +1,6 @@
 use Rattle.std.proofs.Common.{◌≡◌, length}
 use Rattle.std.specs.List.{list_all}
-use Rattle.notify_poll.specs.Folders.{has_own_length}
+use Rattle.poll_rounds.specs.Folders.{has_own_length}
 use Rattle.fake_folders.proofs.tree.has_own_lengths.Given as goal
 
 abbrev pub decreases-loop-path : goal.decreases-loop-path

@@ -4,9 +4,9 @@ use Rattle.notify_paths.specs.Path.{PathValue}
 use Rattle.notify_types.specs.declared.event.RecursiveMode.{RecursiveMode}
 use Rattle.folder_listing.specs.Listing.{IsListing, has_entry}
 use Rattle.folder_listing.proofs.WalkLemmas.{has_entry-some}
-use Rattle.notify_poll.specs.Folders.{Adds, IsTree, shows}
+use Rattle.poll_rounds.specs.Folders.{Adds, IsTree, shows}
 use Rattle.notify_poll.specs.Polled.{ShowsFirst}
-use Rattle.notify_poll.proofs.RootLemmas.{listed-one}
+use Rattle.poll_rounds.proofs.RootLemmas.{listed-one}
 use Rattle.notify_poll.proofs.PolledLemmas.{lacks}
 use Rattle.notify_poll.proofs.polled.first_listing.Goals as goal
 

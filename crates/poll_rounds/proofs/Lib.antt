@@ -1,0 +1,6 @@
+pub mod ReachLemmas
+pub mod ShownLemmas
+pub mod ListLemmas
+pub mod RootLemmas
+pub mod RoundLemmas
+pub mod FirstLemmas

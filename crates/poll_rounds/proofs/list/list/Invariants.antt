@@ -1,0 +1,13 @@
+use Rattle.std.proofs.Common.{◌≡◌, ◌≤◌, take}
+use Rattle.folder_listing.specs.Listing.{IsListing}
+use Rattle.poll_rounds.proofs.RootLemmas.{HasListed}
+use Rattle.poll_rounds.proofs.list.list.Given as goal
+
+-- the folders tell and count as before
+abbrev pub invariant-loop-root : goal.invariant-loop-root
+invariant-loop-root g l = record {
+  listed : HasListed (g.D.Folders.told l.fn.folders) (take l.root-index l.roots) l.listing;
+  law : IsListing l.listing;
+  same : g.D.Folders.told l.folders ≡ g.D.Folders.told l.fn.folders;
+  counted : g.D.Folders.failed l.fn.folders ≤ g.D.Folders.failed l.folders;
+}

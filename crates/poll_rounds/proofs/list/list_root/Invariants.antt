@@ -1,0 +1,15 @@
+use Rattle.std.proofs.Common.{◌≡◌, ◌≤◌, take, true}
+use Rattle.std.specs.Map.{keys_of}
+use Rattle.debounce_model.specs.Honest.{has_folders}
+use Rattle.poll_rounds.proofs.RootLemmas.{IsOpenTo, HasFolders}
+use Rattle.poll_rounds.proofs.list.list_root.Given as goal
+
+-- the folders above the next path are there, and the folders tell and count as before
+abbrev pub invariant-loop-count : goal.invariant-loop-count
+invariant-loop-count g l = record {
+  passed : IsOpenTo (g.D.Folders.told l.fn.folders) l.mode l.root l.fn.listing (take l.count l.root);
+  added : HasFolders (g.D.Folders.told l.fn.folders) l.mode l.root l.fn.listing (take l.count l.root) l.listing;
+  above : has_folders (keys_of l.listing) (take l.count l.root) ≡ true;
+  same : g.D.Folders.told l.folders ≡ g.D.Folders.told l.fn.folders;
+  counted : g.D.Folders.failed l.fn.folders ≤ g.D.Folders.failed l.folders;
+}

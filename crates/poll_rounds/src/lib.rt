@@ -1,0 +1,6 @@
+//! Rounds of polling: folders are listed, and what changed since the last listing is reported.
+#![tactic(auto)]
+
+pub mod folders;
+pub mod list;
+pub mod round;
