@@ -1,5 +1,6 @@
 -- What a journal writes of events.
-use Rattle.std.specs.Prelude.{ℕ, ◌+◌, ◌-◌, ◌^◌, min, List, [], ◌∷◌, ◌++◌}
+use Rattle.std.specs.Prelude.{◌≡◌, ℕ, ◌+◌, ◌-◌, ◌^◌, min, List, [], ◌∷◌, ◌++◌, Some}
+use Rattle.serde_json.specs.Read.{read}
 use Rattle.notify_types.specs.Event.{Timed}
 use Rattle.notify_types.specs.KindWords.{word_of}
 use Rattle.notify_paths.specs.Path.{PathValue}
@@ -7,7 +8,7 @@ use Rattle.notify_paths.specs.PathText.{text_of}
 use Rattle.watch_program.specs.Fields.{field_of}
 use Rattle.journal_lines.specs.declared.form.Form.{Form}
 use Rattle.journal_lines.specs.declared.form.Form.TheVariants.{Plain, Json, Zero}
-use Rattle.journal_lines.specs.Json.{json_text}
+use Rattle.journal_lines.specs.Json.{json_text, event_data}
 
 -- the paths, each after a tab
 abbrev pub tab_paths : List PathValue → List ℕ
@@ -38,3 +39,9 @@ entries_of form seq (x ∷ xs) = entry_of form seq x ++ entries_of form (next_of
 abbrev pub after : ℕ → List Timed → ℕ
 after seq [] = seq
 after seq (x ∷ xs) = after (next_of seq) xs
+
+-- the text of each of these events, of which the first has this number, is read as that event
+abbrev pub AreReadBack : ℕ → List Timed → Type 0
+AreReadBack seq [] = Unit {0}
+AreReadBack seq (x ∷ xs) =
+    (read (json_text seq x) ≡ Some (event_data seq x)) × AreReadBack (next_of seq) xs

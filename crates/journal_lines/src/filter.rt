@@ -1,8 +1,8 @@
 //! The filter of some patterns.
 ghost use Rattle.std.specs.Prelude.{◌≡◌, IfOk, option_map};
 ghost use Rattle.regex.specs.Strings.{matcher_pattern};
-ghost use Rattle.std.specs.List.{filter, list_any};
-ghost use Rattle.journal_lines.specs.Kept.{is_found, is_wanted_text, is_wanted, is_kept};
+ghost use Rattle.std.specs.List.{list_any};
+ghost use Rattle.journal_lines.specs.Kept.{is_found, is_wanted_text, is_wanted, is_kept, passing};
 ghost use Rattle.journal_lines.specs.KeptView.{filter_rule};
 
 use notify_paths::path::PathBuf;
@@ -25,7 +25,7 @@ impl<'p> PathFilter<'p> {
         batch: Vec<DebouncedEvent>,
     ) -> Result<Vec<DebouncedEvent>, AllocError>
         ensures kept { IfOk result (λ kept. kept.items
-            ≡ filter (is_kept (filter_rule self.old)) batch.items) }
+            ≡ passing (filter_rule self.old) batch.items) }
         ensures same { filter_rule self.new ≡ filter_rule self.old }
     {
         let mut kept = Vec::new(alloc);

@@ -1,5 +1,7 @@
 //! The forms of a journal, and what an event is in each.
-ghost use Rattle.std.specs.Prelude.{◌≡◌, ◌++◌, OnOk};
+ghost use Rattle.std.specs.Prelude.{◌≡◌, ◌++◌, Some, OnOk};
+ghost use Rattle.serde_json.specs.Read.{read};
+ghost use Rattle.journal_lines.specs.Json.{event_data, json_text};
 ghost use Rattle.journal_lines.specs.declared.form.Form.TheVariants.{Plain, Json};
 ghost use Rattle.journal_lines.specs.Lines.{entry_of, tab_paths, zero_paths};
 
@@ -28,7 +30,9 @@ pub(crate) fn push_event(
     seq: u64,
     event: &DebouncedEvent,
 ) -> Result<(), AllocError>
-    ensures { OnOk result (text.new.items ≡ text.old.items ++ entry_of form seq event.now) }
+    ensures text { OnOk result (text.new.items ≡ text.old.items ++ entry_of form seq event.now) }
+    ensures again { OnOk result (form ≡ Form.Json
+        → read (json_text seq event.now) ≡ Some (event_data seq event.now)) }
 {
     match form {
         Form::Plain => push_plain(text, event),
@@ -61,7 +65,9 @@ fn push_json(
     seq: u64,
     event: &DebouncedEvent,
 ) -> Result<(), AllocError>
-    ensures { OnOk result (text.new.items ≡ text.old.items ++ entry_of Json seq event.now) }
+    ensures text { OnOk result (text.new.items ≡ text.old.items ++ entry_of Json seq event.now) }
+    ensures again { OnOk result (read (json_text seq event.now)
+        ≡ Some (event_data seq event.now)) }
 {
     let line = json_line(alloc, seq, event)?;
     text.extend_from_slice(line.as_bytes())?;

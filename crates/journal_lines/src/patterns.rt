@@ -1,11 +1,13 @@
 //! The patterns of a filter.
-ghost use Rattle.std.specs.Prelude.{◌≡◌, IfOk, option_map};
+ghost use Rattle.std.specs.Prelude.{◌≡◌, ◌⊎◌, IfOk, IfErr, option_map};
 ghost use Rattle.regex.specs.Strings.{regex_pattern, matcher_pattern};
-ghost use Rattle.journal_lines.specs.KeptView.{filter_rule, patterns_rule};
+ghost use Rattle.journal_lines.specs.KeptView.{IsPatternOf, filter_rule, patterns_rule};
+ghost use Rattle.watch_program.specs.declared.fault.Fault.TheVariants.{NotPattern, Memory};
 
 use crate::filter::PathFilter;
-use regex::{Matcher, Regex};
+use regex::{Error, Matcher, Regex};
 use std::alloc::{AllocError, Global};
+use watch_program::Fault;
 
 /// Two patterns, each of which may be missing: a path is wanted if it matches the first and doesn't
 /// match the second.
@@ -15,17 +17,19 @@ pub struct Patterns {
     pub(crate) exclude: Option<Regex>,
 }
 
-/// A text isn't a regular expression, or memory for it was refused.
-#[derive(Debug, Drop)]
-pub struct PatternError;
-
 impl Patterns {
     /// Reads the patterns.
     pub fn parse(
         alloc: Global,
         include: Option<&str>,
         exclude: Option<&str>,
-    ) -> Result<Patterns, PatternError> {
+    ) -> Result<Patterns, Fault>
+        ensures include { IfOk result (λ p.
+            IsPatternOf (option_map (λ s. s.now) include.entry) p.include) }
+        ensures exclude { IfOk result (λ p.
+            IsPatternOf (option_map (λ s. s.now) exclude.entry) p.exclude) }
+        ensures err { IfErr result (λ e. (e ≡ NotPattern) ⊎ (e ≡ Memory)) }
+    {
         Ok(Patterns {
             include: pattern_of(alloc, include)?,
             exclude: pattern_of(alloc, exclude)?,
@@ -43,13 +47,17 @@ impl Patterns {
     }
 }
 
-fn pattern_of(alloc: Global, text: Option<&str>) -> Result<Option<Regex>, PatternError> {
+fn pattern_of(alloc: Global, text: Option<&str>) -> Result<Option<Regex>, Fault>
+    ensures ok { IfOk result (IsPatternOf (option_map (λ s. s.now) text.entry)) }
+    ensures err { IfErr result (λ e. (e ≡ NotPattern) ⊎ (e ≡ Memory)) }
+{
     let Some(text) = text else {
         return Ok(None);
     };
     match Regex::new(alloc, text) {
         Ok(pattern) => Ok(Some(pattern)),
-        Err(_) => Err(PatternError),
+        Err(Error::OutOfMemory) => Err(Fault::Memory),
+        Err(_) => Err(Fault::NotPattern),
     }
 }
 
