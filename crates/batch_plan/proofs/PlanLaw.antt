@@ -1,6 +1,6 @@
 -- What the actions of a plan leave of a copy's paths, read at one path. `plan` cites the last three lemmas.
 use Rattle.std.proofs.Common.{◌≡◌, Bool, true, false, cond, not, ◌&&◌, ◌||◌, inl, inr, ⊎_elim, List, [], ◌∷◌, ◌++◌, append_assoc, append-nil, Option, None, Some, refl, sym, ap, subst, ◌∙◌, true≢false, is_eq}
-use Rattle.std.specs.Prelude.{is_some}
+use Rattle.std.specs.Prelude.{is_some, if◌then◌else◌}
 use Rattle.std.specs.List.{list_any, AllByRecursion}
 use Rattle.std.specs.List.Sorted.{IsStrictlySortedBy}
 use Rattle.std.proofs.lemmas.Bool.{and_parts, or_left, or_right, or_cases, false_from_ne_true}
@@ -18,7 +18,7 @@ use Rattle.debounce_laws.proofs.Folders.{closed_under}
 use Rattle.debounce_laws.proofs.PlayAt.{creates_at, clears_at, play_here, sorted_play}
 use Rattle.debounce_laws.proofs.Settling.{here}
 use Rattle.batch_plan.specs.Action.{ActionValue, carried_at, carried}
-use Rattle.batch_plan.specs.Plan.{Look, stands, goes_at, removal_if, copy_if, removals_first, copies_first, removals, copies, planned, goes_first, goes, is_named, is_covered, AgreesWith, LeavesPlayed, LeavesWhatStands, KeepsOthers}
+use Rattle.batch_plan.specs.Plan.{Look, Stands, stands, goes_at, removal_of, copy_if, removals_first, copies_first, removals, copies, planned, goes_first, goes, is_named, is_covered, AgreesWith, LeavesPlayed, LeavesWhatStands, KeepsOthers}
 use Rattle.batch_plan.specs.declared.action.Standing.{Standing}
 
 -- ---- actions, one after the other
@@ -65,7 +65,8 @@ removed_first : (look : Look) (kind : EventKind) (ps : List PathValue) (s : Path
 removed_first look kind [] s q = refl
 removed_first look kind (p ∷ ps) s q = by (goes_at kind (stands look p))
   where
-    by : (b : Bool) → has_path (carried s (removal_if b p)) q ≡ (not (b && is_prefix p q) && has_path s q)
+    by : (b : Bool) → has_path (carried s (removal_of (if b then Some p else None))) q
+        ≡ (not (b && is_prefix p q) && has_path s q)
     by true = has_without s p q
     by false = refl
 
@@ -155,12 +156,12 @@ made_is_named look (e ∷ es) q m =
         (two.1, ap (λ r. stands look r) ((path_eq_decides q p).0 two.1) ∙ two.0)
 
 -- a named path at which nothing stands goes
-pub gone_where_named : (look : Look) (es : List EventValue) (q : PathValue) → is_named es q ≡ true →
-    stands look q ≡ false → goes (stands look) es q ≡ true
-gone_where_named look [] q n h = absurd (true≢false (sym n))
-gone_where_named look (e ∷ es) q n h =
-    ⊎_elim (λ now. or_left (goes_first (stands look) e.kind q e.paths) _ (first e.paths now))
-    (λ later. or_right (goes_first (stands look) e.kind q e.paths) _ (gone_where_named look es q later h))
+pub gone_where_named : (there : Stands) (es : List EventValue) (q : PathValue) → is_named es q ≡ true →
+    there q ≡ false → goes there es q ≡ true
+gone_where_named there [] q n h = absurd (true≢false (sym n))
+gone_where_named there (e ∷ es) q n h =
+    ⊎_elim (λ now. or_left (goes_first there e.kind q e.paths) _ (first e.paths now))
+    (λ later. or_right (goes_first there e.kind q e.paths) _ (gone_where_named there es q later h))
     (or_cases (has_first (λ p. path_eq q p) e.paths) (is_named es q) n)
   where
     by : (b : Bool) → ((b || true) && true) ≡ true
@@ -168,11 +169,11 @@ gone_where_named look (e ∷ es) q n h =
     by false = refl
 
     first : (ps : List PathValue) → has_first (λ p. path_eq q p) ps ≡ true →
-        goes_first (stands look) e.kind q ps ≡ true
+        goes_first there e.kind q ps ≡ true
     first [] now = absurd (true≢false (sym now))
     first (p ∷ ps) now =
         let same : q ≡ p = (path_eq_decides q p).0 now in
-        let none : stands look p ≡ false = ap (λ r. stands look r) (sym same) ∙ h in
+        let none : there p ≡ false = ap there (sym same) ∙ h in
         let at : is_prefix p q ≡ true =
         subst (λ r. is_prefix r q ≡ true) same (prefix_of q q ([], sym (append-nil q))) in
         rw (at, none) (by (is_removal e.kind))
@@ -308,7 +309,7 @@ leaves_what_stands look es = λ s q n. planned_at look es s q ∙ by s q n (stan
     by s q n false h =
         let not_made : makes look es q ≡ false =
         false_from_ne_true (makes look es q) (λ m. true≢false (sym ((made_is_named look es q m).1) ∙ h)) in
-        rw (gone_where_named look es q n h) (none (makes look es q) (has_path s q) not_made)
+        rw (gone_where_named (stands look) es q n h) (none (makes look es q) (has_path s q) not_made)
 
 -- .. and elsewhere what it had
 pub keeps_others : (look : Look) (es : List EventValue) → KeepsOthers es (planned look es)

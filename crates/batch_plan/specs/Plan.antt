@@ -23,30 +23,35 @@ abbrev pub Stands : Type 0
 Stands = PathValue → Bool
 
 -- what the map says of the path
-abbrev pub look_at : List (PathValue × Standing) → PathValue → Option Standing
+abbrev pub look_at : {V : Type 0} → List (PathValue × V) → PathValue → Option V
 look_at standing path = lookup (is_at (path_cmp path)) standing
 
 -- whether something stands at the path
-abbrev pub stands : Look → PathValue → Bool
+abbrev pub stands : {V : Type 0} → (PathValue → Option V) → PathValue → Bool
 stands look path = is_some (look path)
 
 -- a path goes if an event of this kind says so, or if nothing stands there
 abbrev pub goes_at : EventKind → Bool → Bool
 goes_at kind there = is_removal kind || not there
 
--- the removal at the path, if it goes
-abbrev pub removal_if : Bool → PathValue → List ActionValue
-removal_if goes path = if goes then record { path = path; wanted = None } ∷ [] else []
+-- the path that an event of this kind takes away, if it does: the first of its paths
+abbrev pub gone_first : Stands → EventKind → List PathValue → Option PathValue
+gone_first there kind [] = None
+gone_first there kind (path ∷ others) = if goes_at kind (there path) then Some path else None
+
+-- the removal at the path that goes, if one goes
+abbrev pub removal_of : Option PathValue → List ActionValue
+removal_of None = []
+removal_of (Some path) = record { path = path; wanted = None } ∷ []
 
 -- the copy at the path, if something stands there
 abbrev pub copy_if : Option Standing → PathValue → List ActionValue
 copy_if None path = []
 copy_if (Some standing) path = record { path = path; wanted = Some standing } ∷ []
 
--- the removals of an event of this kind, by the first of its paths
+-- the removal of an event of this kind, if it asks for one
 abbrev pub removals_first : Look → EventKind → List PathValue → List ActionValue
-removals_first look kind [] = []
-removals_first look kind (path ∷ others) = removal_if (goes_at kind (is_some (look path))) path
+removals_first look kind paths = removal_of (gone_first (stands look) kind paths)
 
 -- the copies of an event, by the first of its paths
 abbrev pub copies_first : Look → List PathValue → List ActionValue

@@ -1,7 +1,8 @@
 //! The actions that a batch of events asks for.
 ghost use Rattle.std.specs.Prelude.{◌≡◌, ◌++◌, IfOk, OnOk};
+ghost use Rattle.std.specs.Option.{option_copied};
 ghost use Rattle.debounce_model.specs.Play.{events_of};
-ghost use Rattle.batch_plan.specs.Plan.{KeepsOthers, LeavesPlayed, LeavesWhatStands, copies, copies_first, look_at, planned, removals, removals_first};
+ghost use Rattle.batch_plan.specs.Plan.{KeepsOthers, LeavesPlayed, LeavesWhatStands, copies, copies_first, gone_first, look_at, planned, removals, removals_first, stands};
 
 use crate::action::{Action, Standing};
 use notify_paths::path::PathBuf;
@@ -30,6 +31,23 @@ pub fn plan<A: Allocator + Copy>(
     push_removals(&mut actions, standing, batch)?;
     push_copies(&mut actions, standing, batch)?;
     Ok(actions)
+}
+
+/// Returns the path that the event takes away, if it does: its first path, if it is a removal, or if
+/// nothing stands there. What lies below that path goes with it.
+pub fn gone_at<'a, V, A: Allocator>(
+    standing: &BTreeMap<PathBuf<A>, V, A>,
+    event: &'a DebouncedEvent<A>,
+) -> Option<&'a PathBuf<A>>
+    ensures { option_copied result ≡ gone_first (stands (look_at standing.now.entries))
+        event.now.event.kind event.now.event.paths }
+{
+    let path = event.first_path()?;
+    if event.kind().is_removal() || !standing.contains_key(path) {
+        Some(path)
+    } else {
+        None
+    }
 }
 
 /// Adds the removals that the events ask for.
@@ -71,10 +89,7 @@ fn push_removal<A: Allocator + Copy>(
     ensures { OnOk result (actions.new.items ≡ actions.old.items
         ++ removals_first (look_at standing.now.entries) event.now.event.kind event.now.event.paths) }
 {
-    let Some(path) = event.first_path() else {
-        return Ok(());
-    };
-    if event.kind().is_removal() || !standing.contains_key(path) {
+    if let Some(path) = gone_at(standing, event) {
         actions.push(Action {
             path: path.clone()?,
             wanted: None,
