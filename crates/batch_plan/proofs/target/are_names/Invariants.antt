@@ -1,0 +1,12 @@
+use Rattle.std.proofs.Common.{◌≡◌, map}
+use Rattle.std.specs.List.{list_all}
+use Rattle.std.specs.Path.{components_remaining}
+use Rattle.folder_listing.specs.Near.{is_name_part}
+use Rattle.notify_paths.specs.PathText.{part_of}
+use Rattle.batch_plan.proofs.target.are_names.Given as goal
+
+-- the components that are left decide
+abbrev pub invariant-loop-component : goal.invariant-loop-component
+invariant-loop-component l =
+    list_all is_name_part (map part_of (components_remaining l.component-iterator))
+    ≡ list_all is_name_part (map part_of (components_remaining l.components))
