@@ -1,0 +1,4 @@
+pub mod Touched
+pub mod Parsed
+pub mod InForce
+pub mod Reloads

@@ -1,0 +1,41 @@
+//! Whether a batch may be about a file.
+ghost use Rattle.std.specs.Prelude.{◌≡◌, ◌↔◌, IsTrue};
+ghost use Rattle.std.specs.List.{list_any};
+ghost use Rattle.notify_paths.specs.Path.{is_prefix};
+ghost use Rattle.config_state.specs.Touched.{touches, Touches, HasChange};
+
+use notify_paths::path::PathBuf;
+use notify_types::event::DebouncedEvent;
+
+/// Whether some event of the batch may be about the file: it names the file or a folder above it, as its
+/// one path or as one of the two of a rename, or it asks to read anew.
+///
+/// So a batch in which a change of the file is found, as the debouncer keeps it, is about the file. What
+/// that means for a whole run is [`law_of_reloads`](crate::law_of_reloads).
+pub fn is_touched(batch: &[DebouncedEvent], file: &PathBuf) -> bool
+    ensures value { result ≡ list_any (touches file.now) batch.now }
+    ensures exact { IsTrue result ↔ Touches file.now batch.now }
+    ensures change { HasChange file.now batch.now → IsTrue result }
+{
+    some_touches(batch, file)
+}
+
+fn some_touches(batch: &[DebouncedEvent], file: &PathBuf) -> bool
+    ensures { result ≡ list_any (touches file.now) batch.now }
+{
+    batch.iter().any(|event| may_touch(event, file))
+}
+
+/// Whether the event may be about the file.
+fn may_touch(event: &DebouncedEvent, file: &PathBuf) -> bool
+    ensures { result ≡ touches file.now event.now }
+{
+    event.need_rescan() || names(event.event.paths.as_slice(), file)
+}
+
+/// Whether one of the paths is the file or a folder above it.
+fn names(paths: &[PathBuf], file: &PathBuf) -> bool
+    ensures { result ≡ list_any (λ path. is_prefix path file.now) paths.now }
+{
+    paths.iter().any(|path| file.starts_with(path))
+}
