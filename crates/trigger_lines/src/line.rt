@@ -1,0 +1,88 @@
+//! What a line says.
+ghost use Rattle.std.specs.Prelude.{◌≡◌, ◌++◌, OnOk, IfOk};
+ghost use Rattle.notify_paths.specs.PathText.{text_of};
+ghost use Rattle.trigger_lines.specs.Line.{current_path, as_in, path_fields, event_fields, line_of};
+ghost use Rattle.watch_program.specs.Fields.{field_of};
+
+use notify_paths::path::PathBuf;
+use notify_types::event::DebouncedEvent;
+use std::alloc::{AllocError, Global};
+use watch_program::push_field;
+
+/// Appends the line of these events: how many there are, and after a tab each their paths. A path at
+/// or below the folder is written as it lies in `.`, as `./src/main.c`.
+pub fn push_line(
+    alloc: Global,
+    line: &mut Vec<u8>,
+    folder: &PathBuf,
+    events: &[DebouncedEvent],
+) -> Result<(), AllocError>
+    ensures { OnOk result (line.new.items ≡ line.old.items ++ line_of folder.now events.now) }
+{
+    let here = current(alloc)?;
+    let count = format!(in alloc; "{}", events.len())?;
+    line.extend_from_slice(count.as_bytes())?;
+    push_events(line, folder, &here, events)?;
+    Ok(line.push(b'\n')?)
+}
+
+/// The folder in which paths are written.
+fn current(alloc: Global) -> Result<PathBuf, AllocError>
+    ensures { IfOk result (λ path. path ≡ current_path) }
+{
+    match PathBuf::parse(alloc, ".") {
+        Ok(path) => Ok(path),
+        Err(_) => Err(AllocError),
+    }
+}
+
+/// Appends the paths of the events.
+fn push_events(
+    line: &mut Vec<u8>,
+    folder: &PathBuf,
+    here: &PathBuf,
+    events: &[DebouncedEvent],
+) -> Result<(), AllocError>
+    requires { here.now ≡ current_path }
+    ensures { OnOk result (line.new.items ≡ line.old.items ++ event_fields folder.now events.now) }
+{
+    for event in events {
+        push_paths(line, folder, here, event.event.paths.as_slice())?;
+    }
+    Ok(())
+}
+
+/// Appends the paths, each after a tab.
+fn push_paths(
+    line: &mut Vec<u8>,
+    folder: &PathBuf,
+    here: &PathBuf,
+    paths: &[PathBuf],
+) -> Result<(), AllocError>
+    requires { here.now ≡ current_path }
+    ensures { OnOk result (line.new.items ≡ line.old.items ++ path_fields folder.now paths.now) }
+{
+    for path in paths {
+        line.push(b'\t')?;
+        push_path(line, folder, here, path)?;
+    }
+    Ok(())
+}
+
+/// Appends the path, as it lies in `here` if it is at or below the folder.
+fn push_path(
+    line: &mut Vec<u8>,
+    folder: &PathBuf,
+    here: &PathBuf,
+    path: &PathBuf,
+) -> Result<(), AllocError>
+    requires { here.now ≡ current_path }
+    ensures { OnOk result (line.new.items ≡ line.old.items
+        ++ field_of (text_of (as_in folder.now path.now))) }
+{
+    if !folder.is_empty() && path.starts_with(folder) {
+        let path = path.relocated(folder, here)?;
+        return push_field(line, path.as_str().as_bytes());
+    }
+    push_field(line, path.as_str().as_bytes())
+}
