@@ -7,10 +7,12 @@
 
 mod config;
 mod law;
+mod printed;
 mod reloader;
 mod touched;
 
 pub use config::Config;
 pub use law::law_of_reloads;
+pub use printed::paragraph;
 pub use reloader::Reloader;
 pub use touched::is_touched;
