@@ -2,7 +2,7 @@
 use Rattle.std.proofs.Common.{◌≡◌, ℕ, ◌∙◌, sym, ap, Option, List, [], ◌++◌, refl, append_assoc}
 use Rattle.std.specs.Io.KnownBytes.{Keeps, Appends}
 use Rattle.std.proofs.KnownBytes.{Appends-nil, Appends-trans, Appends-kept}
-use Rattle.watch_program.specs.Output.{WritesUpTo}
+use Rattle.watch_program.specs.Output.{WritesUpTo, WritesFront}
 
 -- at first nothing was
 pub written_none : (a : Option (List ℕ)) (bytes : List ℕ) → WritesUpTo bytes a bytes a
@@ -25,3 +25,7 @@ written_kept a b c bytes rest left e p h = record {
   written = Appends-kept a b c p.front p.written h;
   split = p.split ∙ ap (λ k. p.front ++ k) (sym e);
 }
+
+-- nothing was written
+pub front_none : (a : Option (List ℕ)) (bytes : List ℕ) → WritesFront a bytes a
+front_none a bytes = record { rest = bytes; up_to = written_none a bytes }
