@@ -1,5 +1,6 @@
 -- The configuration in force, and what is printed of it.
 use Rattle.std.specs.Prelude.{◌≡◌, ◌⊎◌, ◌≤◌, ℕ, List, Option, None, Some, IsSomeAnd, codes}
+use Rattle.std.specs.Io.KnownBytes.{Appends}
 use Rattle.toml.specs.Data.{Members, members_depth}
 use Rattle.toml.specs.Parse.{parse_document}
 use Rattle.toml.specs.View.{table_view}
@@ -34,3 +35,7 @@ IsRefused text lines = (parse_document text ≡ None) × IsComplaint lines
 -- the text is in force now and shown; or it is refused, and what was in force still is
 abbrev pub Follows : List ℕ → Option Config → Option Config → List ℕ → Type 0
 Follows text old new lines = IsLoaded text new lines ⊎ (IsRefused text lines × (new ≡ old))
+
+-- what was written is some lines of which this holds
+abbrev pub Prints : Option (List ℕ) → Option (List ℕ) → (List ℕ → Type 0) → Type 0
+Prints old new Holding = (lines : List ℕ) × (Appends old new lines × Holding lines)

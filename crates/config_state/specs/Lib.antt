@@ -3,3 +3,4 @@ pub mod Parsed
 pub mod Paragraph
 pub mod InForce
 pub mod Reloads
+pub mod Places
