@@ -1,16 +1,23 @@
 //! A configuration file that is read again when it changes.
 //!
-//! [`is_touched`] says whether a batch may be about the file, and a [`Reloader`] takes its text: the
-//! configuration in force is the last one that was read without an error. A program that reads the
-//! file at first, and after each batch that may be about it, misses no change: [`law_of_reloads`].
+//! [`is_touched`] says whether a batch may be about the file, and [`take_reading`] hands a reading of it
+//! to a [`Reloader`]: the configuration in force is the last one that was read without an error. A
+//! program that reads the file at first, and after each batch that may be about it, misses no change:
+//! [`law_of_reloads`].
 #![tactic(auto)]
 
 mod config;
 mod law;
+mod place;
+mod printed;
+mod reading;
 mod reloader;
 mod touched;
 
 pub use config::Config;
 pub use law::law_of_reloads;
+pub use place::Place;
+pub use printed::paragraph;
+pub use reading::take_reading;
 pub use reloader::Reloader;
 pub use touched::is_touched;

@@ -1,4 +1,4 @@
-use Rattle.config_state.proofs.Reading.{each_change_is_read}
+use Rattle.config_state.proofs.ReadChanges.{each_change_is_read}
 use Rattle.config_state.proofs.law.law_of_reloads.Goals as goal
 
 pub returns : goal.returns
