@@ -1,6 +1,7 @@
 //! The words of a text.
-ghost use Rattle.std.specs.Prelude.{◌≡◌, []};
-ghost use Rattle.word_index.specs.Words.{has_word};
+ghost use Rattle.std.specs.Prelude.{◌≡◌, [], IfOk, OnOk};
+ghost use Rattle.std.specs.String.{string_bytes};
+ghost use Rattle.word_index.specs.Words.{has_word, with_word, words_of};
 
 use caseless::default_case_fold_str;
 use std::alloc::{AllocError, Allocator, Global};
@@ -42,11 +43,23 @@ impl<A: Allocator> Words<A> {
     }
 }
 
+impl<A: Allocator + Copy> Words<A> {
+    /// Puts in the word, if it isn't there yet.
+    fn insert(&mut self, word: String<A>) -> Result<(), AllocError>
+        ensures { OnOk result (self.new ≡ with_word self.old (string_bytes word)) }
+    {
+        self.words.insert(word)?;
+        Ok(())
+    }
+}
+
 /// Returns the words of the text, as Unicode cuts them, each with its case folded.
-pub fn words_of(alloc: Global, text: &str) -> Result<Words, AllocError> {
-    let mut words = BTreeSet::new(alloc);
+pub fn words_of(alloc: Global, text: &str) -> Result<Words, AllocError>
+    ensures { IfOk result (λ words. words ≡ words_of text.now) }
+{
+    let mut words = Words::new(alloc);
     for word in text.unicode_words() {
         words.insert(default_case_fold_str(alloc, word)?)?;
     }
-    Ok(Words { words })
+    Ok(words)
 }
