@@ -1,0 +1,92 @@
+//! The program `change_journal`: it prints each change below a folder, as the debouncer emits it, until it
+//! is stopped. docs/examples/change_journal.md is its page.
+#![tactic(auto)]
+
+mod printer;
+mod words;
+
+use clap::ArgMatches;
+use journal_lines::{Journal, PathFilter};
+use notify_debouncer_full::{
+    DebouncerRuntime, Feed, PathBuf, RecommendedCache, RecommendedWatcher, RecursiveMode, Watcher,
+};
+use printer::Printer;
+use std::alloc::Global;
+use std::io::Write;
+use std::process::ExitCode;
+use watch_loop::FolderReports;
+use watch_program::{Fault, end, matches_of, pace_of, place_of, words_of};
+use words::{NAME, command_line, form_of, patterns_of};
+
+/// Watches the folder that the words name.
+fn start<
+    T: Watcher<Feed<RecommendedCache, R, Global>, R, Global>,
+    R: DebouncerRuntime + AllocGlobal,
+>(rt: R, matches: &ArgMatches<'_>) -> Result<FolderReports<T, R>, Fault>
+    requires takes { (feed : _) → T.takes feed }
+{
+    let Ok(folder) = PathBuf::parse(rt.alloc(), place_of(matches)) else {
+        return Err(Fault::Memory);
+    };
+    FolderReports::start(rt, &folder, RecursiveMode::Recursive, pace_of(matches))
+}
+
+/// Prints what is reported until the life is over, and then what still waits.
+fn follow<T: Drop, R: DebouncerRuntime + AllocGlobal, O: Write + Drop, E: Write + Drop>(
+    rt: R,
+    reports: FolderReports<T, R>,
+    printer: &mut Printer<'_, O, E>,
+) -> Result<(), Fault> {
+    for _ in rt.forever() {
+        let Some(report) = reports.next() else {
+            break;
+        };
+        printer.print(report)?;
+    }
+    let rest = reports.finish()?;
+    printer.print_missed(rest.missed);
+    for report in rest.reports {
+        printer.print(report)?;
+    }
+    Ok(())
+}
+
+/// Watches the folder, and prints of it what passes the patterns.
+fn run<
+    T: Watcher<Feed<RecommendedCache, R, Global>, R, Global>,
+    R: DebouncerRuntime + AllocGlobal,
+    O: Write + Drop,
+    E: Write + Drop,
+>(rt: R, matches: &ArgMatches<'_>, out: O, err: E) -> Result<(), Fault>
+    requires takes { (feed : _) → T.takes feed }
+{
+    let patterns = patterns_of(rt.alloc(), matches)?;
+    let filter: PathFilter<'_> = patterns.filter(rt.alloc())?;
+    let reports = start::<T, R>(rt, matches)?;
+    let mut printer = Printer {
+        alloc: rt.alloc(),
+        journal: Journal::new(form_of(matches)),
+        filter,
+        out,
+        err,
+    };
+    follow(rt, reports, &mut printer)
+}
+
+fn main(rt: HostRuntime) -> ExitCode {
+    let given = match words_of(&rt) {
+        Ok(given) => given,
+        Err(fault) => return ExitCode::from(end(Err(fault), NAME, "", &mut rt.stderr())),
+    };
+    let matches = match matches_of(&rt, command_line(rt.alloc()), given.as_slice()) {
+        Ok(matches) => matches,
+        Err(status) => return ExitCode::from(status),
+    };
+    let run = run::<RecommendedWatcher<HostRuntime>, _, _, _>(
+        rt,
+        &matches,
+        rt.stdout(),
+        rt.stderr(),
+    );
+    ExitCode::from(end(run, NAME, place_of(&matches), &mut rt.stderr()))
+}

@@ -1,0 +1,62 @@
+//! What the program prints.
+ghost use Rattle.std.specs.Prelude.{◌≡◌, Ok, IfErr, IfOk, OnOk};
+ghost use Rattle.std.specs.Io.KnownBytes.{Appends};
+ghost use Rattle.journal_lines.specs.Kept.{passing};
+ghost use Rattle.journal_lines.specs.KeptView.{filter_rule};
+ghost use Rattle.journal_lines.specs.Lines.{entries_of};
+
+use crate::words::NAME;
+use journal_lines::{Journal, PathFilter};
+use notify_debouncer_full::{DebounceEventResult, Error};
+use std::alloc::Global;
+use std::io::Write;
+use watch_program::Fault;
+
+/// A journal, which events it takes, and where it is written to.
+#[derive(Drop)]
+pub(crate) struct Printer<'p, O: Drop, E: Drop> {
+    pub(crate) alloc: Global,
+    pub(crate) journal: Journal,
+    pub(crate) filter: PathFilter<'p>,
+    pub(crate) out: O,
+    pub(crate) err: E,
+}
+
+impl<O: Write + Drop, E: Write + Drop> Printer<'_, O, E> {
+    /// Prints what is reported: the entry of each event that passes, or a line for each error. After an
+    /// error the watcher looks again, so no change is lost by one.
+    pub(crate) fn print(&mut self, report: DebounceEventResult) -> Result<(), Fault>
+        ensures written { OnOk result (IfOk report (λ batch.
+            Appends (O.contents self.old.out) (O.contents self.new.out)
+            (entries_of self.old.journal.form self.old.journal.next
+            (passing (filter_rule self.old.filter) batch.items)))) }
+        ensures errors { IfErr report (λ _. O.contents self.new.out ≡ O.contents self.old.out) }
+    {
+        match report {
+            Ok(batch) => self
+                .journal
+                .write_passing(self.alloc, &mut self.filter, batch, &mut self.out),
+            Err(errors) => {
+                self.print_errors(errors.as_slice());
+                Ok(())
+            }
+        }
+    }
+
+    fn print_errors(&mut self, errors: &[Error])
+        ensures { O.contents self.new.out ≡ O.contents self.old.out }
+    {
+        for error in errors {
+            let _ = writeln!(&mut self.err, "{NAME}: {error}");
+        }
+    }
+
+    /// Prints how many events and errors were lost for want of memory, if any was.
+    pub(crate) fn print_missed(&mut self, missed: u64)
+        ensures { O.contents self.new.out ≡ O.contents self.old.out }
+    {
+        if missed > 0 {
+            let _ = writeln!(&mut self.err, "{NAME}: {missed} missed");
+        }
+    }
+}

@@ -1,0 +1,53 @@
+//! The words of the program.
+ghost use Rattle.std.specs.Prelude.{◌≡◌, ◌⊎◌, IfErr};
+ghost use Rattle.watch_program.specs.declared.fault.Fault.TheVariants.{NotPattern, Memory};
+
+use clap::{Arg, ArgAction, ArgMatches, Command};
+use journal_lines::{Form, Patterns};
+use std::alloc::{AllocError, Global};
+use watch_program::{Fault, command, option};
+
+/// The program's name.
+pub(crate) const NAME: &str = "change_journal";
+
+/// The command line.
+pub(crate) fn command_line<'a>(alloc: Global) -> Result<Command<'a>, AllocError> {
+    let json = flag(alloc, "json").long("json").help("print JSON objects");
+    let zero = flag(alloc, "zero")
+        .short('0')
+        .conflicts_with("json")?
+        .help("print paths, each with a zero byte after it");
+    let include = option(alloc, "include", "RE").help("print events with such a path");
+    let exclude = option(alloc, "exclude", "RE").help("leave out events with such paths alone");
+    command(alloc, NAME, "Prints the changes below a folder.", "DIR")?
+        .arg(json)?
+        .arg(zero)?
+        .arg(include)?
+        .arg(exclude)
+}
+
+fn flag<'a>(alloc: Global, name: &'a str) -> Arg<'a> {
+    Arg::new(alloc, name).action(ArgAction::SetTrue)
+}
+
+/// The form that the words ask for.
+pub(crate) fn form_of(matches: &ArgMatches<'_>) -> Form {
+    if matches.get_flag("json") {
+        Form::Json
+    } else if matches.get_flag("zero") {
+        Form::Zero
+    } else {
+        Form::Plain
+    }
+}
+
+/// The patterns that the words give.
+pub(crate) fn patterns_of(alloc: Global, matches: &ArgMatches<'_>) -> Result<Patterns, Fault>
+    ensures err { IfErr result (λ e. (e ≡ NotPattern) ⊎ (e ≡ Memory)) }
+{
+    Patterns::parse(
+        alloc,
+        matches.get_str("include"),
+        matches.get_str("exclude"),
+    )
+}

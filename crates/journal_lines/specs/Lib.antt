@@ -1,0 +1,4 @@
+pub mod Json
+pub mod Kept
+pub mod KeptView
+pub mod Lines

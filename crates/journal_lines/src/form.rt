@@ -1,0 +1,85 @@
+//! The forms of a journal, and what an event is in each.
+ghost use Rattle.std.specs.Prelude.{◌≡◌, ◌++◌, Some, OnOk};
+ghost use Rattle.serde_json.specs.Read.{read};
+ghost use Rattle.journal_lines.specs.Json.{event_data, json_text};
+ghost use Rattle.journal_lines.specs.declared.form.Form.TheVariants.{Plain, Json};
+ghost use Rattle.journal_lines.specs.Lines.{entry_of, tab_paths, zero_paths};
+
+use crate::json::json_line;
+use notify_paths::path::PathBuf;
+use notify_types::event::DebouncedEvent;
+use std::alloc::{AllocError, Global};
+use watch_program::push_field;
+
+/// How a journal writes an event.
+#[derive(Clone, Copy, Debug, PartialEq, Eq)]
+pub enum Form {
+    /// The kind's word and the paths, parted by tabs, on one line.
+    Plain,
+    /// A JSON object on one line.
+    Json,
+    /// The paths alone, each with a zero byte after it.
+    Zero,
+}
+
+/// Appends the event in this form. Its number is written in JSON alone.
+pub(crate) fn push_event(
+    alloc: Global,
+    text: &mut Vec<u8>,
+    form: Form,
+    seq: u64,
+    event: &DebouncedEvent,
+) -> Result<(), AllocError>
+    ensures text { OnOk result (text.new.items ≡ text.old.items ++ entry_of form seq event.now) }
+    ensures again { OnOk result (form ≡ Form.Json
+        → read (json_text seq event.now) ≡ Some (event_data seq event.now)) }
+{
+    match form {
+        Form::Plain => push_plain(text, event),
+        Form::Json => push_json(alloc, text, seq, event),
+        Form::Zero => push_zero(text, event.event.paths.as_slice()),
+    }
+}
+
+fn push_plain(text: &mut Vec<u8>, event: &DebouncedEvent) -> Result<(), AllocError>
+    ensures { OnOk result (text.new.items ≡ text.old.items ++ entry_of Plain 0 event.now) }
+{
+    text.extend_from_slice(event.event.kind.word().as_bytes())?;
+    push_tabs(text, event.event.paths.as_slice())?;
+    Ok(text.push(b'\n')?)
+}
+
+fn push_tabs(text: &mut Vec<u8>, paths: &[PathBuf]) -> Result<(), AllocError>
+    ensures { OnOk result (text.new.items ≡ text.old.items ++ tab_paths paths.now) }
+{
+    for path in paths {
+        text.push(b'\t')?;
+        push_field(text, path.as_str().as_bytes())?;
+    }
+    Ok(())
+}
+
+fn push_json(
+    alloc: Global,
+    text: &mut Vec<u8>,
+    seq: u64,
+    event: &DebouncedEvent,
+) -> Result<(), AllocError>
+    ensures text { OnOk result (text.new.items ≡ text.old.items ++ entry_of Json seq event.now) }
+    ensures again { OnOk result (read (json_text seq event.now)
+        ≡ Some (event_data seq event.now)) }
+{
+    let line = json_line(alloc, seq, event)?;
+    text.extend_from_slice(line.as_bytes())?;
+    Ok(text.push(b'\n')?)
+}
+
+fn push_zero(text: &mut Vec<u8>, paths: &[PathBuf]) -> Result<(), AllocError>
+    ensures { OnOk result (text.new.items ≡ text.old.items ++ zero_paths paths.now) }
+{
+    for path in paths {
+        text.extend_from_slice(path.as_str().as_bytes())?;
+        text.push(0)?;
+    }
+    Ok(())
+}

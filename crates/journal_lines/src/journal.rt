@@ -1,0 +1,102 @@
+//! A journal that is written batch by batch.
+ghost use Rattle.std.specs.Prelude.{◌≡◌, ◌⊎◌, ◌++◌, OnOk, OnErr, IfErr};
+ghost use Rattle.std.specs.Io.KnownBytes.{Appends};
+ghost use Rattle.journal_lines.specs.Kept.{passing};
+ghost use Rattle.journal_lines.specs.KeptView.{filter_rule};
+ghost use Rattle.journal_lines.specs.Lines.{AreReadBack, entries_of, after};
+ghost use Rattle.watch_program.specs.Output.{WritesFront};
+
+use crate::filter::PathFilter;
+use crate::form::{Form, push_event};
+use notify_types::event::DebouncedEvent;
+use std::alloc::{AllocError, Global};
+use std::io::Write;
+use watch_program::{Fault, write_now};
+
+/// A journal: its form, and the number of the next event, counted from 1. After 2^64 - 1 the number
+/// stays.
+#[derive(Clone, Copy, Debug)]
+pub struct Journal {
+    form: Form,
+    next: u64,
+}
+
+impl Journal {
+    /// Returns a journal of this form, without an event.
+    pub fn new(form: Form) -> Journal
+        ensures { result ≡ record { form = form; next = 1 } }
+    {
+        Journal { form, next: 1 }
+    }
+
+    /// Writes the events of the batch that pass the filter, in order, each once, and flushes the writer.
+    /// If memory is refused, nothing was written; if the output fails, a beginning was. Each line of JSON
+    /// is read as its event, as `json_line` says.
+    pub fn write_passing<O: Write>(
+        &mut self,
+        alloc: Global,
+        filter: &mut PathFilter<'_>,
+        batch: Vec<DebouncedEvent>,
+        out: &mut O,
+    ) -> Result<(), Fault>
+        ensures written { OnOk result (Appends (O.contents out.old) (O.contents out.new)
+            (entries_of self.old.form self.old.next (passing (filter_rule filter.old) batch.items))) }
+        ensures begun { OnErr result (WritesFront (O.contents out.old)
+            (entries_of self.old.form self.old.next (passing (filter_rule filter.old) batch.items))
+            (O.contents out.new)) }
+        ensures next { OnOk result (self.new ≡ record self.old {
+          next = after self.old.next
+              (passing (filter_rule filter.old) batch.items);
+        }) }
+        ensures again { OnOk result (self.old.form ≡ Form.Json → AreReadBack self.old.next
+            (passing (filter_rule filter.old) batch.items)) }
+        ensures same { filter_rule filter.new ≡ filter_rule filter.old }
+        ensures err { IfErr result (λ e. (e ≡ Fault.Memory) ⊎ (e ≡ Fault.OutputFailed)) }
+    {
+        let batch = filter.keep(alloc, batch)?;
+        self.write_batch(alloc, batch.as_slice(), out)
+    }
+
+    /// Writes the events, in order, and flushes the writer. If memory is refused, nothing was written;
+    /// if the output fails, a beginning was.
+    fn write_batch<O: Write>(
+        &mut self,
+        alloc: Global,
+        batch: &[DebouncedEvent],
+        out: &mut O,
+    ) -> Result<(), Fault>
+        ensures written { OnOk result (Appends (O.contents out.old) (O.contents out.new)
+            (entries_of self.old.form self.old.next batch.now)) }
+        ensures begun { OnErr result (WritesFront (O.contents out.old)
+            (entries_of self.old.form self.old.next batch.now) (O.contents out.new)) }
+        ensures next { OnOk result (self.new ≡ record self.old { next = after self.old.next batch.now }) }
+        ensures again { OnOk result (self.old.form ≡ Form.Json → AreReadBack self.old.next batch.now) }
+        ensures err { IfErr result (λ e. (e ≡ Fault.Memory) ⊎ (e ≡ Fault.OutputFailed)) }
+    {
+        let mut text = Vec::new(alloc);
+        self.push_batch(alloc, &mut text, batch)?;
+        write_now(text.as_slice(), out)
+    }
+
+    /// Appends the events, and counts them.
+    fn push_batch(
+        &mut self,
+        alloc: Global,
+        text: &mut Vec<u8>,
+        batch: &[DebouncedEvent],
+    ) -> Result<(), AllocError>
+        ensures text { OnOk result (text.new.items ≡ text.old.items
+            ++ entries_of self.old.form self.old.next batch.now) }
+        ensures next { OnOk result (self.new ≡ record self.old { next = after self.old.next batch.now }) }
+        ensures again { OnOk result (self.old.form ≡ Form.Json → AreReadBack self.old.next batch.now) }
+    {
+        let form = self.form;
+        let mut next = self.next;
+        for event in batch {
+            push_event(alloc, text, form, next, event)?;
+            next = next.saturating_add(1);
+        }
+        self.next = next;
+        Ok(())
+    }
+}

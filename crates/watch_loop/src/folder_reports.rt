@@ -1,0 +1,180 @@
+//! What is reported of a folder.
+ghost use Rattle.std.specs.Prelude.{◌≡◌, ◌⊎◌, IfErr};
+ghost use Rattle.watch_program.specs.declared.fault.Fault.TheVariants.{CannotWatch, Memory, NoThread};
+
+use notify_debouncer_full::{
+    Config, DebounceEventResult, DebouncerRuntime, Feed, LastReports, ListingWatcher, PathBuf,
+    RecommendedCache, RecursiveMode, Reports, Watcher,
+};
+use std::alloc::Global;
+use std::sync::Wait;
+use std::time::{Clock, Duration, Instant};
+use watch_program::{Fault, Pace};
+
+/// The reports of a folder, until a program's life is over.
+#[derive(Drop)]
+pub struct FolderReports<T: Drop, R: DebouncerRuntime> {
+    rt: R,
+    reports: Reports<T, R>,
+    end: Option<Instant>,
+}
+
+/// What is left when the reports end.
+#[derive(Drop)]
+pub struct Rest {
+    /// What was not given yet, in order: what was emitted, and then all that waited, as one batch.
+    pub reports: Vec<DebounceEventResult>,
+    /// How many events, errors and batches were lost, since an allocation failed.
+    pub missed: u64,
+}
+
+impl<
+    T: Watcher<Feed<RecommendedCache, R, Global>, R, Global>,
+    R: DebouncerRuntime + AllocGlobal,
+> FolderReports<T, R> {
+    /// Watches the folder from now on. What is there already isn't reported. The life begins once it is
+    /// watched.
+    pub fn start(
+        rt: R,
+        folder: &PathBuf,
+        mode: RecursiveMode,
+        pace: Pace,
+    ) -> Result<FolderReports<T, R>, Fault>
+        requires takes { (feed : _) → T.takes feed }
+        ensures err { IfErr result (λ e. (e ≡ Memory) ⊎ ((e ≡ CannotWatch) ⊎ (e ≡ NoThread))) }
+    {
+        let mut reports = begin::<T, R>(rt, pace)?;
+        match reports.watch(folder, mode) {
+            Ok(()) => Ok(until(rt, reports, pace)),
+            Err(error) => Err(Fault::of(&error, Fault::CannotWatch)),
+        }
+    }
+}
+
+impl<
+    T: ListingWatcher<Feed<RecommendedCache, R, Global>, R, Global>,
+    R: DebouncerRuntime + AllocGlobal,
+> FolderReports<T, R> {
+    /// Watches the folder as `start` does, and returns what stands there: what is reported is how this
+    /// changes.
+    pub fn start_listed(
+        rt: R,
+        folder: &PathBuf,
+        mode: RecursiveMode,
+        pace: Pace,
+    ) -> Result<(FolderReports<T, R>, T::Listing), Fault>
+        requires takes { (feed : _) → T.takes feed }
+        ensures err { IfErr result (λ e. (e ≡ Memory) ⊎ ((e ≡ CannotWatch) ⊎ (e ≡ NoThread))) }
+    {
+        let mut reports = begin::<T, R>(rt, pace)?;
+        match reports.watch_listed(folder, mode) {
+            Ok(listing) => Ok((until(rt, reports, pace), listing)),
+            Err(error) => Err(Fault::of(&error, Fault::CannotWatch)),
+        }
+    }
+}
+
+impl<T: Drop, R: DebouncerRuntime + AllocGlobal> FolderReports<T, R> {
+    /// Waits for the next report. `None` says that the life is over, or that the clock can't be read.
+    pub fn next(&self) -> Option<DebounceEventResult> {
+        match self.end {
+            None => self.reports.next(),
+            Some(end) => self.reports.next_within(left(&self.rt, end)?),
+        }
+    }
+
+    /// Waits so long for the next report. `None` says that none came, or what it says of `next`.
+    pub fn next_within(&self, pause: Duration) -> Option<DebounceEventResult> {
+        let pause = match self.end {
+            None => pause,
+            Some(end) => pause.min(left(&self.rt, end)?),
+        };
+        self.reports.next_within(pause)
+    }
+
+    /// Stops the watcher and the debouncer, waits until both have ended, and returns what was not given
+    /// yet. Nothing is lost but what is counted as missed.
+    pub fn finish(self) -> Result<Rest, Fault>
+        ensures err { IfErr result (λ e. e ≡ Memory) }
+    {
+        let FolderReports { rt, reports, end: _ } = self;
+        rest_of(&rt, &reports.finish())
+    }
+}
+
+/// Starts the debouncer, which watches nothing yet.
+fn begin<
+    T: Watcher<Feed<RecommendedCache, R, Global>, R, Global>,
+    R: DebouncerRuntime + AllocGlobal,
+>(rt: R, pace: Pace) -> Result<Reports<T, R>, Fault>
+    requires takes { (feed : _) → T.takes feed }
+    ensures err { IfErr result (λ e. (e ≡ Memory) ⊎ (e ≡ NoThread)) }
+{
+    let config = Config::default().with_poll_interval(pace.interval);
+    match Reports::start(rt, rt.alloc(), pace.timeout, None, config) {
+        Ok(reports) => Ok(reports),
+        Err(error) => Err(Fault::of(&error, Fault::NoThread)),
+    }
+}
+
+/// The reports, whose life begins now.
+fn until<T: Drop, R: DebouncerRuntime>(
+    rt: R,
+    reports: Reports<T, R>,
+    pace: Pace,
+) -> FolderReports<T, R>
+    ensures { result.reports ≡ reports }
+{
+    FolderReports {
+        rt,
+        reports,
+        end: end_of(&rt, pace.life),
+    }
+}
+
+/// The moment that lies so far ahead. If the clock can't be read, there is none.
+fn end_of<R: Clock>(rt: &R, life: Option<Duration>) -> Option<Instant> {
+    Instant::now(rt).ok()?.checked_add(life?)
+}
+
+/// How long it is to the end. `None` says that it has come, or that the clock can't be read.
+fn left<R: Clock>(rt: &R, end: Instant) -> Option<Duration> {
+    let left = end.checked_duration_since(Instant::now(rt).ok()?)?;
+    if left.is_zero() { None } else { Some(left) }
+}
+
+/// What the last reports are.
+fn rest_of<R: Wait + AllocGlobal>(rt: &R, last: &LastReports) -> Result<Rest, Fault>
+    ensures err { IfErr result (λ e. e ≡ Memory) }
+{
+    let mut reports = Vec::new(rt.alloc());
+    for report in last.queue.try_iter(rt) {
+        reports.push(report)?;
+    }
+    push_waiting(rt.alloc(), &mut reports, last)?;
+    Ok(Rest {
+        reports,
+        missed: last.missed.saturating_add(last.unsent),
+    })
+}
+
+/// Appends what waits: the events, and then the errors.
+fn push_waiting(
+    alloc: Global,
+    reports: &mut Vec<DebounceEventResult>,
+    last: &LastReports,
+) -> Result<(), Fault>
+    ensures err { IfErr result (λ e. e ≡ Memory) }
+{
+    let Ok(batch) = last.book.outlook() else {
+        return Err(Fault::Memory);
+    };
+    if !batch.is_empty() {
+        reports.push(Ok(batch))?;
+    }
+    let errors = last.book.core().pending_errors();
+    if !errors.is_empty() {
+        reports.push(Err(errors.to_vec(alloc)?))?;
+    }
+    Ok(())
+}

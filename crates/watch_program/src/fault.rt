@@ -1,0 +1,86 @@
+//! Why a program that watches ends.
+ghost use Rattle.std.specs.Prelude.{◌≡◌, OnOk};
+ghost use Rattle.std.specs.Io.KnownBytes.{Appends};
+ghost use Rattle.watch_program.specs.Faults.{fault_status, fault_line, fault_of};
+ghost use Rattle.watch_program.specs.declared.fault.Fault.TheVariants.{Memory};
+
+use notify_paths::error::{Error, ErrorKind};
+use std::alloc::{AllocError, AllocFailed, Allocator};
+use std::io;
+use std::io::Write;
+
+/// Why a program that watches ends. Each fault has one exit status and one line.
+#[derive(Clone, Copy, Debug, PartialEq, Eq)]
+pub enum Fault {
+    /// A word after the program's name isn't UTF-8.
+    NotUtf8,
+    /// A pattern isn't a regular expression.
+    NotPattern,
+    /// An allocation failed.
+    Memory,
+    /// The folder or file can't be watched.
+    CannotWatch,
+    /// The output can't be written, for instance since its reader is gone.
+    OutputFailed,
+    /// A thread can't be started.
+    NoThread,
+}
+
+impl Fault {
+    /// Returns the fault of a call of the library that failed: `Memory` if an allocation did, or else
+    /// this one.
+    pub fn of<A: Allocator>(error: &Error<A>, other: Fault) -> Fault
+        ensures { result ≡ fault_of error.now.kind other }
+    {
+        match error.kind {
+            ErrorKind::Memory => Fault::Memory,
+            _ => other,
+        }
+    }
+
+    /// Returns the exit status of a program that ends so.
+    pub fn status(self) -> u8
+        ensures { result ≡ fault_status self }
+    {
+        match self {
+            Fault::NotUtf8 | Fault::NotPattern => 2,
+            Fault::Memory => 4,
+            Fault::CannotWatch => 5,
+            Fault::OutputFailed => 6,
+            Fault::NoThread => 8,
+        }
+    }
+
+    /// Writes the fault's line, for the program's name and what it watches. If the output failed, there
+    /// is none.
+    pub fn write<E: Write>(self, program: &str, watched: &str, err: &mut E) -> io::Result<()>
+        ensures silent { self ≡ Fault.OutputFailed → E.contents err.new ≡ E.contents err.old }
+        ensures line { OnOk result (Appends (E.contents err.old) (E.contents err.new)
+            (fault_line program.now watched.now self)) }
+    {
+        match self {
+            Fault::NotUtf8 => writeln!(err, "{program}: an argument is not UTF-8"),
+            Fault::NotPattern => writeln!(err, "{program}: a pattern is not a regular expression"),
+            Fault::Memory => writeln!(err, "{program}: out of memory"),
+            Fault::CannotWatch => writeln!(err, "{program}: cannot watch {watched}"),
+            Fault::OutputFailed => Ok(()),
+            Fault::NoThread => writeln!(err, "{program}: cannot start a thread"),
+        }
+    }
+}
+
+impl From<AllocError> for Fault {
+    ghost from_gives = { λ _ e. e ≡ Memory };
+
+    fn from(_error: AllocError) -> Fault {
+        Fault::Memory
+    }
+}
+
+impl<T: Drop> From<AllocFailed<T>> for Fault {
+    ghost from_gives = { λ _ e. e ≡ Memory };
+
+    fn from(_error: AllocFailed<T>) -> Fault {
+        Fault::Memory
+    }
+}

@@ -1,0 +1,28 @@
+//! What programs that watch a folder share: the words of their command lines, the faults by which they
+//! end, and lines that are written at once. It knows nothing of a debouncer's threads.
+//!
+//! A program adds its own words to [`command`], reads its words by [`words_of`] and [`matches_of`], takes
+//! a [`Pace`] by [`pace_of`], and ends by [`end`]. A line is gathered in a `Vec<u8>`, its fields by
+//! [`push_field`], and written by [`write_now`].
+//!
+//! ```text
+//! let matches = match matches_of(&rt, command(rt.alloc(), NAME, ABOUT, "DIR"), words.as_slice()) {
+//!     Ok(matches) => matches,
+//!     Err(status) => return ExitCode::from(status),
+//! };
+//! ```
+#![tactic(auto)]
+
+mod ends;
+mod fault;
+mod field;
+mod output;
+mod pace;
+mod words;
+
+pub use ends::end;
+pub use fault::Fault;
+pub use field::push_field;
+pub use output::write_now;
+pub use pace::{Pace, pace_of};
+pub use words::{command, matches_of, number, number_of, option, place_of, words_of};

@@ -1,0 +1,107 @@
+//! The words of a command line.
+ghost use Rattle.std.specs.Prelude.{◌≡◌, ◌⊎◌, [], map, codes, None, Some, unwrap_or, IfOk, IfErr};
+ghost use Rattle.std.specs.String.{string_bytes};
+ghost use Rattle.clap.specs.Words.{HasMatchesOf, app_of, first_value, found_of, one_text};
+ghost use Rattle.watch_program.specs.declared.fault.Fault.TheVariants.{NotUtf8, Memory};
+
+use crate::fault::Fault;
+use clap::error::ErrorKind as WordFault;
+use clap::{Arg, ArgAction, ArgMatches, Command, Error, value_parser};
+use std::alloc::{AllocError, Global};
+use std::rt::Env;
+use std::{env, io};
+
+/// Returns a command line with one place, as `DIR`, and the options `--timeout`, `--interval` and
+/// `--ticks`.
+pub fn command<'a>(
+    alloc: Global,
+    name: &'a str,
+    about: &'a str,
+    place: &'a str,
+) -> Result<Command<'a>, AllocError> {
+    let place = Arg::new(alloc, "place").value_name(place).required(true);
+    Command::new(alloc, name)
+        .about(about)
+        .arg(place)?
+        .arg(number(alloc, "timeout", "MS").help("emit events that are this old [default: 500]"))?
+        .arg(number(alloc, "interval", "MS").help("look at the folder so often [default: 250]"))?
+        .arg(number(alloc, "ticks", "N").help("end after so many quarters of a second"))
+}
+
+/// Returns an option `--NAME VALUE`.
+pub fn option<'a>(alloc: Global, name: &'a str, value: &'a str) -> Arg<'a>
+    ensures id { result.id ≡ name.entry }
+    ensures long { result.long ≡ Some name.entry }
+    ensures sets { result.action ≡ Some ArgAction.Set }
+{
+    Arg::new(alloc, name)
+        .long(name)
+        .value_name(value)
+        .action(ArgAction::Set)
+}
+
+/// Returns an option `--NAME NUMBER`, whose number is above 0.
+pub fn number<'a>(alloc: Global, name: &'a str, value: &'a str) -> Arg<'a>
+    ensures id { result.id ≡ name.entry }
+    ensures long { result.long ≡ Some name.entry }
+    ensures sets { result.action ≡ Some ArgAction.Set }
+{
+    option(alloc, name, value).value_parser(value_parser!(u64).range(1..100_000_000))
+}
+
+/// Returns the number that the option has, or this one if no word gives it.
+pub fn number_of(matches: &ArgMatches<'_>, name: &str, other: u64) -> u64
+    ensures none { one_text (found_of matches.now) name.now ≡ None → result ≡ other }
+{
+    matches.get_one::<u64>(name).unwrap_or(other)
+}
+
+/// Returns the place: what the program watches.
+pub fn place_of<'a>(matches: &ArgMatches<'a>) -> &'a str
+    ensures { result.now ≡ unwrap_or (first_value (found_of matches.now) (codes "place")) [] }
+{
+    matches.get_str("place").unwrap_or("")
+}
+
+/// Returns the program's words, its name first.
+pub fn words_of<R: Env + AllocGlobal>(rt: &R) -> Result<Vec<String>, Fault>
+    ensures err { IfErr result (λ e. (e ≡ NotUtf8) ⊎ (e ≡ Memory)) }
+{
+    match env::args(rt) {
+        Ok(words) => Ok(words.collect(rt.alloc())?),
+        Err(error) if error.kind() == io::ErrorKind::InvalidData => Err(Fault::NotUtf8),
+        Err(_) => Err(Fault::Memory),
+    }
+}
+
+/// Reads the words by the command line. If they don't fit, or ask for help, what there is to say was
+/// printed, and the program ends with this status.
+pub fn matches_of<'a, R: Print + Eprint>(
+    rt: &R,
+    command: Result<Command<'a>, AllocError>,
+    words: &'a [String],
+) -> Result<ArgMatches<'a>, u8>
+    ensures ok { IfOk command.entry (λ c. IfOk result
+        (HasMatchesOf (app_of c) (map string_bytes words.entry.now))) }
+    ensures err { IfErr result (λ status. (status ≡ 0) ⊎ ((status ≡ 2) ⊎ (status ≡ 4))) }
+{
+    let Ok(command) = command else {
+        return Err(4);
+    };
+    match command.try_get_matches_from(words) {
+        Ok(matches) => Ok(matches),
+        Err(error) => Err(print(rt, &error)),
+    }
+}
+
+/// Prints what there is to say, and returns the status: 0 for help, 4 if an allocation failed, and else 2.
+fn print<R: Print + Eprint>(rt: &R, error: &Error) -> u8
+    ensures { (result ≡ 0) ⊎ ((result ≡ 2) ⊎ (result ≡ 4)) }
+{
+    let _ = error.print(rt);
+    match error.kind() {
+        WordFault::OutOfMemory => 4,
+        WordFault::DisplayHelp => 0,
+        _ => 2,
+    }
+}
