@@ -14,5 +14,6 @@
 #![tactic(auto)]
 
 pub mod action;
+pub mod naming;
 pub mod planning;
 pub mod target;

@@ -1,0 +1,2 @@
+pub mod IndexLaw
+pub mod WordLemmas

@@ -1,0 +1,110 @@
+//! The index.
+ghost use Rattle.std.specs.Prelude.{◌≡◌, [], map, IfOk, OnOk};
+ghost use Rattle.std.specs.Map.{keys_of};
+ghost use Rattle.std.specs.List.Sorted.{IsStrictlySortedBy};
+ghost use Rattle.notify_paths.specs.Path.{path_cmp};
+ghost use Rattle.debounce_model.specs.Play.{events_of};
+ghost use Rattle.batch_plan.specs.Plan.{look_at, stands};
+ghost use Rattle.word_index.specs.Index.{IsIndexAfter, StaysExact, documents_with, put_all, without_gone, without_document};
+
+use crate::words::Words;
+use batch_plan::planning::gone_at;
+use notify_paths::below::drop_at_or_below;
+use notify_paths::path::PathBuf;
+use notify_types::event::DebouncedEvent;
+use std::alloc::{AllocError, Allocator, Global};
+use std::collections::BTreeMap;
+use std::marker::Model;
+
+/// What stands at each path below a folder, with its words: a folder has none, nor has a file that is
+/// no text.
+#[derive(Drop)]
+pub struct DocumentIndex<A: Allocator = Global> {
+    documents: BTreeMap<PathBuf<A>, Words<A>, A>,
+    alloc: A,
+}
+
+impl<A: Allocator> Model for DocumentIndex<A> {
+    ghost use Rattle.word_index.specs.Index.{IndexValue};
+
+    ghost Value = { IndexValue };
+
+    ghost view = { λ a. a.documents.entries };
+}
+
+impl<A: Allocator + Copy> DocumentIndex<A> {
+    /// Returns the index of no documents.
+    pub fn new(alloc: A) -> DocumentIndex<A>
+        ensures { result ≡ [] }
+    {
+        DocumentIndex {
+            documents: BTreeMap::new(alloc),
+            alloc,
+        }
+    }
+
+    /// Returns the documents that have the word, in the order of their paths. The word's case has to be
+    /// folded, as `words_of` folds it.
+    pub fn documents_with(&self, word: &str) -> Result<Vec<&PathBuf<A>, A>, AllocError>
+        ensures { IfOk result (λ paths. map (λ p. p.now) paths.items
+            ≡ documents_with self.now word.now) }
+    {
+        let mut paths = Vec::new(self.alloc);
+        let mut rest = self.documents.iter();
+        while let Some((path, words)) = rest.next() {
+            if words.has(word) {
+                paths.push(path)?;
+            }
+        }
+        Ok(paths)
+    }
+
+    /// Takes a batch, and what was read at the paths that its events name first: the words of what
+    /// stands there, and nothing of a path at which nothing does. What an event takes away is forgotten
+    /// with all below it, and what was read is put in. If an allocation fails, a part may be put in.
+    pub fn take_batch(
+        &mut self,
+        read: BTreeMap<PathBuf<A>, Words<A>, A>,
+        batch: &[DebouncedEvent<A>],
+    ) -> Result<(), AllocError>
+        ensures after { OnOk result (IsIndexAfter read.entries (events_of batch.now)
+            self.old self.new) }
+        // An index of just the documents that stood is one of just those that remain.
+        ensures exact { OnOk result (StaysExact read.entries (events_of batch.now)
+            self.old self.new) }
+    {
+        self.forget_gone(&read, batch);
+        self.put_all(read)
+    }
+
+    /// Forgets what the events take away.
+    fn forget_gone(&mut self, read: &BTreeMap<PathBuf<A>, Words<A>, A>, batch: &[DebouncedEvent<A>])
+        ensures { self.new ≡ without_gone (stands (look_at read.now.entries)) (events_of batch.now)
+            self.old }
+    {
+        for event in batch {
+            if let Some(path) = gone_at(read, event) {
+                self.forget(path);
+            }
+        }
+    }
+
+    /// Forgets what stands at the path and below it.
+    fn forget(&mut self, path: &PathBuf<A>)
+        ensures { self.new ≡ without_document path.now self.old }
+    {
+        let mut spare = PathBuf::empty(self.alloc);
+        drop_at_or_below(&mut self.documents, path, &mut spare);
+    }
+
+    /// Puts in what was read.
+    fn put_all(&mut self, read: BTreeMap<PathBuf<A>, Words<A>, A>) -> Result<(), AllocError>
+        ensures put { OnOk result (self.new ≡ put_all self.old read.entries) }
+        ensures ordered { IsStrictlySortedBy path_cmp (keys_of read.entries) }
+    {
+        for (path, words) in read {
+            self.documents.insert(path, words)?;
+        }
+        Ok(())
+    }
+}
