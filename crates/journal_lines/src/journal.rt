@@ -40,7 +40,8 @@ impl Journal {
         out: &mut O,
     ) -> Result<(), Fault>
         ensures written { OnOk result (Appends (O.contents out.old) (O.contents out.new)
-            (entries_of self.old.form self.old.next (passing (filter_rule filter.old) batch.items))) }
+            (entries_of self.old.form self.old.next
+            (passing (filter_rule filter.old) batch.items))) }
         ensures begun { OnErr result (WritesFront (O.contents out.old)
             (entries_of self.old.form self.old.next (passing (filter_rule filter.old) batch.items))
             (O.contents out.new)) }
@@ -69,8 +70,11 @@ impl Journal {
             (entries_of self.old.form self.old.next batch.now)) }
         ensures begun { OnErr result (WritesFront (O.contents out.old)
             (entries_of self.old.form self.old.next batch.now) (O.contents out.new)) }
-        ensures next { OnOk result (self.new ≡ record self.old { next = after self.old.next batch.now }) }
-        ensures again { OnOk result (self.old.form ≡ Form.Json → AreReadBack self.old.next batch.now) }
+        ensures next { OnOk result (self.new ≡ record self.old {
+          next = after self.old.next batch.now;
+        }) }
+        ensures again { OnOk result (self.old.form ≡ Form.Json
+            → AreReadBack self.old.next batch.now) }
         ensures err { IfErr result (λ e. (e ≡ Fault.Memory) ⊎ (e ≡ Fault.OutputFailed)) }
     {
         let mut text = Vec::new(alloc);
@@ -87,8 +91,11 @@ impl Journal {
     ) -> Result<(), AllocError>
         ensures text { OnOk result (text.new.items ≡ text.old.items
             ++ entries_of self.old.form self.old.next batch.now) }
-        ensures next { OnOk result (self.new ≡ record self.old { next = after self.old.next batch.now }) }
-        ensures again { OnOk result (self.old.form ≡ Form.Json → AreReadBack self.old.next batch.now) }
+        ensures next { OnOk result (self.new ≡ record self.old {
+          next = after self.old.next batch.now;
+        }) }
+        ensures again { OnOk result (self.old.form ≡ Form.Json
+            → AreReadBack self.old.next batch.now) }
     {
         let form = self.form;
         let mut next = self.next;
