@@ -55,6 +55,7 @@ impl Journal {
         ensures err { IfErr result (λ e. (e ≡ Fault.Memory) ⊎ (e ≡ Fault.OutputFailed)) }
     {
         let batch = filter.keep(alloc, batch)?;
+<<<<<<< HEAD
         self.write_batch(alloc, batch.as_slice(), out)
     }
 
@@ -77,18 +78,15 @@ impl Journal {
             → AreReadBack self.old.next batch.now) }
         ensures err { IfErr result (λ e. (e ≡ Fault.Memory) ⊎ (e ≡ Fault.OutputFailed)) }
     {
+=======
+>>>>>>> 90f0acf24513f1178403bbc447ec7a391a71f9fe
         let mut text = Vec::new(alloc);
-        self.push_batch(alloc, &mut text, batch)?;
+        self.push_batch(&mut text, batch.as_slice())?;
         write_now(text.as_slice(), out)
     }
 
     /// Appends the events, and counts them.
-    fn push_batch(
-        &mut self,
-        alloc: Global,
-        text: &mut Vec<u8>,
-        batch: &[DebouncedEvent],
-    ) -> Result<(), AllocError>
+    fn push_batch(&mut self, text: &mut Vec<u8>, batch: &[DebouncedEvent]) -> Result<(), AllocError>
         ensures text { OnOk result (text.new.items ≡ text.old.items
             ++ entries_of self.old.form self.old.next batch.now) }
         ensures next { OnOk result (self.new ≡ record self.old {
@@ -100,7 +98,7 @@ impl Journal {
         let form = self.form;
         let mut next = self.next;
         for event in batch {
-            push_event(alloc, text, form, next, event)?;
+            push_event(text, form, next, event)?;
             next = next.saturating_add(1);
         }
         self.next = next;
