@@ -1,7 +1,8 @@
 //! Batches that say only where to look.
 ghost use Rattle.std.specs.Prelude.{◌≡◌, ◌++◌, ◌∷◌, [], OnOk};
-ghost use Rattle.batch_plan.specs.Naming.{naming};
+ghost use Rattle.batch_plan.specs.Naming.{naming, naming_of, namings};
 
+use folder_listing::listing::Listing;
 use notify_paths::path::PathBuf;
 use notify_types::event::{DebouncedEvent, Event};
 use notify_types::kind::EventKind;
@@ -19,4 +20,38 @@ pub fn name_path<A: Allocator + Copy>(
     event.paths.push(path.clone()?)?;
     batch.push(DebouncedEvent::new(event, 0))?;
     Ok(())
+}
+
+/// Adds an event for each path of the listing at or below the folder. It names the path of the original
+/// that this one stands for; with the folder itself as the original, that is the path.
+pub fn name_listed<A: Allocator + Copy>(
+    batch: &mut Vec<DebouncedEvent<A>, A>,
+    listing: &Listing<A>,
+    folder: &PathBuf<A>,
+    original: &PathBuf<A>,
+) -> Result<(), AllocError>
+    ensures { OnOk result (batch.new.items ≡ batch.old.items
+        ++ namings folder.now original.now listing.now) }
+{
+    let mut rest = listing.iter();
+    while let Some((path, _found)) = rest.next() {
+        name_original(batch, path, folder, original)?;
+    }
+    Ok(())
+}
+
+/// Adds the event of a path, if it lies at or below the folder.
+fn name_original<A: Allocator + Copy>(
+    batch: &mut Vec<DebouncedEvent<A>, A>,
+    path: &PathBuf<A>,
+    folder: &PathBuf<A>,
+    original: &PathBuf<A>,
+) -> Result<(), AllocError>
+    ensures { OnOk result (batch.new.items ≡ batch.old.items
+        ++ naming_of folder.now original.now path.now) }
+{
+    if folder.is_empty() || !path.starts_with(folder) {
+        return Ok(());
+    }
+    name_path(batch, &path.relocated(folder, original)?)
 }
