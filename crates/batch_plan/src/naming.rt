@@ -1,6 +1,6 @@
 //! Batches that say only where to look.
 ghost use Rattle.std.specs.Prelude.{◌≡◌, ◌++◌, ◌∷◌, [], OnOk};
-ghost use Rattle.batch_plan.specs.Naming.{naming, naming_of, namings};
+ghost use Rattle.batch_plan.specs.Naming.{naming, namings};
 
 use folder_listing::listing::Listing;
 use notify_paths::path::PathBuf;
@@ -22,36 +22,19 @@ pub fn name_path<A: Allocator + Copy>(
     Ok(())
 }
 
-/// Adds an event for each path of the listing at or below the folder. It names the path of the original
-/// that this one stands for; with the folder itself as the original, that is the path.
+/// Adds such an event for each path of the listing at or below the folder.
 pub fn name_listed<A: Allocator + Copy>(
     batch: &mut Vec<DebouncedEvent<A>, A>,
     listing: &Listing<A>,
     folder: &PathBuf<A>,
-    original: &PathBuf<A>,
 ) -> Result<(), AllocError>
-    ensures { OnOk result (batch.new.items ≡ batch.old.items
-        ++ namings folder.now original.now listing.now) }
+    ensures { OnOk result (batch.new.items ≡ batch.old.items ++ namings folder.now listing.now) }
 {
     let mut rest = listing.iter();
     while let Some((path, _found)) = rest.next() {
-        name_original(batch, path, folder, original)?;
+        if path.starts_with(folder) {
+            name_path(batch, path)?;
+        }
     }
     Ok(())
-}
-
-/// Adds the event of a path, if it lies at or below the folder.
-fn name_original<A: Allocator + Copy>(
-    batch: &mut Vec<DebouncedEvent<A>, A>,
-    path: &PathBuf<A>,
-    folder: &PathBuf<A>,
-    original: &PathBuf<A>,
-) -> Result<(), AllocError>
-    ensures { OnOk result (batch.new.items ≡ batch.old.items
-        ++ naming_of folder.now original.now path.now) }
-{
-    if folder.is_empty() || !path.starts_with(folder) {
-        return Ok(());
-    }
-    name_path(batch, &path.relocated(folder, original)?)
 }

@@ -31,7 +31,7 @@ impl<R: DebouncerRuntime + AllocGlobal> Documents<R> {
             Err(error) => return Err(Fault::of(&error, Fault::CannotWatch)),
         };
         let mut batch = Vec::new(alloc);
-        name_listed(&mut batch, &listing, &self.folder, &self.folder)?;
+        name_listed(&mut batch, &listing, &self.folder)?;
         Ok(batch)
     }
 

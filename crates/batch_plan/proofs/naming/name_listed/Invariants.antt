@@ -7,5 +7,5 @@ decreases-loop-path g l = length l.rest
 
 -- the events so far, and those of the paths that are left, are all
 abbrev pub invariant-loop-path : goal.invariant-loop-path
-invariant-loop-path g l = l.batch.items ++ namings l.folder l.original l.rest
-    ≡ l.fn.batch.items ++ namings l.folder l.original l.listing
+invariant-loop-path g l = l.batch.items ++ namings l.folder l.rest
+    ≡ l.fn.batch.items ++ namings l.folder l.listing
