@@ -8,28 +8,15 @@ mod words;
 use clap::ArgMatches;
 use journal_lines::{Journal, PathFilter};
 use notify_debouncer_full::{
-    DebouncerRuntime, Feed, PathBuf, RecommendedCache, RecommendedWatcher, RecursiveMode, Watcher,
+    DebouncerRuntime, Feed, RecommendedCache, RecommendedWatcher, RecursiveMode, Watcher,
 };
 use printer::Printer;
 use std::alloc::Global;
 use std::io::Write;
 use std::process::ExitCode;
 use watch_loop::FolderReports;
-use watch_program::{Fault, end, matches_of, pace_of, place_of, words_of};
+use watch_program::{Fault, end, folder_of, matches_of, pace_of, place_of, words_of, write_missed};
 use words::{NAME, command_line, form_of, patterns_of};
-
-/// Watches the folder that the words name.
-fn start<
-    T: Watcher<Feed<RecommendedCache, R, Global>, R, Global>,
-    R: DebouncerRuntime + AllocGlobal,
->(rt: R, matches: &ArgMatches<'_>) -> Result<FolderReports<T, R>, Fault>
-    requires takes { (feed : _) → T.takes feed }
-{
-    let Ok(folder) = PathBuf::parse(rt.alloc(), place_of(matches)) else {
-        return Err(Fault::Memory);
-    };
-    FolderReports::start(rt, &folder, RecursiveMode::Recursive, pace_of(matches))
-}
 
 /// Prints what is reported until the life is over, and then what still waits.
 fn follow<T: Drop, R: DebouncerRuntime + AllocGlobal, O: Write + Drop, E: Write + Drop>(
@@ -44,7 +31,7 @@ fn follow<T: Drop, R: DebouncerRuntime + AllocGlobal, O: Write + Drop, E: Write 
         printer.print(report)?;
     }
     let rest = reports.finish()?;
-    printer.print_missed(rest.missed);
+    write_missed(rest.missed, NAME, &mut printer.err);
     for report in rest.reports {
         printer.print(report)?;
     }
@@ -62,7 +49,6 @@ fn run<
 {
     let patterns = patterns_of(rt.alloc(), matches)?;
     let filter: PathFilter<'_> = patterns.filter(rt.alloc())?;
-    let reports = start::<T, R>(rt, matches)?;
     let mut printer = Printer {
         alloc: rt.alloc(),
         journal: Journal::new(form_of(matches)),
@@ -70,7 +56,9 @@ fn run<
         out,
         err,
     };
-    follow(rt, reports, &mut printer)
+    let folder = folder_of(rt.alloc(), matches)?;
+    let reports = FolderReports::start(rt, &folder, RecursiveMode::Recursive, pace_of(matches))?;
+    follow::<T, R, O, E>(rt, reports, &mut printer)
 }
 
 fn main(rt: HostRuntime) -> ExitCode {

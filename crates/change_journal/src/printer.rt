@@ -7,10 +7,10 @@ ghost use Rattle.journal_lines.specs.Lines.{entries_of};
 
 use crate::words::NAME;
 use journal_lines::{Journal, PathFilter};
-use notify_debouncer_full::{DebounceEventResult, Error};
+use notify_debouncer_full::DebounceEventResult;
 use std::alloc::Global;
 use std::io::Write;
-use watch_program::Fault;
+use watch_program::{Fault, write_errors};
 
 /// A journal, which events it takes, and where it is written to.
 #[derive(Drop)]
@@ -37,26 +37,9 @@ impl<O: Write + Drop, E: Write + Drop> Printer<'_, O, E> {
                 .journal
                 .write_passing(self.alloc, &mut self.filter, batch, &mut self.out),
             Err(errors) => {
-                self.print_errors(errors.as_slice());
+                write_errors(errors.as_slice(), NAME, &mut self.err);
                 Ok(())
             }
-        }
-    }
-
-    fn print_errors(&mut self, errors: &[Error])
-        ensures { O.contents self.new.out ≡ O.contents self.old.out }
-    {
-        for error in errors {
-            let _ = writeln!(&mut self.err, "{NAME}: {error}");
-        }
-    }
-
-    /// Prints how many events and errors were lost for want of memory, if any was.
-    pub(crate) fn print_missed(&mut self, missed: u64)
-        ensures { O.contents self.new.out ≡ O.contents self.old.out }
-    {
-        if missed > 0 {
-            let _ = writeln!(&mut self.err, "{NAME}: {missed} missed");
         }
     }
 }

@@ -2,10 +2,10 @@
 ghost use Rattle.std.specs.Prelude.{◌≡◌, ◌⊎◌, IfErr};
 ghost use Rattle.watch_program.specs.declared.fault.Fault.TheVariants.{NotPattern, Memory};
 
-use clap::{Arg, ArgAction, ArgMatches, Command};
+use clap::{ArgMatches, Command};
 use journal_lines::{Form, Patterns};
 use std::alloc::{AllocError, Global};
-use watch_program::{Fault, command, option};
+use watch_program::{Fault, command, flag, option};
 
 /// The program's name.
 pub(crate) const NAME: &str = "change_journal";
@@ -24,10 +24,6 @@ pub(crate) fn command_line<'a>(alloc: Global) -> Result<Command<'a>, AllocError>
         .arg(zero)?
         .arg(include)?
         .arg(exclude)
-}
-
-fn flag<'a>(alloc: Global, name: &'a str) -> Arg<'a> {
-    Arg::new(alloc, name).action(ArgAction::SetTrue)
 }
 
 /// The form that the words ask for.

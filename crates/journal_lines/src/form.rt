@@ -8,7 +8,7 @@ ghost use Rattle.journal_lines.specs.Lines.{entry_of, tab_paths, zero_paths};
 use crate::json::json_line;
 use notify_paths::path::PathBuf;
 use notify_types::event::DebouncedEvent;
-use std::alloc::{AllocError, Global};
+use std::alloc::AllocError;
 use watch_program::push_field;
 
 /// How a journal writes an event.
@@ -24,7 +24,6 @@ pub enum Form {
 
 /// Appends the event in this form. Its number is written in JSON alone.
 pub(crate) fn push_event(
-    alloc: Global,
     text: &mut Vec<u8>,
     form: Form,
     seq: u64,
@@ -36,7 +35,7 @@ pub(crate) fn push_event(
 {
     match form {
         Form::Plain => push_plain(text, event),
-        Form::Json => push_json(alloc, text, seq, event),
+        Form::Json => push_json(text, seq, event),
         Form::Zero => push_zero(text, event.event.paths.as_slice()),
     }
 }
@@ -59,17 +58,12 @@ fn push_tabs(text: &mut Vec<u8>, paths: &[PathBuf]) -> Result<(), AllocError>
     Ok(())
 }
 
-fn push_json(
-    alloc: Global,
-    text: &mut Vec<u8>,
-    seq: u64,
-    event: &DebouncedEvent,
-) -> Result<(), AllocError>
+fn push_json(text: &mut Vec<u8>, seq: u64, event: &DebouncedEvent) -> Result<(), AllocError>
     ensures text { OnOk result (text.new.items ≡ text.old.items ++ entry_of Json seq event.now) }
     ensures again { OnOk result (read (json_text seq event.now)
         ≡ Some (event_data seq event.now)) }
 {
-    let line = json_line(alloc, seq, event)?;
+    let line = json_line(*text.allocator(), seq, event)?;
     text.extend_from_slice(line.as_bytes())?;
     Ok(text.push(b'\n')?)
 }

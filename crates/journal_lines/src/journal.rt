@@ -54,37 +54,13 @@ impl Journal {
         ensures err { IfErr result (λ e. (e ≡ Fault.Memory) ⊎ (e ≡ Fault.OutputFailed)) }
     {
         let batch = filter.keep(alloc, batch)?;
-        self.write_batch(alloc, batch.as_slice(), out)
-    }
-
-    /// Writes the events, in order, and flushes the writer. If memory is refused, nothing was written;
-    /// if the output fails, a beginning was.
-    fn write_batch<O: Write>(
-        &mut self,
-        alloc: Global,
-        batch: &[DebouncedEvent],
-        out: &mut O,
-    ) -> Result<(), Fault>
-        ensures written { OnOk result (Appends (O.contents out.old) (O.contents out.new)
-            (entries_of self.old.form self.old.next batch.now)) }
-        ensures begun { OnErr result (WritesFront (O.contents out.old)
-            (entries_of self.old.form self.old.next batch.now) (O.contents out.new)) }
-        ensures next { OnOk result (self.new ≡ record self.old { next = after self.old.next batch.now }) }
-        ensures again { OnOk result (self.old.form ≡ Form.Json → AreReadBack self.old.next batch.now) }
-        ensures err { IfErr result (λ e. (e ≡ Fault.Memory) ⊎ (e ≡ Fault.OutputFailed)) }
-    {
         let mut text = Vec::new(alloc);
-        self.push_batch(alloc, &mut text, batch)?;
+        self.push_batch(&mut text, batch.as_slice())?;
         write_now(text.as_slice(), out)
     }
 
     /// Appends the events, and counts them.
-    fn push_batch(
-        &mut self,
-        alloc: Global,
-        text: &mut Vec<u8>,
-        batch: &[DebouncedEvent],
-    ) -> Result<(), AllocError>
+    fn push_batch(&mut self, text: &mut Vec<u8>, batch: &[DebouncedEvent]) -> Result<(), AllocError>
         ensures text { OnOk result (text.new.items ≡ text.old.items
             ++ entries_of self.old.form self.old.next batch.now) }
         ensures next { OnOk result (self.new ≡ record self.old { next = after self.old.next batch.now }) }
@@ -93,7 +69,7 @@ impl Journal {
         let form = self.form;
         let mut next = self.next;
         for event in batch {
-            push_event(alloc, text, form, next, event)?;
+            push_event(text, form, next, event)?;
             next = next.saturating_add(1);
         }
         self.next = next;

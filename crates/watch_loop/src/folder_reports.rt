@@ -3,8 +3,8 @@ ghost use Rattle.std.specs.Prelude.{◌≡◌, ◌⊎◌, IfErr};
 ghost use Rattle.watch_program.specs.declared.fault.Fault.TheVariants.{CannotWatch, Memory, NoThread};
 
 use notify_debouncer_full::{
-    Config, DebounceEventResult, DebouncerRuntime, Feed, LastReports, ListingWatcher, PathBuf,
-    RecommendedCache, RecursiveMode, Reports, Watcher,
+    Config, DebounceEventResult, DebouncerRuntime, Error, Feed, LastReports, ListingWatcher,
+    PathBuf, RecommendedCache, RecursiveMode, Reports, Watcher,
 };
 use std::alloc::Global;
 use std::sync::Wait;
@@ -32,8 +32,8 @@ impl<
     T: Watcher<Feed<RecommendedCache, R, Global>, R, Global>,
     R: DebouncerRuntime + AllocGlobal,
 > FolderReports<T, R> {
-    /// Watches the folder from now on. What is there already isn't reported. The life begins once it is
-    /// watched.
+    /// Watches the folder from now on. What is there already isn't reported. The life begins with
+    /// this call.
     pub fn start(
         rt: R,
         folder: &PathBuf,
@@ -43,9 +43,9 @@ impl<
         requires takes { (feed : _) → T.takes feed }
         ensures err { IfErr result (λ e. (e ≡ Memory) ⊎ ((e ≡ CannotWatch) ⊎ (e ≡ NoThread))) }
     {
-        let mut reports = begin::<T, R>(rt, pace)?;
-        match reports.watch(folder, mode) {
-            Ok(()) => Ok(until(rt, reports, pace)),
+        let mut started = begin::<T, R>(rt, pace)?;
+        match started.reports.watch(folder, mode) {
+            Ok(()) => Ok(started),
             Err(error) => Err(Fault::of(&error, Fault::CannotWatch)),
         }
     }
@@ -66,9 +66,9 @@ impl<
         requires takes { (feed : _) → T.takes feed }
         ensures err { IfErr result (λ e. (e ≡ Memory) ⊎ ((e ≡ CannotWatch) ⊎ (e ≡ NoThread))) }
     {
-        let mut reports = begin::<T, R>(rt, pace)?;
-        match reports.watch_listed(folder, mode) {
-            Ok(listing) => Ok((until(rt, reports, pace), listing)),
+        let mut started = begin::<T, R>(rt, pace)?;
+        match started.reports.watch_listed(folder, mode) {
+            Ok(listing) => Ok((started, listing)),
             Err(error) => Err(Fault::of(&error, Fault::CannotWatch)),
         }
     }
@@ -97,8 +97,18 @@ impl<T: Drop, R: DebouncerRuntime + AllocGlobal> FolderReports<T, R> {
     pub fn finish(self) -> Result<Rest, Fault>
         ensures err { IfErr result (λ e. e ≡ Memory) }
     {
-        let FolderReports { rt, reports, end: _ } = self;
-        rest_of(&rt, &reports.finish())
+        let FolderReports {
+            rt,
+            reports,
+            end: _,
+        } = self;
+        let last = reports.finish();
+        let mut reports = Vec::new(rt.alloc());
+        push_rest(&rt, &mut reports, &last)?;
+        Ok(Rest {
+            reports,
+            missed: last.missed.saturating_add(last.unsent),
+        })
     }
 }
 
@@ -106,29 +116,15 @@ impl<T: Drop, R: DebouncerRuntime + AllocGlobal> FolderReports<T, R> {
 fn begin<
     T: Watcher<Feed<RecommendedCache, R, Global>, R, Global>,
     R: DebouncerRuntime + AllocGlobal,
->(rt: R, pace: Pace) -> Result<Reports<T, R>, Fault>
+>(rt: R, pace: Pace) -> Result<FolderReports<T, R>, Fault>
     requires takes { (feed : _) → T.takes feed }
     ensures err { IfErr result (λ e. (e ≡ Memory) ⊎ (e ≡ NoThread)) }
 {
     let config = Config::default().with_poll_interval(pace.interval);
+    let end = end_of(&rt, pace.life);
     match Reports::start(rt, rt.alloc(), pace.timeout, None, config) {
-        Ok(reports) => Ok(reports),
+        Ok(reports) => Ok(FolderReports { rt, reports, end }),
         Err(error) => Err(Fault::of(&error, Fault::NoThread)),
-    }
-}
-
-/// The reports, whose life begins now.
-fn until<T: Drop, R: DebouncerRuntime>(
-    rt: R,
-    reports: Reports<T, R>,
-    pace: Pace,
-) -> FolderReports<T, R>
-    ensures { result.reports ≡ reports }
-{
-    FolderReports {
-        rt,
-        reports,
-        end: end_of(&rt, pace.life),
     }
 }
 
@@ -143,36 +139,34 @@ fn left<R: Clock>(rt: &R, end: Instant) -> Option<Duration> {
     if left.is_zero() { None } else { Some(left) }
 }
 
-/// What the last reports are.
-fn rest_of<R: Wait + AllocGlobal>(rt: &R, last: &LastReports) -> Result<Rest, Fault>
-    ensures err { IfErr result (λ e. e ≡ Memory) }
-{
-    let mut reports = Vec::new(rt.alloc());
-    for report in last.queue.try_iter(rt) {
-        reports.push(report)?;
-    }
-    push_waiting(rt.alloc(), &mut reports, last)?;
-    Ok(Rest {
-        reports,
-        missed: last.missed.saturating_add(last.unsent),
-    })
-}
-
-/// Appends what waits: the events, and then the errors.
-fn push_waiting(
-    alloc: Global,
+/// Appends what was emitted and not asked for, and then what waits: the events, and the errors.
+fn push_rest<R: Wait + AllocGlobal>(
+    rt: &R,
     reports: &mut Vec<DebounceEventResult>,
     last: &LastReports,
 ) -> Result<(), Fault>
     ensures err { IfErr result (λ e. e ≡ Memory) }
 {
+    for report in last.queue.try_iter(rt) {
+        reports.push(report)?;
+    }
     let Ok(batch) = last.book.outlook() else {
         return Err(Fault::Memory);
     };
     if !batch.is_empty() {
         reports.push(Ok(batch))?;
     }
-    let errors = last.book.core().pending_errors();
+    push_errors(rt.alloc(), reports, last.book.core().pending_errors())
+}
+
+/// Appends a list of errors, if it has any.
+fn push_errors(
+    alloc: Global,
+    reports: &mut Vec<DebounceEventResult>,
+    errors: &[Error],
+) -> Result<(), Fault>
+    ensures err { IfErr result (λ e. e ≡ Memory) }
+{
     if !errors.is_empty() {
         reports.push(Err(errors.to_vec(alloc)?))?;
     }

@@ -1,8 +1,9 @@
-//! How a program ends.
-ghost use Rattle.std.specs.Prelude.{◌≡◌, Ok};
+//! What a program says on standard error, and how it ends.
+ghost use Rattle.std.specs.Prelude.{◌≡◌, []};
 ghost use Rattle.watch_program.specs.Faults.{end_status};
 
 use crate::fault::Fault;
+use notify_paths::error::Error;
 use std::io::Write;
 
 /// Returns the exit status of a run, and writes the line of its fault, if it has one.
@@ -17,5 +18,23 @@ pub fn end<E: Write>(run: Result<(), Fault>, program: &str, watched: &str, err: 
             let _ = fault.write(program, watched, err);
             fault.status()
         }
+    }
+}
+
+/// Writes a line for each error that the watcher had. It looks again, so no change is lost by one.
+pub fn write_errors<E: Write>(errors: &[Error], program: &str, err: &mut E)
+    ensures none { errors.now ≡ [] → E.contents err.new ≡ E.contents err.old }
+{
+    for error in errors {
+        let _ = writeln!(err, "{program}: {error}");
+    }
+}
+
+/// Writes how many events, errors and batches were lost for want of memory, if any was.
+pub fn write_missed<E: Write>(missed: u64, program: &str, err: &mut E)
+    ensures none { missed ≡ 0 → E.contents err.new ≡ E.contents err.old }
+{
+    if missed > 0 {
+        let _ = writeln!(err, "{program}: {missed} missed");
     }
 }

@@ -20,9 +20,11 @@ mod output;
 mod pace;
 mod words;
 
-pub use ends::end;
+pub use ends::{end, write_errors, write_missed};
 pub use fault::Fault;
 pub use field::push_field;
 pub use output::write_now;
 pub use pace::{Pace, pace_of};
-pub use words::{command, matches_of, number, number_of, option, place_of, words_of};
+pub use words::{
+    command, flag, folder_of, matches_of, number, number_of, option, place_of, words_of,
+};

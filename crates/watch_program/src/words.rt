@@ -2,11 +2,13 @@
 ghost use Rattle.std.specs.Prelude.{◌≡◌, ◌⊎◌, [], map, codes, None, Some, unwrap_or, IfOk, IfErr};
 ghost use Rattle.std.specs.String.{string_bytes};
 ghost use Rattle.clap.specs.Words.{HasMatchesOf, app_of, first_value, found_of, one_text};
+ghost use Rattle.notify_paths.specs.PathText.{parts_of};
 ghost use Rattle.watch_program.specs.declared.fault.Fault.TheVariants.{NotUtf8, Memory};
 
 use crate::fault::Fault;
 use clap::error::ErrorKind as WordFault;
 use clap::{Arg, ArgAction, ArgMatches, Command, Error, value_parser};
+use notify_paths::path::PathBuf;
 use std::alloc::{AllocError, Global};
 use std::rt::Env;
 use std::{env, io};
@@ -49,6 +51,14 @@ pub fn number<'a>(alloc: Global, name: &'a str, value: &'a str) -> Arg<'a>
     option(alloc, name, value).value_parser(value_parser!(u64).range(1..100_000_000))
 }
 
+/// Returns a word that takes no value; `long` or `short` says how it is written.
+pub fn flag<'a>(alloc: Global, name: &'a str) -> Arg<'a>
+    ensures id { result.id ≡ name.entry }
+    ensures sets { result.action ≡ Some ArgAction.SetTrue }
+{
+    Arg::new(alloc, name).action(ArgAction::SetTrue)
+}
+
 /// Returns the number that the option has, or this one if no word gives it.
 pub fn number_of(matches: &ArgMatches<'_>, name: &str, other: u64) -> u64
     ensures none { one_text (found_of matches.now) name.now ≡ None → result ≡ other }
@@ -61,6 +71,18 @@ pub fn place_of<'a>(matches: &ArgMatches<'a>) -> &'a str
     ensures { result.now ≡ unwrap_or (first_value (found_of matches.now) (codes "place")) [] }
 {
     matches.get_str("place").unwrap_or("")
+}
+
+/// Returns the place as a path.
+pub fn folder_of(alloc: Global, matches: &ArgMatches<'_>) -> Result<PathBuf, Fault>
+    ensures ok { IfOk result (λ path. path ≡ parts_of (unwrap_or
+        (first_value (found_of matches.now) (codes "place")) [])) }
+    ensures err { IfErr result (λ e. e ≡ Memory) }
+{
+    match PathBuf::parse(alloc, place_of(matches)) {
+        Ok(path) => Ok(path),
+        Err(_) => Err(Fault::Memory),
+    }
 }
 
 /// Returns the program's words, its name first.
