@@ -1,0 +1,70 @@
+//! Documents, read from files.
+use batch_plan::naming::name_listed;
+use notify_debouncer_full::{
+    DebouncedEvent, DebouncerRuntime, Folders, PathBuf, RealFolders, RecursiveMode, list,
+};
+use std::collections::BTreeMap;
+use std::{fs, io};
+use watch_program::Fault;
+use word_index::words::{Words, words_of};
+
+/// What stands below a folder, read anew at each call. What can't be read has no words.
+#[derive(Drop)]
+pub(crate) struct Documents<R: Drop> {
+    rt: R,
+    folder: PathBuf,
+}
+
+impl<R: DebouncerRuntime + AllocGlobal> Documents<R> {
+    /// Returns the documents below the folder.
+    pub(crate) fn new(rt: R, folder: PathBuf) -> Documents<R> {
+        Documents { rt, folder }
+    }
+
+    /// Returns a batch that names all that stands at the folder and below it.
+    pub(crate) fn all(&self) -> Result<Vec<DebouncedEvent>, Fault> {
+        let alloc = self.rt.alloc();
+        let mut folders = RealFolders::new(self.rt, alloc);
+        let root = (self.folder.clone()?, RecursiveMode::Recursive);
+        let listing = match list(alloc, &mut folders, &[root]) {
+            Ok(listing) => listing,
+            Err(error) => return Err(Fault::of(&error, Fault::CannotWatch)),
+        };
+        let mut batch = Vec::new(alloc);
+        name_listed(&mut batch, &listing, &self.folder)?;
+        Ok(batch)
+    }
+
+    /// Reads what stands at the paths that the batch names.
+    pub(crate) fn read(&self, batch: &[DebouncedEvent]) -> Result<BTreeMap<PathBuf, Words>, Fault> {
+        let mut read = BTreeMap::new(self.rt.alloc());
+        for event in batch {
+            if let Some(path) = event.first_path() {
+                self.read_at(path, &mut read)?;
+            }
+        }
+        Ok(read)
+    }
+
+    /// Reads what stands at the path, if something does. Links aren't followed.
+    fn read_at(&self, path: &PathBuf, read: &mut BTreeMap<PathBuf, Words>) -> Result<(), Fault> {
+        let alloc = self.rt.alloc();
+        let words = match RealFolders::new(self.rt, alloc).look(path) {
+            Ok(Some(found)) if found.kind.is_file() => self.words_in(path)?,
+            Ok(Some(found)) if found.kind.is_folder() => Words::new(alloc),
+            Ok(_) | Err(_) => return Ok(()),
+        };
+        read.insert(path.clone()?, words)?;
+        Ok(())
+    }
+
+    /// The words of the file. One that is no text has none.
+    fn words_in(&self, path: &PathBuf) -> Result<Words, Fault> {
+        let alloc = self.rt.alloc();
+        match fs::read_to_string(&self.rt, path.as_str()) {
+            Ok(text) => Ok(words_of(alloc, text.as_str())?),
+            Err(error) if error.kind() == io::ErrorKind::OutOfMemory => Err(Fault::Memory),
+            Err(_) => Ok(Words::new(alloc)),
+        }
+    }
+}

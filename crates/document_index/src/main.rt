@@ -1,0 +1,92 @@
+//! The program `document_index`: it keeps an index of the words of all files below a folder, and answers
+//! which files have a word. docs/examples/document_index.md is its page.
+#![tactic(auto)]
+
+mod documents;
+mod service;
+
+use clap::{ArgMatches, Command};
+use documents::Documents;
+use notify_debouncer_full::{
+    DebouncerRuntime, Feed, PathBuf, RecommendedCache, RecommendedWatcher, RecursiveMode, Watcher,
+};
+use service::Service;
+use std::alloc::{AllocError, Global};
+use std::io::Write;
+use std::process::ExitCode;
+use watch_loop::FolderReports;
+use watch_program::{Fault, command, end, matches_of, option, pace_of, place_of, words_of};
+
+/// The program's name.
+const NAME: &str = "document_index";
+
+/// The command line.
+fn command_line<'a>(alloc: Global) -> Result<Command<'a>, AllocError> {
+    let query = option(alloc, "query", "WORD").help("print the files that have the word, and end");
+    command(
+        alloc,
+        NAME,
+        "Says which files below a folder have a word.",
+        "DIR",
+    )?
+    .arg(query)
+}
+
+/// Answers each line of the standard input, and ends each answer with an empty line.
+fn answer_lines<T: Drop, R: DebouncerRuntime + AllocGlobal + Input, O: Write + Drop>(
+    rt: R,
+    service: &mut Service<R, O>,
+    reports: &FolderReports<T, R>,
+) -> Result<(), Fault> {
+    for line in rt.lines(rt.alloc()) {
+        let Ok(line) = line else {
+            return Ok(());
+        };
+        service.catch_up(rt, reports)?;
+        service.answer(line.as_str().trim())?;
+        service.end_answer()?;
+    }
+    Ok(())
+}
+
+/// Watches the folder, indexes what stands there, and answers the query of the words, or else those of
+/// the standard input.
+fn run<
+    T: Watcher<Feed<RecommendedCache, R, Global>, R, Global>,
+    R: DebouncerRuntime + AllocGlobal + Input,
+    O: Write + Drop,
+>(rt: R, matches: &ArgMatches<'_>, out: O) -> Result<(), Fault>
+    requires takes { (feed : _) → T.takes feed }
+{
+    let Ok(folder) = PathBuf::parse(rt.alloc(), place_of(matches)) else {
+        return Err(Fault::Memory);
+    };
+    // The folder is watched first, so that no change after the first look is missed.
+    let reports: FolderReports<T, R> = FolderReports::start(
+        rt,
+        &folder,
+        RecursiveMode::Recursive,
+        pace_of(matches),
+    )?;
+    let mut service = Service::new(rt.alloc(), Documents::new(rt, folder), out);
+    service.read_all()?;
+    match matches.get_str("query") {
+        Some(word) => service.answer(word)?,
+        None => answer_lines(rt, &mut service, &reports)?,
+    }
+    reports.finish()?;
+    Ok(())
+}
+
+fn main(rt: HostRuntime) -> ExitCode {
+    let given = match words_of(&rt) {
+        Ok(given) => given,
+        Err(fault) => return ExitCode::from(end(Err(fault), NAME, "", &mut rt.stderr())),
+    };
+    let matches = match matches_of(&rt, command_line(rt.alloc()), given.as_slice()) {
+        Ok(matches) => matches,
+        Err(status) => return ExitCode::from(status),
+    };
+    let run = run::<RecommendedWatcher<HostRuntime>, _, _>(rt, &matches, rt.stdout());
+    ExitCode::from(end(run, NAME, place_of(&matches), &mut rt.stderr()))
+}

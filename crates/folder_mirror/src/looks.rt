@@ -1,0 +1,90 @@
+//! Looks at folders.
+use batch_plan::action::Standing;
+use batch_plan::naming::{name_listed, name_path};
+use batch_plan::target::target_of;
+use notify_debouncer_full::{
+    DebouncedEvent, DebouncerRuntime, ErrorKind, Folders, Listing, PathBuf, RealFolders,
+    RecursiveMode, list,
+};
+use std::collections::BTreeMap;
+use watch_program::Fault;
+
+/// What stands at the first path of each event.
+pub(crate) fn standing_at<R: DebouncerRuntime + AllocGlobal>(
+    rt: R,
+    batch: &[DebouncedEvent],
+) -> Result<BTreeMap<PathBuf, Standing>, Fault> {
+    let mut standing = BTreeMap::new(rt.alloc());
+    for event in batch {
+        if let Some(path) = event.first_path() {
+            put_standing(rt, path, &mut standing)?;
+        }
+    }
+    Ok(standing)
+}
+
+/// Puts in what stands at the path, if it is copied.
+fn put_standing<R: DebouncerRuntime + AllocGlobal>(
+    rt: R,
+    path: &PathBuf,
+    standing: &mut BTreeMap<PathBuf, Standing>,
+) -> Result<(), Fault> {
+    if let Some(found) = look_at(rt, path)? {
+        standing.insert(path.clone()?, found)?;
+    }
+    Ok(())
+}
+
+/// What stands at the path, if it is copied. Links aren't followed.
+fn look_at<R: DebouncerRuntime + AllocGlobal>(
+    rt: R,
+    path: &PathBuf,
+) -> Result<Option<Standing>, Fault> {
+    match RealFolders::new(rt, rt.alloc()).look(path) {
+        Ok(Some(found)) if found.kind.is_folder() => Ok(Some(Standing::Folder)),
+        Ok(Some(found)) if found.kind.is_file() => Ok(Some(Standing::File)),
+        Ok(_) => Ok(None),
+        Err(error) if error.kind == ErrorKind::Memory => Err(Fault::Memory),
+        // A failed look is no reason to remove a copy: to copy the file fails too, and is tried again.
+        Err(_) => Ok(Some(Standing::File)),
+    }
+}
+
+/// A batch that names all that stands in the folder, and what the copy has beside that.
+pub(crate) fn all_of<R: DebouncerRuntime + AllocGlobal>(
+    rt: R,
+    from: &PathBuf,
+    to: &PathBuf,
+) -> Result<Vec<DebouncedEvent>, Fault> {
+    let mut batch = Vec::new(rt.alloc());
+    let original = listing_of(rt, from)?;
+    name_listed(&mut batch, &original, from)?;
+    for (path, _found) in listing_of(rt, to)?.iter() {
+        name_rest(&mut batch, &original, target_of(to, from, path)?)?;
+    }
+    Ok(batch)
+}
+
+/// Names the path, if it is one and nothing stands there in the original.
+fn name_rest(
+    batch: &mut Vec<DebouncedEvent>,
+    original: &Listing,
+    path: Option<PathBuf>,
+) -> Result<(), Fault> {
+    match path {
+        Some(path) if original.get(&path).is_none() => Ok(name_path(batch, &path)?),
+        _ => Ok(()),
+    }
+}
+
+/// What stands at the folder and below it.
+fn listing_of<R: DebouncerRuntime + AllocGlobal>(
+    rt: R,
+    folder: &PathBuf,
+) -> Result<Listing, Fault> {
+    let root = (folder.clone()?, RecursiveMode::Recursive);
+    match list(rt.alloc(), &mut RealFolders::new(rt, rt.alloc()), &[root]) {
+        Ok(listing) => Ok(listing),
+        Err(error) => Err(Fault::of(&error, Fault::CannotWatch)),
+    }
+}

@@ -1,0 +1,118 @@
+//! The mirror: batches carried out on the copy.
+use crate::copy::FolderCopy;
+use crate::looks::{all_of, standing_at};
+use batch_plan::action::{Action, Standing};
+use batch_plan::naming::name_path;
+use batch_plan::planning::plan;
+use notify_debouncer_full::{DebounceEventResult, DebouncedEvent, DebouncerRuntime, PathBuf};
+use std::io::Write;
+use std::{io, mem};
+use watch_program::{Fault, push_field, write_now};
+
+/// A copy that follows its folder, where what it does is said, and the paths at which something failed.
+#[derive(Drop)]
+pub(crate) struct Mirror<R: Drop, O: Drop, E: Drop> {
+    rt: R,
+    copy: FolderCopy<R>,
+    failed: Vec<PathBuf>,
+    out: O,
+    err: E,
+}
+
+impl<R: DebouncerRuntime + AllocGlobal, O: Write + Drop, E: Write + Drop> Mirror<R, O, E> {
+    /// Returns the mirror of the copy. It says on `out` what it does, and on `err` what failed.
+    pub(crate) fn new(rt: R, copy: FolderCopy<R>, out: O, err: E) -> Mirror<R, O, E> {
+        Mirror {
+            rt,
+            copy,
+            failed: Vec::new(rt.alloc()),
+            out,
+            err,
+        }
+    }
+
+    /// Whether something failed and is to be tried again.
+    pub(crate) fn has_failed(&self) -> bool {
+        !self.failed.is_empty()
+    }
+
+    /// Brings the whole copy up to date.
+    pub(crate) fn take_all(&mut self) -> Result<(), Fault> {
+        let batch = all_of(self.rt, &self.copy.from, &self.copy.to)?;
+        self.take_batch(batch.as_slice())
+    }
+
+    /// Takes a report. After errors, or if events were lost, the whole copy is brought up to date.
+    pub(crate) fn take_report(&mut self, report: &DebounceEventResult) -> Result<(), Fault> {
+        match report {
+            Ok(batch) if !batch.iter().any(|event| event.need_rescan()) => {
+                self.take_batch(batch.as_slice())
+            }
+            _ => self.take_all(),
+        }
+    }
+
+    /// Tries again what failed.
+    pub(crate) fn try_again(&mut self) -> Result<(), Fault> {
+        let failed = mem::replace(&mut self.failed, Vec::new(self.rt.alloc()));
+        let mut batch = Vec::new(self.rt.alloc());
+        for path in &failed {
+            name_path(&mut batch, path)?;
+        }
+        self.take_batch(batch.as_slice())
+    }
+
+    /// Carries out what the batch asks for, one action after the other.
+    fn take_batch(&mut self, batch: &[DebouncedEvent]) -> Result<(), Fault> {
+        let standing = standing_at(self.rt, batch)?;
+        for action in &plan(self.rt.alloc(), &standing, batch)? {
+            self.carry_out(action)?;
+        }
+        Ok(())
+    }
+
+    /// Carries the action out, and says what was done.
+    fn carry_out(&mut self, action: &Action) -> Result<(), Fault> {
+        match self.copy.carry_out(action) {
+            Ok(true) => self.say(done_word(action.wanted), &action.path),
+            Ok(false) => Ok(()),
+            Err(error) => self.say_failed(action, &error),
+        }
+    }
+
+    /// Says what was done at the path.
+    fn say(&mut self, word: &str, path: &PathBuf) -> Result<(), Fault> {
+        let mut line = Vec::new(self.rt.alloc());
+        line.extend_from_slice(word.as_bytes())?;
+        push_field(&mut line, path.as_str().as_bytes())?;
+        line.push(b'\n')?;
+        write_now(line.as_slice(), &mut self.out)
+    }
+
+    /// Says what failed, and keeps the path.
+    fn say_failed(&mut self, action: &Action, error: &io::Error) -> Result<(), Fault> {
+        let word = failed_word(action.wanted);
+        let path = action.path.as_str();
+        let _ = writeln!(self.err, "folder_mirror: cannot {word} {path}: {error}");
+        self.failed.push(action.path.clone()?)?;
+        Ok(())
+    }
+}
+
+/// What was done, in one word.
+fn done_word(wanted: Option<Standing>) -> &'static str {
+    match wanted {
+        None => "removed ",
+        Some(Standing::Folder) => "made ",
+        Some(Standing::File) => "copied ",
+    }
+}
+
+/// What could not be done.
+fn failed_word(wanted: Option<Standing>) -> &'static str {
+    match wanted {
+        None => "remove",
+        Some(Standing::Folder) => "make",
+        Some(Standing::File) => "copy",
+    }
+}
