@@ -55,31 +55,6 @@ impl Journal {
         ensures err { IfErr result (λ e. (e ≡ Fault.Memory) ⊎ (e ≡ Fault.OutputFailed)) }
     {
         let batch = filter.keep(alloc, batch)?;
-<<<<<<< HEAD
-        self.write_batch(alloc, batch.as_slice(), out)
-    }
-
-    /// Writes the events, in order, and flushes the writer. If memory is refused, nothing was written;
-    /// if the output fails, a beginning was.
-    fn write_batch<O: Write>(
-        &mut self,
-        alloc: Global,
-        batch: &[DebouncedEvent],
-        out: &mut O,
-    ) -> Result<(), Fault>
-        ensures written { OnOk result (Appends (O.contents out.old) (O.contents out.new)
-            (entries_of self.old.form self.old.next batch.now)) }
-        ensures begun { OnErr result (WritesFront (O.contents out.old)
-            (entries_of self.old.form self.old.next batch.now) (O.contents out.new)) }
-        ensures next { OnOk result (self.new ≡ record self.old {
-          next = after self.old.next batch.now;
-        }) }
-        ensures again { OnOk result (self.old.form ≡ Form.Json
-            → AreReadBack self.old.next batch.now) }
-        ensures err { IfErr result (λ e. (e ≡ Fault.Memory) ⊎ (e ≡ Fault.OutputFailed)) }
-    {
-=======
->>>>>>> 90f0acf24513f1178403bbc447ec7a391a71f9fe
         let mut text = Vec::new(alloc);
         self.push_batch(&mut text, batch.as_slice())?;
         write_now(text.as_slice(), out)
