@@ -1,0 +1,73 @@
+# shellcheck shell=bash disable=SC2154
+# The build trigger of docs/examples, over a folder in which files come and go in bursts.
+trigger=$top/crates/build_trigger/out/build_trigger
+mkdir build_trigger && cd build_trigger || exit 1
+mkdir src
+
+# written NAME..: each of these paths stands in a line, within a minute.
+written() {
+    for path in "$@"; do
+        for _ in $(seq 600); do
+            cut -f 2- out | tr '\t' '\n' | grep -qxF -- "$path" && continue 2
+            sleep 0.1
+        done
+        return 1
+    done
+}
+
+# The events in the lines are as many as each line says: here each names one path.
+are_counted() {
+    awk -F '\t' '$1 != NF - 1 { exit 1 }' out
+}
+
+# The file begin grows until a line says so: from then on the folder is watched.
+"$trigger" src --ignore '\.o$' --quiet 300 --timeout 50 --interval 10 --ticks 100000 >out 2>err &
+running=$!
+: >src/begin
+for _ in $(seq 60); do
+    echo more >>src/begin
+    sleep 1
+    [ ! -s out ] || break
+done
+well=yes
+: >src/a1 && : >src/a.o && mkdir src/a2 && : >src/a2/a3
+written ./a1 ./a2 ./a2/a3 || well=no
+rm src/a1 && : >$'src/b\t1' && rm src/a.o
+written ./a1 './b\t1' || well=no
+mv src/a2/a3 src/b2
+# Created and removed, each told once.
+printf '%s\n' ./a1 ./a1 ./a2 ./a2/a3 ./a2/a3 './b\t1' ./b2 >wanted
+for _ in $(seq 600); do
+    cut -f 2- out | tr '\t' '\n' | grep -vx ./begin | LC_ALL=C sort >paths
+    ! cmp -s paths wanted || break
+    sleep 0.1
+done
+kill $running
+wait $running 2>/dev/null
+report 'build_trigger: each event is in one line' "$(cmp -s paths wanted && are_counted && [ ! -s err ] && echo $well)"
+# The second burst began when the line of the first was written, so no line has events of both.
+report 'build_trigger: no line is written before its burst' \
+    "$(grep -F './a2/a3' out | head -n 1 | grep -qv './b' && [ "$(grep -cF './b' out)" -ge 1 ] && echo yes)"
+
+# What waits when the ticks are over is written: no event gets as old as this timeout. A slow machine may
+# look too late, so this is tried three times at most.
+well=no
+for turn in 1 2 3; do
+    mkdir "late$turn"
+    "$trigger" "late$turn" --timeout 90000000 --interval 10 --ticks 12 >out 2>err &
+    running=$!
+    for n in $(seq 100 160); do
+        : >"late$turn/$n"
+        sleep 0.05
+    done
+    wait $running && [ ! -s err ] && [ "$(wc -l <out)" = 1 ] && are_counted &&
+        [ "$(cut -f 2- out | tr '\t' '\n' | sort | uniq -d)" = '' ] && well=yes && break
+done
+report 'build_trigger: what waits is not lost' $well
+
+expect 'build_trigger: a quiet folder' 0 /dev/null '' "$trigger" src --ticks 1
+expect 'build_trigger: a missing folder' 5 /dev/null 'build_trigger: cannot watch missing' "$trigger" missing --ticks 1
+expect 'build_trigger: no pattern' 2 /dev/null 'build_trigger: a pattern is not a regular expression' \
+    "$trigger" src --ignore '(' --ticks 1
+"$trigger" >out 2>err
+report 'build_trigger: no word' "$([ $? = 2 ] && [ ! -s out ] && [ -s err ] && echo yes)"

@@ -1,0 +1,77 @@
+# shellcheck shell=bash disable=SC2154
+# The configuration reloader of docs/examples, over a file that is replaced, spoilt and removed.
+reloader=$top/crates/config_reloader/out/config_reloader
+mkdir config_reloader && cd config_reloader || exit 1
+mkdir conf
+
+# answered: what was printed becomes the same as the file `wanted`, within a minute.
+answered() {
+    for _ in $(seq 600); do
+        cmp -s out wanted && return
+        sleep 0.1
+    done
+    false
+}
+
+# replace TEXT: the file has this text, at once.
+replace() {
+    # shellcheck disable=SC2059
+    printf "$1" >next && mv next conf/app.toml
+}
+
+# A reader waits for each answer before the next change.
+replace 'port = 80\nname = "a"\n'
+"$reloader" conf/app.toml --timeout 50 --interval 10 --ticks 100000 >out 2>err &
+running=$!
+well=yes
+printf 'loaded\n  name = "a"\n  port = 80\n' >wanted
+answered || well=no
+replace 'port = \n'
+cat >>wanted <<'END'
+kept
+  TOML parse error at line 1, column 8
+  invalid value, expected a string, number, boolean, date-time, array or inline table
+END
+answered || well=no
+: >conf/other && mkdir conf/app.toml.d
+replace 'port = 8080\n'
+printf 'loaded\n  port = 8080\n' >>wanted
+answered || well=no
+rm conf/app.toml
+printf 'kept\n  No such file or directory (os error 2)\n' >>wanted
+answered || well=no
+replace ''
+printf 'loaded\n' >>wanted
+answered || well=no
+kill $running
+wait $running 2>/dev/null
+report 'config_reloader: each change is answered' "$(cmp -s out wanted && [ ! -s err ] && echo $well)"
+
+# What waits when the ticks are over is handed out: no change gets as old as this timeout. A slow machine
+# may look too late, so this is tried three times at most.
+well=no
+for _ in 1 2 3; do
+    replace 'port = 80\n'
+    printf 'loaded\n  port = 80\n' >wanted
+    "$reloader" conf/app.toml --timeout 90000000 --interval 10 --ticks 12 >out 2>err &
+    running=$!
+    answered
+    replace 'port = 8080\n'
+    printf 'loaded\n  port = 8080\n' >>wanted
+    wait $running && cmp -s out wanted && [ ! -s err ] && well=yes && break
+done
+report 'config_reloader: what waits is not lost' $well
+
+cd conf || exit 1
+printf 'port = 80\n' >app.toml
+printf 'loaded\n  port = 80\n' >../wanted
+expect 'config_reloader: a file of the current folder' 0 ../wanted '' "$reloader" app.toml --ticks 1
+printf 'kept\n  No such file or directory (os error 2)\n' >../wanted
+expect 'config_reloader: a missing file' 0 ../wanted '' "$reloader" missing.toml --ticks 1
+expect 'config_reloader: a missing folder' 5 /dev/null 'config_reloader: cannot watch missing/app.toml' \
+    "$reloader" missing/app.toml --ticks 1
+expect 'config_reloader: the current folder' 5 /dev/null 'config_reloader: cannot watch .' "$reloader" . --ticks 1
+"$reloader" app.toml --ticks 1 >/dev/full 2>err
+report 'config_reloader: a full device' "$([ $? = 6 ] && [ ! -s err ] && echo yes)"
+"$reloader" >out 2>err
+report 'config_reloader: no word' "$([ $? = 2 ] && [ ! -s out ] && [ -s err ] && echo yes)"

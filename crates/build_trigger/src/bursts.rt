@@ -1,0 +1,59 @@
+//! What the program does with a report, and with a burst that is over.
+ghost use Rattle.std.specs.Prelude.{◌≡◌, ◌++◌, [], IfErr, IfOk, OnErr, OnOk};
+ghost use Rattle.std.specs.Io.KnownBytes.{Appends};
+ghost use Rattle.journal_lines.specs.Kept.{passing};
+ghost use Rattle.journal_lines.specs.KeptView.{filter_rule};
+ghost use Rattle.trigger_lines.specs.Line.{written_of};
+ghost use Rattle.watch_program.specs.Output.{WritesFront};
+
+use crate::words::NAME;
+use journal_lines::PathFilter;
+use notify_debouncer_full::{DebounceEventResult, PathBuf};
+use std::alloc::Global;
+use std::io::Write;
+use trigger_lines::{Trigger, write_line};
+use watch_program::{Fault, write_errors};
+
+/// The events that wait for a line, which of them count, and where the lines go.
+#[derive(Drop)]
+pub(crate) struct Bursts<'p, O: Drop, E: Drop> {
+    pub(crate) alloc: Global,
+    pub(crate) folder: PathBuf,
+    pub(crate) filter: PathFilter<'p>,
+    pub(crate) trigger: Trigger,
+    pub(crate) out: O,
+    pub(crate) err: E,
+}
+
+impl<O: Write + Drop, E: Write + Drop> Bursts<'_, O, E> {
+    /// Hands in the events that aren't ignored, or prints a line for each error. After an error the
+    /// watcher looks again, so no change is lost by one.
+    pub(crate) fn take(&mut self, report: DebounceEventResult) -> Result<(), Fault>
+        ensures handed { IfOk report (λ batch. OnOk result
+            (self.new.trigger ≡ self.old.trigger
+            ++ passing (filter_rule self.old.filter) batch.items)) }
+        ensures errors { IfErr report (λ _. self.new.trigger ≡ self.old.trigger) }
+    {
+        match report {
+            Ok(batch) => {
+                let passing = self.filter.keep(self.alloc, batch)?;
+                Ok(self.trigger.hand_in(passing)?)
+            }
+            Err(errors) => {
+                write_errors(errors.as_slice(), NAME, &mut self.err);
+                Ok(())
+            }
+        }
+    }
+
+    /// Writes the line of what waits, if anything does.
+    pub(crate) fn write(&mut self) -> Result<(), Fault>
+        ensures written { OnOk result (Appends (O.contents self.old.out) (O.contents self.new.out)
+            (written_of self.old.folder self.old.trigger)) }
+        ensures begun { OnErr result (WritesFront (O.contents self.old.out)
+            (written_of self.old.folder self.old.trigger) (O.contents self.new.out)) }
+        ensures taken { self.new.trigger ≡ [] }
+    {
+        write_line(self.alloc, &mut self.trigger, &self.folder, &mut self.out)
+    }
+}

@@ -1,0 +1,116 @@
+//! The program `build_trigger`: it prints one line for each burst of changes below a folder, as for
+//! `while read`. docs/examples/build_trigger.md is its page.
+#![tactic(auto)]
+
+mod bursts;
+mod words;
+
+use bursts::Bursts;
+use clap::ArgMatches;
+use journal_lines::PathFilter;
+use notify_debouncer_full::{
+    DebouncerRuntime, Feed, RecommendedCache, RecommendedWatcher, RecursiveMode, Watcher,
+};
+use std::alloc::Global;
+use std::io::Write;
+use std::process::ExitCode;
+use std::time::Duration;
+use trigger_lines::Trigger;
+use watch_loop::FolderReports;
+use watch_program::{Fault, end, folder_of, matches_of, pace_of, place_of, words_of, write_missed};
+use words::{NAME, command_line, patterns_of, quiet_of};
+
+/// Takes what is reported until so long nothing is.
+fn take_burst<T: Drop, R: DebouncerRuntime + AllocGlobal, O: Write + Drop, E: Write + Drop>(
+    rt: R,
+    reports: &FolderReports<T, R>,
+    quiet: Duration,
+    bursts: &mut Bursts<'_, O, E>,
+) -> Result<(), Fault> {
+    for _ in rt.forever() {
+        let Some(report) = reports.next_within(quiet) else {
+            break;
+        };
+        bursts.take(report)?;
+    }
+    Ok(())
+}
+
+/// Writes the line of each burst until the life is over.
+fn follow<T: Drop, R: DebouncerRuntime + AllocGlobal, O: Write + Drop, E: Write + Drop>(
+    rt: R,
+    reports: &FolderReports<T, R>,
+    quiet: Duration,
+    bursts: &mut Bursts<'_, O, E>,
+) -> Result<(), Fault> {
+    for _ in rt.forever() {
+        let Some(report) = reports.next() else {
+            break;
+        };
+        bursts.take(report)?;
+        take_burst(rt, reports, quiet, bursts)?;
+        bursts.write()?;
+    }
+    Ok(())
+}
+
+/// Ends the watch, and writes a last line of what still waited.
+fn finish<T: Drop, R: DebouncerRuntime + AllocGlobal, O: Write + Drop, E: Write + Drop>(
+    reports: FolderReports<T, R>,
+    bursts: &mut Bursts<'_, O, E>,
+) -> Result<(), Fault> {
+    let rest = reports.finish()?;
+    write_missed(rest.missed, NAME, &mut bursts.err);
+    for report in rest.reports {
+        bursts.take(report)?;
+    }
+    bursts.write()
+}
+
+/// Watches the folder, and prints a line for each burst.
+fn run<
+    T: Watcher<Feed<RecommendedCache, R, Global>, R, Global>,
+    R: DebouncerRuntime + AllocGlobal,
+    O: Write + Drop,
+    E: Write + Drop,
+>(rt: R, matches: &ArgMatches<'_>, out: O, err: E) -> Result<(), Fault>
+    requires takes { (feed : _) → T.takes feed }
+{
+    let patterns = patterns_of(rt.alloc(), matches)?;
+    let filter: PathFilter<'_> = patterns.filter(rt.alloc())?;
+    let folder = folder_of(rt.alloc(), matches)?;
+    let reports: FolderReports<T, R> = FolderReports::start(
+        rt,
+        &folder,
+        RecursiveMode::Recursive,
+        pace_of(matches),
+    )?;
+    let mut bursts = Bursts {
+        alloc: rt.alloc(),
+        folder,
+        filter,
+        trigger: Trigger::new(rt.alloc()),
+        out,
+        err,
+    };
+    follow(rt, &reports, quiet_of(matches), &mut bursts)?;
+    finish(reports, &mut bursts)
+}
+
+fn main(rt: HostRuntime) -> ExitCode {
+    let given = match words_of(&rt) {
+        Ok(given) => given,
+        Err(fault) => return ExitCode::from(end(Err(fault), NAME, "", &mut rt.stderr())),
+    };
+    let matches = match matches_of(&rt, command_line(rt.alloc()), given.as_slice()) {
+        Ok(matches) => matches,
+        Err(status) => return ExitCode::from(status),
+    };
+    let run = run::<RecommendedWatcher<HostRuntime>, _, _, _>(
+        rt,
+        &matches,
+        rt.stdout(),
+        rt.stderr(),
+    );
+    ExitCode::from(end(run, NAME, place_of(&matches), &mut rt.stderr()))
+}
