@@ -87,7 +87,8 @@ fn push_removal<A: Allocator + Copy>(
     event: &DebouncedEvent<A>,
 ) -> Result<(), AllocError>
     ensures { OnOk result (actions.new.items ≡ actions.old.items
-        ++ removals_first (look_at standing.now.entries) event.now.event.kind event.now.event.paths) }
+        ++ removals_first (look_at standing.now.entries) event.now.event.kind
+        event.now.event.paths) }
 {
     if let Some(path) = gone_at(standing, event) {
         actions.push(Action {
