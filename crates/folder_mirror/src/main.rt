@@ -16,9 +16,9 @@ use std::alloc::{AllocError, Global};
 use std::fs;
 use std::io::Write;
 use std::process::ExitCode;
-use std::time::{Duration, Instant};
-use watch_loop::FolderReports;
-use watch_program::{Fault, command, end, matches_of, pace_of, place_of, words_of};
+use std::time::{Clock, Duration, Instant};
+use watch_loop::{FolderReports, Rest};
+use watch_program::{Fault, command, end, folder_of, matches_of, pace_of, place_of, words_of};
 
 /// The program's name.
 const NAME: &str = "folder_mirror";
@@ -49,11 +49,98 @@ fn copy_of<R: DebouncerRuntime + AllocGlobal>(
     if from_end.starts_with(&to_end) || to_end.starts_with(&from_end) {
         return Err(Fault::CannotWatch);
     }
-    let (Ok(from), Ok(to)) = (
-        PathBuf::parse(rt.alloc(), place_of(matches)),
-        PathBuf::parse(rt.alloc(), to),
-    ) else {
+    let Ok(to) = PathBuf::parse(rt.alloc(), to) else {
         return Err(Fault::Memory);
     };
-    FolderCopy::new(rt, from, to)
+    FolderCopy::new(rt, folder_of(rt.alloc(), matches)?, to)
+}
+
+/// Whether the moment is over.
+fn is_past<R: Clock>(rt: &R, moment: Option<Instant>) -> bool {
+    match (moment, Instant::now(rt)) {
+        (Some(moment), Ok(now)) => now >= moment,
+        _ => false,
+    }
+}
+
+/// Carries out what is reported until the life is over. What failed is tried again after a pause.
+fn follow<T: Drop, R: DebouncerRuntime + AllocGlobal, O: Write + Drop, E: Write + Drop>(
+    rt: R,
+    reports: &FolderReports<T, R>,
+    mirror: &mut Mirror<R, O, E>,
+    life_end: Option<Instant>,
+) -> Result<(), Fault> {
+    for _ in rt.forever() {
+        let failed = mirror.has_failed();
+        let report = if failed {
+            reports.next_within(Duration::from_millis(PAUSE))
+        } else {
+            reports.next()
+        };
+        match report {
+            Some(report) => mirror.take_report(&report)?,
+            None if failed && !is_past(&rt, life_end) => mirror.try_again()?,
+            None => return Ok(()),
+        }
+    }
+    Ok(())
+}
+
+/// Carries out what was reported and not followed yet.
+fn end_with<R: DebouncerRuntime + AllocGlobal, O: Write + Drop, E: Write + Drop>(
+    rest: &Rest,
+    mirror: &mut Mirror<R, O, E>,
+) -> Result<(), Fault> {
+    for report in &rest.reports {
+        mirror.take_report(report)?;
+    }
+    Ok(())
+}
+
+/// Watches FROM, makes TO a copy of it, and keeps it one.
+fn run<
+    T: Watcher<Feed<RecommendedCache, R, Global>, R, Global>,
+    R: DebouncerRuntime + AllocGlobal,
+    O: Write + Drop,
+    E: Write + Drop,
+>(rt: R, matches: &ArgMatches<'_>, out: O, err: E) -> Result<(), Fault>
+    requires takes { (feed : _) → T.takes feed }
+{
+    let pace = pace_of(matches);
+    let life_end = end_of(&rt, pace.life);
+    let copy = copy_of(rt, matches)?;
+    // The folder is watched first, so that no change after the first look is missed.
+    let reports: FolderReports<T, R> = FolderReports::start(
+        rt,
+        copy.from(),
+        RecursiveMode::Recursive,
+        pace,
+    )?;
+    let mut mirror = Mirror::new(rt, copy, out, err);
+    mirror.take_all()?;
+    follow(rt, &reports, &mut mirror, life_end)?;
+    end_with(&reports.finish()?, &mut mirror)
+}
+
+/// The moment that lies so far ahead, if the clock can be read.
+fn end_of<R: Clock>(rt: &R, life: Option<Duration>) -> Option<Instant> {
+    Instant::now(rt).ok()?.checked_add(life?)
+}
+
+fn main(rt: HostRuntime) -> ExitCode {
+    let given = match words_of(&rt) {
+        Ok(given) => given,
+        Err(fault) => return ExitCode::from(end(Err(fault), NAME, "", &mut rt.stderr())),
+    };
+    let matches = match matches_of(&rt, command_line(rt.alloc()), given.as_slice()) {
+        Ok(matches) => matches,
+        Err(status) => return ExitCode::from(status),
+    };
+    let run = run::<RecommendedWatcher<HostRuntime>, _, _, _>(
+        rt,
+        &matches,
+        rt.stdout(),
+        rt.stderr(),
+    );
+    ExitCode::from(end(run, NAME, place_of(&matches), &mut rt.stderr()))
 }

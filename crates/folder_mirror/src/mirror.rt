@@ -38,7 +38,7 @@ impl<R: DebouncerRuntime + AllocGlobal, O: Write + Drop, E: Write + Drop> Mirror
 
     /// Brings the whole copy up to date.
     pub(crate) fn take_all(&mut self) -> Result<(), Fault> {
-        let batch = all_of(self.rt, &self.copy.from, &self.copy.to)?;
+        let batch = all_of(self.rt, self.copy.from(), self.copy.to())?;
         self.take_batch(batch.as_slice())
     }
 

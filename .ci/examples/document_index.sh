@@ -1,0 +1,66 @@
+# shellcheck shell=bash disable=SC2154
+# The document index of docs/examples, over a folder in which documents come, change and go.
+index=$top/crates/document_index/out/document_index
+mkdir document_index && cd document_index || exit 1
+mkdir -p notes/old
+echo 'An event came.' >notes/a.txt
+echo 'Two EVENTS' >notes/old/b.txt
+printf '\xff event' >notes/no_text
+ln -s a.txt notes/link
+
+mkfifo queries answers
+"$index" notes --timeout 50 --interval 10 <queries >answers 2>err &
+running=$!
+exec 3>queries 4<answers
+
+# ask WORD: what the index answers, a path a line.
+ask() {
+    echo "$1" >&3
+    while IFS= read -r -t 60 line <&4 && [ "$line" ]; do
+        echo "$line"
+    done
+}
+
+# answers WORD PATH..: within a minute the word is in these documents and no others.
+answers() {
+    local word=$1
+    shift
+    for _ in $(seq 600); do
+        [ "$(ask "$word")" != "$(printf '%s\n' "$@")" ] || return 0
+        sleep 0.1
+    done
+    false
+}
+
+well=yes
+answers event notes/a.txt || well=no
+answers eVents notes/old/b.txt || well=no
+answers nothing || well=no
+report 'document_index: what stands there at first' $well
+well=yes
+echo 'event after event' >notes/old/b.txt
+answers event notes/a.txt notes/old/b.txt || well=no
+answers events || well=no
+mkdir -p notes/new/deep && echo 'Events!' >notes/new/deep/c.txt
+answers events notes/new/deep/c.txt || well=no
+rm notes/a.txt
+answers event notes/old/b.txt || well=no
+mv notes/new notes/moved
+answers events notes/moved/deep/c.txt || well=no
+rm -rf notes/moved notes/old
+answers events || well=no
+answers event || well=no
+report 'document_index: the documents that remain' $well
+exec 3>&- 4<&-
+wait $running
+report 'document_index: it ends with its input' "$([ $? = 0 ] && [ ! -s err ] && echo yes)"
+
+echo 'Event' >notes/z.txt
+echo notes/z.txt >wanted
+expect 'document_index: one query' 0 wanted '' "$index" notes --query EVENT
+expect 'document_index: a word that no document has' 0 /dev/null '' "$index" notes --query nothing
+expect 'document_index: a missing folder' 5 /dev/null 'document_index: cannot watch missing' "$index" missing --query a
+"$index" notes --query event >/dev/full 2>err
+report 'document_index: a full device' "$([ $? = 6 ] && [ ! -s err ] && echo yes)"
+"$index" >out 2>err
+report 'document_index: no word' "$([ $? = 2 ] && [ ! -s out ] && [ -s err ] && echo yes)"
