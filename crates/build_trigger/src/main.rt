@@ -7,7 +7,7 @@ mod words;
 
 use bursts::Bursts;
 use clap::ArgMatches;
-use journal_lines::PathFilter;
+use journal_lines::{PathFilter, Patterns};
 use notify_debouncer_full::{
     DebouncerRuntime, Feed, RecommendedCache, RecommendedWatcher, RecursiveMode, Watcher,
 };
@@ -18,47 +18,29 @@ use std::time::Duration;
 use trigger_lines::Trigger;
 use watch_loop::FolderReports;
 use watch_program::{Fault, end, folder_of, matches_of, pace_of, place_of, words_of, write_missed};
-use words::{NAME, command_line, patterns_of, quiet_of};
+use words::{NAME, command_line, quiet_of};
 
-/// Takes what is reported until so long nothing is.
-fn take_burst<T: Drop, R: DebouncerRuntime + AllocGlobal, O: Write + Drop, E: Write + Drop>(
-    rt: R,
-    reports: &FolderReports<T, R>,
-    quiet: Duration,
-    bursts: &mut Bursts<'_, O, E>,
-) -> Result<(), Fault> {
-    for _ in rt.forever() {
-        let Some(report) = reports.next_within(quiet) else {
-            break;
-        };
-        bursts.take(report)?;
-    }
-    Ok(())
-}
-
-/// Writes the line of each burst until the life is over.
+/// Takes what is reported until the life is over, and then what still waits. A line is written once
+/// events wait and nothing is reported for so long, and at the end.
 fn follow<T: Drop, R: DebouncerRuntime + AllocGlobal, O: Write + Drop, E: Write + Drop>(
     rt: R,
-    reports: &FolderReports<T, R>,
+    reports: FolderReports<T, R>,
     quiet: Duration,
     bursts: &mut Bursts<'_, O, E>,
 ) -> Result<(), Fault> {
     for _ in rt.forever() {
-        let Some(report) = reports.next() else {
-            break;
+        let waits = !bursts.trigger.is_empty();
+        let report = if waits {
+            reports.next_within(quiet)
+        } else {
+            reports.next()
         };
-        bursts.take(report)?;
-        take_burst(rt, reports, quiet, bursts)?;
-        bursts.write()?;
+        match report {
+            Some(report) => bursts.take(report)?,
+            None if waits => bursts.write()?,
+            None => break,
+        }
     }
-    Ok(())
-}
-
-/// Ends the watch, and writes a last line of what still waited.
-fn finish<T: Drop, R: DebouncerRuntime + AllocGlobal, O: Write + Drop, E: Write + Drop>(
-    reports: FolderReports<T, R>,
-    bursts: &mut Bursts<'_, O, E>,
-) -> Result<(), Fault> {
     let rest = reports.finish()?;
     write_missed(rest.missed, NAME, &mut bursts.err);
     for report in rest.reports {
@@ -76,7 +58,7 @@ fn run<
 >(rt: R, matches: &ArgMatches<'_>, out: O, err: E) -> Result<(), Fault>
     requires takes { (feed : _) → T.takes feed }
 {
-    let patterns = patterns_of(rt.alloc(), matches)?;
+    let patterns = Patterns::parse(rt.alloc(), None, matches.get_str("ignore"))?;
     let filter: PathFilter<'_> = patterns.filter(rt.alloc())?;
     let folder = folder_of(rt.alloc(), matches)?;
     let reports: FolderReports<T, R> = FolderReports::start(
@@ -93,8 +75,7 @@ fn run<
         out,
         err,
     };
-    follow(rt, &reports, quiet_of(matches), &mut bursts)?;
-    finish(reports, &mut bursts)
+    follow(rt, reports, quiet_of(matches), &mut bursts)
 }
 
 fn main(rt: HostRuntime) -> ExitCode {

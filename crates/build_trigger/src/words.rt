@@ -1,13 +1,8 @@
 //! The words of the program.
-ghost use Rattle.std.specs.Prelude.{◌≡◌, ◌⊎◌, None, codes, IfErr};
-ghost use Rattle.clap.specs.Words.{found_of, one_text};
-ghost use Rattle.watch_program.specs.declared.fault.Fault.TheVariants.{NotPattern, Memory};
-
 use clap::{ArgMatches, Command};
-use journal_lines::Patterns;
 use std::alloc::{AllocError, Global};
 use std::time::Duration;
-use watch_program::{Fault, command, number, number_of, option};
+use watch_program::{command, number, number_of, option};
 
 /// The program's name.
 pub(crate) const NAME: &str = "build_trigger";
@@ -23,13 +18,6 @@ pub(crate) fn command_line<'a>(alloc: Global) -> Result<Command<'a>, AllocError>
     let ignore = option(alloc, "ignore", "RE").help("leave out events with such paths alone");
     let quiet = number(alloc, "quiet", "MS").help("a burst ends with such a pause [default: 500]");
     command(alloc, NAME, ABOUT, "DIR")?.arg(ignore)?.arg(quiet)
-}
-
-/// The pattern of the events that are left out.
-pub(crate) fn patterns_of(alloc: Global, matches: &ArgMatches<'_>) -> Result<Patterns, Fault>
-    ensures err { IfErr result (λ e. (e ≡ NotPattern) ⊎ (e ≡ Memory)) }
-{
-    Patterns::parse(alloc, None, matches.get_str("ignore"))
 }
 
 /// How long the pause is with which a burst ends.

@@ -1,7 +1,8 @@
 //! What a reading of the file comes to.
-ghost use Rattle.std.specs.Prelude.{◌≡◌, IfErr, IfOk, OnOk};
+ghost use Rattle.std.specs.Prelude.{◌≡◌, ◌⊎◌, IfErr, IfOk, OnOk};
 ghost use Rattle.std.specs.String.{string_bytes};
 ghost use Rattle.config_state.specs.InForce.{Follows, IsComplaint, Prints};
+ghost use Rattle.watch_program.specs.declared.fault.Fault.TheVariants.{Memory, OutputFailed};
 
 use crate::printed::paragraph;
 use crate::reloader::Reloader;
@@ -24,6 +25,7 @@ pub fn take_reading<O: Write>(
     ensures unread { IfErr reading (λ _. OnOk result
         (Prints (O.contents out.old) (O.contents out.new) IsComplaint)) }
     ensures unchanged { IfErr reading (λ _. reloader.new ≡ reloader.old) }
+    ensures err { IfErr result (λ e. (e ≡ Memory) ⊎ (e ≡ OutputFailed)) }
 {
     let lines = match reading {
         Ok(text) => reloader.reload(alloc, text.as_str())?,

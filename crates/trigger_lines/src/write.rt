@@ -1,8 +1,9 @@
 //! Lines that are written as soon as they are taken.
-ghost use Rattle.std.specs.Prelude.{◌≡◌, [], OnOk, OnErr};
+ghost use Rattle.std.specs.Prelude.{◌≡◌, ◌⊎◌, [], IfErr, OnOk, OnErr};
 ghost use Rattle.std.specs.Io.KnownBytes.{Appends};
 ghost use Rattle.trigger_lines.specs.Line.{written_of};
 ghost use Rattle.watch_program.specs.Output.{WritesFront};
+ghost use Rattle.watch_program.specs.declared.fault.Fault.TheVariants.{Memory, OutputFailed};
 
 use crate::line::push_line;
 use crate::trigger::Trigger;
@@ -25,6 +26,7 @@ pub fn write_line<O: Write>(
     ensures begun { OnErr result (WritesFront (O.contents out.old)
         (written_of folder.now trigger.old) (O.contents out.new)) }
     ensures taken { trigger.new ≡ [] }
+    ensures err { IfErr result (λ e. (e ≡ Memory) ⊎ (e ≡ OutputFailed)) }
 {
     let Some(events) = trigger.take_line(alloc) else {
         return Ok(());
