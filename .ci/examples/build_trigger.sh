@@ -1,7 +1,7 @@
 # shellcheck shell=bash disable=SC2154
 # The build trigger of docs/examples, over a folder in which files come and go in bursts.
 trigger=$top/crates/build_trigger/out/build_trigger
-mkdir build_trigger && cd build_trigger || exit 1
+mkdir build_trigger && cd build_trigger || return
 mkdir src
 
 # written NAME..: each of these paths stands in a line, within a minute.

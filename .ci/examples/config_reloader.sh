@@ -1,7 +1,7 @@
 # shellcheck shell=bash disable=SC2154
 # The configuration reloader of docs/examples, over a file that is replaced, spoilt and removed.
 reloader=$top/crates/config_reloader/out/config_reloader
-mkdir config_reloader && cd config_reloader || exit 1
+mkdir config_reloader && cd config_reloader || return
 mkdir conf
 
 # answered: what was printed becomes the same as the file `wanted`, within a minute.
@@ -62,7 +62,7 @@ for _ in 1 2 3; do
 done
 report 'config_reloader: what waits is not lost' $well
 
-cd conf || exit 1
+cd conf || return
 printf 'port = 80\n' >app.toml
 printf 'loaded\n  port = 80\n' >../wanted
 expect 'config_reloader: a file of the current folder' 0 ../wanted '' "$reloader" app.toml --ticks 1

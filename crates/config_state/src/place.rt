@@ -1,6 +1,6 @@
 //! Where the file lies.
 ghost use Rattle.std.specs.Prelude.{◌≡◌, ◌⊎◌, IfErr, IfOk};
-ghost use Rattle.config_state.specs.Places.{IsPlaceOf};
+ghost use Rattle.config_state.specs.Places.{HasNoPlace, IsPlaceOf};
 ghost use Rattle.notify_paths.specs.PathText.{parts_of};
 ghost use Rattle.watch_program.specs.declared.fault.Fault.TheVariants.{CannotWatch, Memory};
 
@@ -22,7 +22,8 @@ impl Place {
     /// taken as `./a`. The root, `.` and `..` can't be watched so.
     pub fn parse(alloc: Global, text: &str) -> Result<Place, Fault>
         ensures ok { IfOk result (λ place. IsPlaceOf text.now place.folder place.file) }
-        ensures err { IfErr result (λ e. (e ≡ CannotWatch) ⊎ (e ≡ Memory)) }
+        ensures err { IfErr result (λ e.
+            ((e ≡ CannotWatch) × HasNoPlace text.now) ⊎ (e ≡ Memory)) }
     {
         let file = path_of(alloc, text)?;
         if let Some(folder) = file.parent()? {
