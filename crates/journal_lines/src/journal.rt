@@ -40,10 +40,11 @@ impl Journal {
         out: &mut O,
     ) -> Result<(), Fault>
         ensures written { OnOk result (Appends (O.contents out.old) (O.contents out.new)
-            (entries_of self.old.form self.old.next (passing (filter_rule filter.old) batch.items))) }
+            (entries_of self.old.form self.old.next
+            (passing (filter_rule filter.old) batch.items))) }
         ensures begun { OnErr result (WritesFront (O.contents out.old)
-            (entries_of self.old.form self.old.next (passing (filter_rule filter.old) batch.items))
-            (O.contents out.new)) }
+            (entries_of self.old.form self.old.next
+            (passing (filter_rule filter.old) batch.items)) (O.contents out.new)) }
         ensures next { OnOk result (self.new ≡ record self.old {
           next = after self.old.next
               (passing (filter_rule filter.old) batch.items);
@@ -63,8 +64,10 @@ impl Journal {
     fn push_batch(&mut self, text: &mut Vec<u8>, batch: &[DebouncedEvent]) -> Result<(), AllocError>
         ensures text { OnOk result (text.new.items ≡ text.old.items
             ++ entries_of self.old.form self.old.next batch.now) }
-        ensures next { OnOk result (self.new ≡ record self.old { next = after self.old.next batch.now }) }
-        ensures again { OnOk result (self.old.form ≡ Form.Json → AreReadBack self.old.next batch.now) }
+        ensures next { OnOk result (self.new
+            ≡ record self.old { next = after self.old.next batch.now }) }
+        ensures again { OnOk result (self.old.form ≡ Form.Json
+            → AreReadBack self.old.next batch.now) }
     {
         let form = self.form;
         let mut next = self.next;

@@ -62,7 +62,8 @@ fn pattern_of(alloc: Global, text: Option<&str>) -> Result<Option<Regex>, Fault>
 }
 
 fn matcher_of(alloc: Global, pattern: &Option<Regex>) -> Result<Option<Matcher<'_>>, AllocError>
-    ensures { IfOk result (λ m. option_map matcher_pattern m ≡ option_map regex_pattern pattern.now) }
+    ensures { IfOk result (λ m.
+        option_map matcher_pattern m ≡ option_map regex_pattern pattern.now) }
 {
     match pattern {
         None => Ok(None),

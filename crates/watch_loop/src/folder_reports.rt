@@ -1,10 +1,11 @@
 //! What is reported of a folder.
-ghost use Rattle.std.specs.Prelude.{◌≡◌, ◌⊎◌, IfErr};
+ghost use Rattle.std.specs.Prelude.{◌≡◌, ◌≢◌, ◌⊎◌, None, IfErr, IfSome};
+ghost use Rattle.std.specs.Duration.{as_nanos};
 ghost use Rattle.watch_program.specs.declared.fault.Fault.TheVariants.{CannotWatch, Memory, NoThread};
 
 use notify_debouncer_full::{
-    Config, DebounceEventResult, DebouncerRuntime, Error, Feed, LastReports, ListingWatcher,
-    PathBuf, RecommendedCache, RecursiveMode, Reports, Watcher,
+    Config, DebounceEventResult, DebouncerRuntime, Feed, LastReports, ListingWatcher, PathBuf,
+    RecommendedCache, RecursiveMode, Reports, Watcher,
 };
 use std::alloc::Global;
 use std::sync::Wait;
@@ -97,12 +98,8 @@ impl<T: Drop, R: DebouncerRuntime + AllocGlobal> FolderReports<T, R> {
     pub fn finish(self) -> Result<Rest, Fault>
         ensures err { IfErr result (λ e. e ≡ Memory) }
     {
-        let FolderReports {
-            rt,
-            reports,
-            end: _,
-        } = self;
-        let last = reports.finish();
+        let rt = self.rt;
+        let last = self.reports.finish();
         let mut reports = Vec::new(rt.alloc());
         push_rest(&rt, &mut reports, &last)?;
         Ok(Rest {
@@ -129,12 +126,16 @@ fn begin<
 }
 
 /// The moment that lies so far ahead. If the clock can't be read, there is none.
-fn end_of<R: Clock>(rt: &R, life: Option<Duration>) -> Option<Instant> {
+fn end_of<R: Clock>(rt: &R, life: Option<Duration>) -> Option<Instant>
+    ensures endless { life ≡ None → result ≡ None }
+{
     Instant::now(rt).ok()?.checked_add(life?)
 }
 
 /// How long it is to the end. `None` says that it has come, or that the clock can't be read.
-fn left<R: Clock>(rt: &R, end: Instant) -> Option<Duration> {
+fn left<R: Clock>(rt: &R, end: Instant) -> Option<Duration>
+    ensures { IfSome result (λ left. as_nanos left ≢ 0) }
+{
     let left = end.checked_duration_since(Instant::now(rt).ok()?)?;
     if left.is_zero() { None } else { Some(left) }
 }
@@ -156,19 +157,9 @@ fn push_rest<R: Wait + AllocGlobal>(
     if !batch.is_empty() {
         reports.push(Ok(batch))?;
     }
-    push_errors(rt.alloc(), reports, last.book.core().pending_errors())
-}
-
-/// Appends a list of errors, if it has any.
-fn push_errors(
-    alloc: Global,
-    reports: &mut Vec<DebounceEventResult>,
-    errors: &[Error],
-) -> Result<(), Fault>
-    ensures err { IfErr result (λ e. e ≡ Memory) }
-{
+    let errors = last.book.core().pending_errors();
     if !errors.is_empty() {
-        reports.push(Err(errors.to_vec(alloc)?))?;
+        reports.push(Err(errors.to_vec(rt.alloc())?))?;
     }
     Ok(())
 }

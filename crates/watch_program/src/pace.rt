@@ -1,5 +1,6 @@
 //! How a program watches.
-ghost use Rattle.std.specs.Prelude.{◌≡◌, None, codes};
+ghost use Rattle.std.specs.Prelude.{◌≡◌, ◌*◌, ◌^◌, None, codes};
+ghost use Rattle.std.specs.Duration.{as_nanos};
 ghost use Rattle.clap.specs.Words.{found_of, one_text};
 
 use crate::words::number_of;
@@ -29,6 +30,10 @@ pub struct Pace {
 /// Returns the pace that the words give by `--timeout`, `--interval` and `--ticks`. What no word gives is
 /// half a second, a quarter of a second, and no end.
 pub fn pace_of(matches: &ArgMatches<'_>) -> Pace
+    ensures timeout { one_text (found_of matches.now) (codes "timeout") ≡ None
+        → as_nanos result.timeout ≡ 500 * 10 ^ 6 }
+    ensures interval { one_text (found_of matches.now) (codes "interval") ≡ None
+        → as_nanos result.interval ≡ 250 * 10 ^ 6 }
     ensures endless { one_text (found_of matches.now) (codes "ticks") ≡ None
         → result.life ≡ None }
 {

@@ -1,8 +1,9 @@
 //! The words of a command line.
-ghost use Rattle.std.specs.Prelude.{◌≡◌, ◌⊎◌, [], map, codes, None, Some, unwrap_or, IfOk, IfErr};
+ghost use Rattle.std.specs.Prelude.{◌≡◌, ◌⊎◌, [], ◌∷◌, ◌++◌, false, map, codes, None, Some, unwrap_or, IfOk, IfErr};
 ghost use Rattle.std.specs.String.{string_bytes};
 ghost use Rattle.clap.specs.Words.{HasMatchesOf, app_of, first_value, found_of, one_text};
 ghost use Rattle.notify_paths.specs.PathText.{parts_of};
+ghost use Rattle.watch_program.specs.Words.{ids_of};
 ghost use Rattle.watch_program.specs.declared.fault.Fault.TheVariants.{NotUtf8, Memory};
 
 use crate::fault::Fault;
@@ -20,14 +21,38 @@ pub fn command<'a>(
     name: &'a str,
     about: &'a str,
     place: &'a str,
-) -> Result<Command<'a>, AllocError> {
+) -> Result<Command<'a>, AllocError>
+    ensures words { IfOk result (λ c. ids_of c ≡ codes "place" ∷ codes "timeout"
+        ∷ codes "interval" ∷ codes "ticks" ∷ []) }
+{
     let place = Arg::new(alloc, "place").value_name(place).required(true);
-    Command::new(alloc, name)
-        .about(about)
-        .arg(place)?
-        .arg(number(alloc, "timeout", "MS").help("emit events that are this old [default: 500]"))?
-        .arg(number(alloc, "interval", "MS").help("look at the folder so often [default: 250]"))?
-        .arg(number(alloc, "ticks", "N").help("end after so many quarters of a second"))
+    let timeout = number(alloc, "timeout", "MS").help(
+        "emit events that are this old [default: 500]",
+    );
+    let interval = number(alloc, "interval", "MS").help(
+        "look at the folder so often [default: 250]",
+    );
+    let ticks = number(alloc, "ticks", "N").help("end after so many quarters of a second");
+    let line = with(without_words(alloc, name, about), place)?;
+    let line = with(line, timeout)?;
+    let line = with(line, interval)?;
+    with(line, ticks)
+}
+
+/// A command line without a word.
+fn without_words<'a>(alloc: Global, name: &'a str, about: &'a str) -> Command<'a>
+    ensures { ids_of result ≡ [] }
+{
+    Command::new(alloc, name).about(about)
+}
+
+/// Adds a word.
+#[tactic(auto, using(crate::proofs::Ids::ids_added))]
+fn with<'a>(line: Command<'a>, word: Arg<'a>) -> Result<Command<'a>, AllocError>
+    requires local { word.global ≡ false }
+    ensures { IfOk result (λ c. ids_of c ≡ ids_of line.entry ++ word.entry.id.now ∷ []) }
+{
+    line.arg(word)
 }
 
 /// Returns an option `--NAME VALUE`.
@@ -35,6 +60,7 @@ pub fn option<'a>(alloc: Global, name: &'a str, value: &'a str) -> Arg<'a>
     ensures id { result.id ≡ name.entry }
     ensures long { result.long ≡ Some name.entry }
     ensures sets { result.action ≡ Some ArgAction.Set }
+    ensures local { result.global ≡ false }
 {
     Arg::new(alloc, name)
         .long(name)
@@ -47,6 +73,7 @@ pub fn number<'a>(alloc: Global, name: &'a str, value: &'a str) -> Arg<'a>
     ensures id { result.id ≡ name.entry }
     ensures long { result.long ≡ Some name.entry }
     ensures sets { result.action ≡ Some ArgAction.Set }
+    ensures local { result.global ≡ false }
 {
     option(alloc, name, value).value_parser(value_parser!(u64).range(1..100_000_000))
 }

@@ -1,0 +1,108 @@
+# shellcheck shell=bash disable=SC2154
+# The page docs/examples/change_journal.md: three journals of one folder, of which each change waits until all have told the one before.
+journal=$top/crates/change_journal/out/change_journal
+mkdir -p journal/watched && cd journal || return
+
+# tells FILE PATTERN: the journal tells of it, within a minute.
+tells() {
+    local turn
+    for turn in $(seq 1200); do
+        tr '\0' '\n' <"$1" | grep -qE -- "$2" && return 0
+        sleep 0.05
+    done
+    return 1
+}
+
+# Files are made until each journal tells of one, and then of the last: it has seen all of them.
+begin_journals() {
+    local number=0 file
+    for file in plain json zero; do
+        while [ ! -s $file ] && [ $number -lt 1200 ]; do
+            number=$((number + 1))
+            : >"watched/begin$number" && sleep 0.05
+        done
+    done
+    for file in plain json zero; do
+        tells $file "watched/begin$number(\$|\")" || return 1
+    done
+}
+
+# all_tell PATTERN: each of the three does.
+all_tell() {
+    tells plain "$1" && tells json "$1" && tells zero "$1"
+}
+
+make_changes() {
+    echo one >made && mv made watched/a.txt && all_tell 'watched/a.txt' || return 1
+    mkdir away && echo two >away/b.o && mv away watched/notes && all_tell 'watched/notes$|watched/notes"' || return 1
+    echo tab >made && mv made $'watched/two\tnames' && all_tell $'two(\t|..?t)names' || return 1
+    mv watched/notes away && tells plain '^Remove\(Folder\)' && tells json 'Remove\(Folder\)' || return 1
+    echo end >made && mv made watched/end && all_tell 'watched/end'
+}
+
+# Three journals at once, of one folder. Patterns leave out the file b.o.
+"$journal" --timeout 100 --interval 20 --ticks 2000 --exclude '\.o$' watched >plain 2>complaints &
+first=$!
+"$journal" --timeout 100 --interval 20 --ticks 2000 --exclude '\.o$' --json watched >json 2>>complaints &
+second=$!
+"$journal" --timeout 100 --interval 20 --ticks 2000 --exclude '\.o$' -0 watched >zero 2>>complaints &
+third=$!
+well=no
+begin_journals && make_changes && well=yes
+kill $first $second $third 2>/dev/null
+wait $first $second $third 2>/dev/null
+printf '%s\twatched/%s\n' 'Create(File)' a.txt 'Create(Folder)' notes 'Create(File)' 'two\tnames' \
+    'Remove(Folder)' notes >wanted
+grep -vE 'watched/(begin|end)' plain >got
+[ ! -s complaints ] && cmp -s got wanted || well=no
+report 'a journal in plain lines' $well
+
+# The same events as JSON, numbered from 1 without a gap.
+cat >wanted <<'END'
+{"flag":null,"info":null,"kind":"Create(File)","paths":["watched/a.txt"],"seq":N,"time":T,"tracker":null}
+{"flag":null,"info":null,"kind":"Create(Folder)","paths":["watched/notes"],"seq":N,"time":T,"tracker":null}
+{"flag":null,"info":null,"kind":"Create(File)","paths":["watched/two\tnames"],"seq":N,"time":T,"tracker":null}
+{"flag":null,"info":null,"kind":"Remove(Folder)","paths":["watched/notes"],"seq":N,"time":T,"tracker":null}
+END
+grep -vE 'watched/(begin|end)' json | sed 's/"seq":[0-9]*,"time":[0-9]*/"seq":N,"time":T/' >got
+cmp -s got wanted && cmp -s <(grep -o '"seq":[0-9]*' json) <(seq -f '"seq":%.0f' "$(wc -l <json)") || well=no
+report 'a journal in JSON' $well
+printf 'watched/%s\0' a.txt notes $'two\tnames' notes >wanted
+grep -zvE 'watched/(begin|end)' zero >got
+cmp -s got wanted || well=no
+report 'a journal of paths' $well
+
+# A pattern that is none, a folder that is not there, and a reader that is gone.
+: >nothing
+expect 'a journal by no pattern' 2 nothing 'change_journal: a pattern is not a regular expression' \
+    "$journal" --include '(' watched
+expect 'a journal of a missing folder' 5 nothing 'change_journal: cannot watch missing' "$journal" missing
+"$journal" --json -0 watched >out 2>err
+report 'a journal in two forms' "$([ $? = 2 ] && [ ! -s out ] && grep -q "cannot be used with" err && echo yes)"
+
+# The reader of these lines is gone after the first, while files are made until the journal has ended.
+rm -rf gone status && mkdir gone
+("$journal" --timeout 100 --interval 20 --ticks 2000 gone 2>err; echo $? >status) | head -n 1 >out &
+number=0
+while [ ! -s status ] && [ $number -lt 1200 ]; do
+    number=$((number + 1))
+    : >gone/$number && sleep 0.05
+done
+report 'the reader of a journal is gone' "$([ "$(cat status)" = 6 ] && [ ! -s err ] && [ "$(wc -l <out)" = 1 ] && echo yes)"
+
+# What waits when the life is over is printed: nothing is as old as a minute then. Files are made until the
+# journal has ended, and it has those from the first that it saw on, each once and in order.
+well=no
+for _ in 1 2 3; do
+    rm -rf late && mkdir late && number=1000
+    "$journal" --timeout 60000 --interval 20 --ticks 8 late >out 2>err &
+    while kill -0 $! 2>/dev/null && [ $number -lt 5000 ]; do
+        number=$((number + 1))
+        : >"late/$number" && sleep 0.02
+    done
+    wait $! || break
+    sed 's,^Create(File)\tlate/,,' out >got
+    [ -s got ] && [ ! -s err ] && seq "$(head -n 1 got)" "$(tail -n 1 got)" | cmp -s - got && well=yes && break
+done
+report 'what waits when a journal ends' $well
+cd ..
