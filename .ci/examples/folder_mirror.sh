@@ -36,7 +36,7 @@ says() {
 "$mirror" from to --timeout 50 --interval 10 --ticks 100000 >out 2>err &
 running=$!
 well=no
-is_copy && says out 'removed from/lib/old' 'copied from/a' 'copied from/lib/b' && [ ! -s err ] && well=yes
+is_copy && says out 'remove from/lib/old' 'copy from/a' 'copy from/lib/b' && [ ! -s err ] && well=yes
 report 'folder_mirror: a copy at first' $well
 
 # Whoever starts it waits until it follows: the file begin comes after the folder is watched.

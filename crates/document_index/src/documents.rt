@@ -39,23 +39,23 @@ impl<R: DebouncerRuntime + AllocGlobal> Documents<R> {
     pub(crate) fn read(&self, batch: &[DebouncedEvent]) -> Result<BTreeMap<PathBuf, Words>, Fault> {
         let mut read = BTreeMap::new(self.rt.alloc());
         for event in batch {
-            if let Some(path) = event.first_path() {
-                self.read_at(path, &mut read)?;
+            let Some(path) = event.first_path() else {
+                continue;
+            };
+            if let Some(words) = self.words_at(path)? {
+                read.insert(path.clone()?, words)?;
             }
         }
         Ok(read)
     }
 
-    /// Reads what stands at the path, if something does. Links aren't followed.
-    fn read_at(&self, path: &PathBuf, read: &mut BTreeMap<PathBuf, Words>) -> Result<(), Fault> {
-        let alloc = self.rt.alloc();
-        let words = match RealFolders::new(self.rt, alloc).look(path) {
-            Ok(Some(found)) if found.kind.is_file() => self.words_in(path)?,
-            Ok(Some(found)) if found.kind.is_folder() => Words::new(alloc),
-            Ok(_) | Err(_) => return Ok(()),
-        };
-        read.insert(path.clone()?, words)?;
-        Ok(())
+    /// The words of what stands at the path, if something does. Links aren't followed.
+    fn words_at(&self, path: &PathBuf) -> Result<Option<Words>, Fault> {
+        match RealFolders::new(self.rt, self.rt.alloc()).look(path) {
+            Ok(Some(found)) if found.kind.is_file() => Ok(Some(self.words_in(path)?)),
+            Ok(Some(found)) if found.kind.is_folder() => Ok(Some(Words::new(self.rt.alloc()))),
+            Ok(_) | Err(_) => Ok(None),
+        }
     }
 
     /// The words of the file. One that is no text has none.

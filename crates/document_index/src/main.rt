@@ -8,14 +8,16 @@ mod service;
 use clap::{ArgMatches, Command};
 use documents::Documents;
 use notify_debouncer_full::{
-    DebouncerRuntime, Feed, PathBuf, RecommendedCache, RecommendedWatcher, RecursiveMode, Watcher,
+    DebouncerRuntime, Feed, RecommendedCache, RecommendedWatcher, RecursiveMode, Watcher,
 };
 use service::Service;
 use std::alloc::{AllocError, Global};
 use std::io::Write;
 use std::process::ExitCode;
 use watch_loop::FolderReports;
-use watch_program::{Fault, command, end, matches_of, option, pace_of, place_of, words_of};
+use watch_program::{
+    Fault, command, end, folder_of, matches_of, option, pace_of, place_of, words_of,
+};
 
 /// The program's name.
 const NAME: &str = "document_index";
@@ -58,9 +60,7 @@ fn run<
 >(rt: R, matches: &ArgMatches<'_>, out: O) -> Result<(), Fault>
     requires takes { (feed : _) → T.takes feed }
 {
-    let Ok(folder) = PathBuf::parse(rt.alloc(), place_of(matches)) else {
-        return Err(Fault::Memory);
-    };
+    let folder = folder_of(rt.alloc(), matches)?;
     // The folder is watched first, so that no change after the first look is missed.
     let reports: FolderReports<T, R> = FolderReports::start(
         rt,

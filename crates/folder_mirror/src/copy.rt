@@ -13,8 +13,8 @@ const PARTIAL: &str = ".folder_mirror.partial";
 #[derive(Drop)]
 pub(crate) struct FolderCopy<R: Drop> {
     rt: R,
-    from: PathBuf,
-    to: PathBuf,
+    pub(crate) from: PathBuf,
+    pub(crate) to: PathBuf,
     partial: PathBuf,
 }
 
@@ -30,16 +30,6 @@ impl<R: DebouncerRuntime + AllocGlobal> FolderCopy<R> {
             to,
             partial,
         })
-    }
-
-    /// Returns the folder.
-    pub(crate) fn from(&self) -> &PathBuf {
-        &self.from
-    }
-
-    /// Returns where its copy is.
-    pub(crate) fn to(&self) -> &PathBuf {
-        &self.to
     }
 
     /// Carries the action out. Returns whether there was anything to do.

@@ -16,23 +16,14 @@ pub(crate) fn standing_at<R: DebouncerRuntime + AllocGlobal>(
 ) -> Result<BTreeMap<PathBuf, Standing>, Fault> {
     let mut standing = BTreeMap::new(rt.alloc());
     for event in batch {
-        if let Some(path) = event.first_path() {
-            put_standing(rt, path, &mut standing)?;
+        let Some(path) = event.first_path() else {
+            continue;
+        };
+        if let Some(found) = look_at(rt, path)? {
+            standing.insert(path.clone()?, found)?;
         }
     }
     Ok(standing)
-}
-
-/// Puts in what stands at the path, if it is copied.
-fn put_standing<R: DebouncerRuntime + AllocGlobal>(
-    rt: R,
-    path: &PathBuf,
-    standing: &mut BTreeMap<PathBuf, Standing>,
-) -> Result<(), Fault> {
-    if let Some(found) = look_at(rt, path)? {
-        standing.insert(path.clone()?, found)?;
-    }
-    Ok(())
 }
 
 /// What stands at the path, if it is copied. Links aren't followed.
@@ -60,21 +51,13 @@ pub(crate) fn all_of<R: DebouncerRuntime + AllocGlobal>(
     let original = listing_of(rt, from)?;
     name_listed(&mut batch, &original, from)?;
     for (path, _found) in listing_of(rt, to)?.iter() {
-        name_rest(&mut batch, &original, target_of(to, from, path)?)?;
+        if let Some(path) = target_of(to, from, path)? {
+            if original.get(&path).is_none() {
+                name_path(&mut batch, &path)?;
+            }
+        }
     }
     Ok(batch)
-}
-
-/// Names the path, if it is one and nothing stands there in the original.
-fn name_rest(
-    batch: &mut Vec<DebouncedEvent>,
-    original: &Listing,
-    path: Option<PathBuf>,
-) -> Result<(), Fault> {
-    match path {
-        Some(path) if original.get(&path).is_none() => Ok(name_path(batch, &path)?),
-        _ => Ok(()),
-    }
 }
 
 /// What stands at the folder and below it.

@@ -17,7 +17,7 @@ use std::fs;
 use std::io::Write;
 use std::process::ExitCode;
 use std::time::{Clock, Duration, Instant};
-use watch_loop::{FolderReports, Rest};
+use watch_loop::FolderReports;
 use watch_program::{Fault, command, end, folder_of, matches_of, pace_of, place_of, words_of};
 
 /// The program's name.
@@ -86,17 +86,6 @@ fn follow<T: Drop, R: DebouncerRuntime + AllocGlobal, O: Write + Drop, E: Write 
     Ok(())
 }
 
-/// Carries out what was reported and not followed yet.
-fn end_with<R: DebouncerRuntime + AllocGlobal, O: Write + Drop, E: Write + Drop>(
-    rest: &Rest,
-    mirror: &mut Mirror<R, O, E>,
-) -> Result<(), Fault> {
-    for report in &rest.reports {
-        mirror.take_report(report)?;
-    }
-    Ok(())
-}
-
 /// Watches FROM, makes TO a copy of it, and keeps it one.
 fn run<
     T: Watcher<Feed<RecommendedCache, R, Global>, R, Global>,
@@ -112,14 +101,17 @@ fn run<
     // The folder is watched first, so that no change after the first look is missed.
     let reports: FolderReports<T, R> = FolderReports::start(
         rt,
-        copy.from(),
+        &copy.from,
         RecursiveMode::Recursive,
         pace,
     )?;
     let mut mirror = Mirror::new(rt, copy, out, err);
     mirror.take_all()?;
     follow(rt, &reports, &mut mirror, life_end)?;
-    end_with(&reports.finish()?, &mut mirror)
+    for report in &reports.finish()?.reports {
+        mirror.take_report(report)?;
+    }
+    Ok(())
 }
 
 /// The moment that lies so far ahead, if the clock can be read.

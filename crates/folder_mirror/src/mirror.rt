@@ -4,17 +4,18 @@ use crate::looks::{all_of, standing_at};
 use batch_plan::action::{Action, Standing};
 use batch_plan::naming::name_path;
 use batch_plan::planning::plan;
-use notify_debouncer_full::{DebounceEventResult, DebouncedEvent, DebouncerRuntime, PathBuf};
+use notify_debouncer_full::{DebounceEventResult, DebouncedEvent, DebouncerRuntime};
 use std::io::Write;
 use std::{io, mem};
 use watch_program::{Fault, push_field, write_now};
 
-/// A copy that follows its folder, where what it does is said, and the paths at which something failed.
+/// A copy that follows its folder, where what it does is said, and events of the paths at which something
+/// failed.
 #[derive(Drop)]
 pub(crate) struct Mirror<R: Drop, O: Drop, E: Drop> {
     rt: R,
     copy: FolderCopy<R>,
-    failed: Vec<PathBuf>,
+    failed: Vec<DebouncedEvent>,
     out: O,
     err: E,
 }
@@ -38,7 +39,7 @@ impl<R: DebouncerRuntime + AllocGlobal, O: Write + Drop, E: Write + Drop> Mirror
 
     /// Brings the whole copy up to date.
     pub(crate) fn take_all(&mut self) -> Result<(), Fault> {
-        let batch = all_of(self.rt, self.copy.from(), self.copy.to())?;
+        let batch = all_of(self.rt, &self.copy.from, &self.copy.to)?;
         self.take_batch(batch.as_slice())
     }
 
@@ -55,11 +56,7 @@ impl<R: DebouncerRuntime + AllocGlobal, O: Write + Drop, E: Write + Drop> Mirror
     /// Tries again what failed.
     pub(crate) fn try_again(&mut self) -> Result<(), Fault> {
         let failed = mem::replace(&mut self.failed, Vec::new(self.rt.alloc()));
-        let mut batch = Vec::new(self.rt.alloc());
-        for path in &failed {
-            name_path(&mut batch, path)?;
-        }
-        self.take_batch(batch.as_slice())
+        self.take_batch(failed.as_slice())
     }
 
     /// Carries out what the batch asks for, one action after the other.
@@ -71,45 +68,37 @@ impl<R: DebouncerRuntime + AllocGlobal, O: Write + Drop, E: Write + Drop> Mirror
         Ok(())
     }
 
-    /// Carries the action out, and says what was done.
+    /// Carries the action out, and says what was done, or what failed.
     fn carry_out(&mut self, action: &Action) -> Result<(), Fault> {
         match self.copy.carry_out(action) {
-            Ok(true) => self.say(done_word(action.wanted), &action.path),
+            Ok(true) => self.say(action),
             Ok(false) => Ok(()),
             Err(error) => self.say_failed(action, &error),
         }
     }
 
-    /// Says what was done at the path.
-    fn say(&mut self, word: &str, path: &PathBuf) -> Result<(), Fault> {
+    /// Says what was done.
+    fn say(&mut self, action: &Action) -> Result<(), Fault> {
         let mut line = Vec::new(self.rt.alloc());
-        line.extend_from_slice(word.as_bytes())?;
-        push_field(&mut line, path.as_str().as_bytes())?;
+        line.extend_from_slice(word_of(action.wanted).as_bytes())?;
+        line.push(b' ')?;
+        push_field(&mut line, action.path.as_str().as_bytes())?;
         line.push(b'\n')?;
         write_now(line.as_slice(), &mut self.out)
     }
 
-    /// Says what failed, and keeps the path.
+    /// Says what failed, and keeps its path.
     fn say_failed(&mut self, action: &Action, error: &io::Error) -> Result<(), Fault> {
-        let word = failed_word(action.wanted);
+        let word = word_of(action.wanted);
         let path = action.path.as_str();
         let _ = writeln!(self.err, "folder_mirror: cannot {word} {path}: {error}");
-        self.failed.push(action.path.clone()?)?;
+        name_path(&mut self.failed, &action.path)?;
         Ok(())
     }
 }
 
-/// What was done, in one word.
-fn done_word(wanted: Option<Standing>) -> &'static str {
-    match wanted {
-        None => "removed ",
-        Some(Standing::Folder) => "made ",
-        Some(Standing::File) => "copied ",
-    }
-}
-
-/// What could not be done.
-fn failed_word(wanted: Option<Standing>) -> &'static str {
+/// What is done, in one word.
+fn word_of(wanted: Option<Standing>) -> &'static str {
     match wanted {
         None => "remove",
         Some(Standing::Folder) => "make",
