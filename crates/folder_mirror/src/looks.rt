@@ -51,13 +51,21 @@ pub(crate) fn all_of<R: DebouncerRuntime + AllocGlobal>(
     let original = listing_of(rt, from)?;
     name_listed(&mut batch, &original, from)?;
     for (path, _found) in listing_of(rt, to)?.iter() {
-        if let Some(path) = target_of(to, from, path)? {
-            if original.get(&path).is_none() {
-                name_path(&mut batch, &path)?;
-            }
-        }
+        name_rest(&mut batch, &original, target_of(to, from, path)?)?;
     }
     Ok(batch)
+}
+
+/// Names the path, if it is one and nothing stands there in the original.
+fn name_rest(
+    batch: &mut Vec<DebouncedEvent>,
+    original: &Listing,
+    path: Option<PathBuf>,
+) -> Result<(), Fault> {
+    match path {
+        Some(path) if original.get(&path).is_none() => Ok(name_path(batch, &path)?),
+        _ => Ok(()),
+    }
 }
 
 /// What stands at the folder and below it.
