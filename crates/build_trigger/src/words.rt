@@ -10,7 +10,7 @@ pub(crate) const NAME: &str = "build_trigger";
 /// What the program does, for its help.
 const ABOUT: &str = "Prints a line for each burst of changes below a folder.";
 
-/// How long nothing is reported behind a burst, in milliseconds, if no word says it.
+/// How long nothing is reported after a burst, in milliseconds, if no word says it.
 const QUIET: u64 = 500;
 
 /// The command line.
