@@ -7,7 +7,7 @@ mod words;
 
 use bursts::Bursts;
 use clap::ArgMatches;
-use journal_lines::{PathFilter, Patterns};
+use journal_lines::Patterns;
 use notify_debouncer_full::{
     DebouncerRuntime, Feed, RecommendedCache, RecommendedWatcher, RecursiveMode, Watcher,
 };
@@ -16,15 +16,15 @@ use std::io::Write;
 use std::process::ExitCode;
 use std::time::Duration;
 use trigger_lines::Trigger;
-use watch_loop::FolderReports;
+use watch_loop::{FolderReports, Rest};
 use watch_program::{Fault, end, folder_of, matches_of, pace_of, place_of, words_of, write_missed};
 use words::{NAME, command_line, quiet_of};
 
-/// Takes what is reported until the life is over, and then what still waits. A line is written once
-/// events wait and nothing is reported for so long, and at the end.
+/// Takes what is reported until the life is over. A line is written once events wait and nothing is
+/// reported for so long.
 fn follow<T: Drop, R: DebouncerRuntime + AllocGlobal, O: Write + Drop, E: Write + Drop>(
     rt: R,
-    reports: FolderReports<T, R>,
+    reports: &FolderReports<T, R>,
     quiet: Duration,
     bursts: &mut Bursts<'_, O, E>,
 ) -> Result<(), Fault> {
@@ -41,7 +41,14 @@ fn follow<T: Drop, R: DebouncerRuntime + AllocGlobal, O: Write + Drop, E: Write 
             None => break,
         }
     }
-    let rest = reports.finish()?;
+    Ok(())
+}
+
+/// Takes what was not reported when the life was over, and writes a last line.
+fn finish<O: Write + Drop, E: Write + Drop>(
+    rest: Rest,
+    bursts: &mut Bursts<'_, O, E>,
+) -> Result<(), Fault> {
     write_missed(rest.missed, NAME, &mut bursts.err);
     for report in rest.reports {
         bursts.take(report)?;
@@ -50,6 +57,21 @@ fn follow<T: Drop, R: DebouncerRuntime + AllocGlobal, O: Write + Drop, E: Write 
 }
 
 /// Watches the folder, and prints a line for each burst.
+fn watch<
+    T: Watcher<Feed<RecommendedCache, R, Global>, R, Global>,
+    R: DebouncerRuntime + AllocGlobal,
+    O: Write + Drop,
+    E: Write + Drop,
+>(rt: R, matches: &ArgMatches<'_>, bursts: &mut Bursts<'_, O, E>) -> Result<(), Fault>
+    requires takes { (feed : _) → T.takes feed }
+{
+    let (mode, pace) = (RecursiveMode::Recursive, pace_of(matches));
+    let reports: FolderReports<T, R> = FolderReports::start(rt, &bursts.folder, mode, pace)?;
+    follow(rt, &reports, quiet_of(matches), bursts)?;
+    finish(reports.finish()?, bursts)
+}
+
+/// Reads what the words say, and watches.
 fn run<
     T: Watcher<Feed<RecommendedCache, R, Global>, R, Global>,
     R: DebouncerRuntime + AllocGlobal,
@@ -58,24 +80,17 @@ fn run<
 >(rt: R, matches: &ArgMatches<'_>, out: O, err: E) -> Result<(), Fault>
     requires takes { (feed : _) → T.takes feed }
 {
-    let patterns = Patterns::parse(rt.alloc(), None, matches.get_str("ignore"))?;
-    let filter: PathFilter<'_> = patterns.filter(rt.alloc())?;
-    let folder = folder_of(rt.alloc(), matches)?;
-    let reports: FolderReports<T, R> = FolderReports::start(
-        rt,
-        &folder,
-        RecursiveMode::Recursive,
-        pace_of(matches),
-    )?;
+    let alloc = rt.alloc();
+    let patterns = Patterns::parse(alloc, None, matches.get_str("ignore"))?;
     let mut bursts = Bursts {
-        alloc: rt.alloc(),
-        folder,
-        filter,
-        trigger: Trigger::new(rt.alloc()),
+        alloc,
+        folder: folder_of(alloc, matches)?,
+        filter: patterns.filter(alloc)?,
+        trigger: Trigger::new(alloc),
         out,
         err,
     };
-    follow(rt, reports, quiet_of(matches), &mut bursts)
+    watch::<T, R, O, E>(rt, matches, &mut bursts)
 }
 
 fn main(rt: HostRuntime) -> ExitCode {
