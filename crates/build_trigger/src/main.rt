@@ -3,22 +3,39 @@
 #![tactic(auto)]
 
 mod bursts;
-mod words;
 
 use bursts::Bursts;
-use clap::ArgMatches;
+use clap::{ArgMatches, Command};
 use journal_lines::Patterns;
 use notify_debouncer_full::{
     DebouncerRuntime, Feed, RecommendedCache, RecommendedWatcher, RecursiveMode, Watcher,
 };
-use std::alloc::Global;
+use std::alloc::{AllocError, Global};
 use std::io::Write;
 use std::process::ExitCode;
 use std::time::Duration;
 use trigger_lines::Trigger;
 use watch_loop::{FolderReports, Rest};
-use watch_program::{Fault, end, folder_of, matches_of, pace_of, place_of, words_of, write_missed};
-use words::{NAME, command_line, quiet_of};
+use watch_program::{
+    Fault, command, end, folder_of, matches_of, number, number_of, option, pace_of, place_of,
+    words_of, write_missed,
+};
+
+/// The program's name.
+const NAME: &str = "build_trigger";
+
+/// What the program does, for its help.
+const ABOUT: &str = "Prints a line for each burst of changes below a folder.";
+
+/// How long nothing is reported behind a burst, in milliseconds, if no word says it.
+const QUIET: u64 = 500;
+
+/// The command line.
+fn command_line<'a>(alloc: Global) -> Result<Command<'a>, AllocError> {
+    let ignore = option(alloc, "ignore", "RE").help("leave out events with such paths alone");
+    let quiet = number(alloc, "quiet", "MS").help("a burst ends with such a pause [default: 500]");
+    command(alloc, NAME, ABOUT, "DIR")?.arg(ignore)?.arg(quiet)
+}
 
 /// Takes what is reported until the life is over. A line is written once events wait and nothing is
 /// reported for so long.
@@ -67,7 +84,8 @@ fn watch<
 {
     let (mode, pace) = (RecursiveMode::Recursive, pace_of(matches));
     let reports: FolderReports<T, R> = FolderReports::start(rt, &bursts.folder, mode, pace)?;
-    follow(rt, &reports, quiet_of(matches), bursts)?;
+    let quiet = Duration::from_millis(number_of(matches, "quiet", QUIET));
+    follow(rt, &reports, quiet, bursts)?;
     finish(reports.finish()?, bursts)
 }
 

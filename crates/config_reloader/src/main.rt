@@ -1,5 +1,5 @@
-//! The program `config_reloader`: it reads a TOML file when it starts and whenever it may have changed, and
-//! prints the configuration that is in force. docs/examples/config_reloader.md is its page.
+//! The program `config_reloader`: it reads a TOML file when it starts and whenever it may have
+//! changed, and prints the configuration in force. docs/examples/config_reloader.md is its page.
 #![tactic(auto)]
 
 mod follower;
@@ -11,7 +11,6 @@ use notify_debouncer_full::{
     DebouncerRuntime, Feed, PathBuf, RecommendedCache, RecommendedWatcher, RecursiveMode, Watcher,
 };
 use std::alloc::Global;
-use std::fs::Files;
 use std::io::Write;
 use std::process::ExitCode;
 use watch_loop::{FolderReports, Rest};
@@ -41,7 +40,7 @@ fn follow<T: Drop, R: DebouncerRuntime + AllocGlobal, O: Write + Drop, E: Write 
 }
 
 /// Takes what was not reported when the life was over. If events were missed, the file is read anew.
-fn finish<R: Files + AllocGlobal, O: Write + Drop, E: Write + Drop>(
+fn finish<R: DebouncerRuntime + AllocGlobal, O: Write + Drop, E: Write + Drop>(
     rt: &R,
     rest: &Rest,
     follower: &mut Follower<O, E>,
