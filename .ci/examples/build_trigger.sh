@@ -36,7 +36,7 @@ rm src/a1 && : >$'src/b\t1' && rm src/a.o
 written ./a1 './b\t1' || well=no
 mv src/a2/a3 src/b2
 # Created and removed, each told once.
-printf '%s\n' ./a1 ./a1 ./a2 ./a2/a3 ./a2/a3 './b\t1' ./b2 >wanted
+printf '%s\n' ./a1 ./a1 ./a2 ./a2/a3 ./a2/a3 './b\t1' ./b2 | LC_ALL=C sort >wanted
 for _ in $(seq 600); do
     cut -f 2- out | tr '\t' '\n' | grep -vx ./begin | LC_ALL=C sort >paths
     ! cmp -s paths wanted || break

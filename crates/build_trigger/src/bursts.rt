@@ -6,7 +6,7 @@ ghost use Rattle.journal_lines.specs.KeptView.{filter_rule};
 ghost use Rattle.trigger_lines.specs.Line.{written_of};
 ghost use Rattle.watch_program.specs.Output.{WritesFront};
 
-use crate::words::NAME;
+use crate::NAME;
 use journal_lines::PathFilter;
 use notify_debouncer_full::{DebounceEventResult, PathBuf};
 use std::alloc::Global;

@@ -3,28 +3,45 @@
 #![tactic(auto)]
 
 mod bursts;
-mod words;
 
 use bursts::Bursts;
-use clap::ArgMatches;
-use journal_lines::{PathFilter, Patterns};
+use clap::{ArgMatches, Command};
+use journal_lines::Patterns;
 use notify_debouncer_full::{
     DebouncerRuntime, Feed, RecommendedCache, RecommendedWatcher, RecursiveMode, Watcher,
 };
-use std::alloc::Global;
+use std::alloc::{AllocError, Global};
 use std::io::Write;
 use std::process::ExitCode;
 use std::time::Duration;
 use trigger_lines::Trigger;
-use watch_loop::FolderReports;
-use watch_program::{Fault, end, folder_of, matches_of, pace_of, place_of, words_of, write_missed};
-use words::{NAME, command_line, quiet_of};
+use watch_loop::{FolderReports, Rest};
+use watch_program::{
+    Fault, command, end, folder_of, matches_of, number, number_of, option, pace_of, place_of,
+    words_of, write_missed,
+};
 
-/// Takes what is reported until the life is over, and then what still waits. A line is written once
-/// events wait and nothing is reported for so long, and at the end.
+/// The program's name.
+const NAME: &str = "build_trigger";
+
+/// What the program does, for its help.
+const ABOUT: &str = "Prints a line for each burst of changes below a folder.";
+
+/// How long nothing is reported behind a burst, in milliseconds, if no word says it.
+const QUIET: u64 = 500;
+
+/// The command line.
+fn command_line<'a>(alloc: Global) -> Result<Command<'a>, AllocError> {
+    let ignore = option(alloc, "ignore", "RE").help("leave out events with such paths alone");
+    let quiet = number(alloc, "quiet", "MS").help("a burst ends with such a pause [default: 500]");
+    command(alloc, NAME, ABOUT, "DIR")?.arg(ignore)?.arg(quiet)
+}
+
+/// Takes what is reported until the life is over. A line is written once events wait and nothing is
+/// reported for so long.
 fn follow<T: Drop, R: DebouncerRuntime + AllocGlobal, O: Write + Drop, E: Write + Drop>(
     rt: R,
-    reports: FolderReports<T, R>,
+    reports: &FolderReports<T, R>,
     quiet: Duration,
     bursts: &mut Bursts<'_, O, E>,
 ) -> Result<(), Fault> {
@@ -41,7 +58,14 @@ fn follow<T: Drop, R: DebouncerRuntime + AllocGlobal, O: Write + Drop, E: Write 
             None => break,
         }
     }
-    let rest = reports.finish()?;
+    Ok(())
+}
+
+/// Takes what was not reported when the life was over, and writes a last line.
+fn finish<O: Write + Drop, E: Write + Drop>(
+    rest: Rest,
+    bursts: &mut Bursts<'_, O, E>,
+) -> Result<(), Fault> {
     write_missed(rest.missed, NAME, &mut bursts.err);
     for report in rest.reports {
         bursts.take(report)?;
@@ -50,6 +74,22 @@ fn follow<T: Drop, R: DebouncerRuntime + AllocGlobal, O: Write + Drop, E: Write 
 }
 
 /// Watches the folder, and prints a line for each burst.
+fn watch<
+    T: Watcher<Feed<RecommendedCache, R, Global>, R, Global>,
+    R: DebouncerRuntime + AllocGlobal,
+    O: Write + Drop,
+    E: Write + Drop,
+>(rt: R, matches: &ArgMatches<'_>, bursts: &mut Bursts<'_, O, E>) -> Result<(), Fault>
+    requires takes { (feed : _) → T.takes feed }
+{
+    let (mode, pace) = (RecursiveMode::Recursive, pace_of(matches));
+    let reports: FolderReports<T, R> = FolderReports::start(rt, &bursts.folder, mode, pace)?;
+    let quiet = Duration::from_millis(number_of(matches, "quiet", QUIET));
+    follow(rt, &reports, quiet, bursts)?;
+    finish(reports.finish()?, bursts)
+}
+
+/// Reads what the words say, and watches.
 fn run<
     T: Watcher<Feed<RecommendedCache, R, Global>, R, Global>,
     R: DebouncerRuntime + AllocGlobal,
@@ -58,24 +98,17 @@ fn run<
 >(rt: R, matches: &ArgMatches<'_>, out: O, err: E) -> Result<(), Fault>
     requires takes { (feed : _) → T.takes feed }
 {
-    let patterns = Patterns::parse(rt.alloc(), None, matches.get_str("ignore"))?;
-    let filter: PathFilter<'_> = patterns.filter(rt.alloc())?;
-    let folder = folder_of(rt.alloc(), matches)?;
-    let reports: FolderReports<T, R> = FolderReports::start(
-        rt,
-        &folder,
-        RecursiveMode::Recursive,
-        pace_of(matches),
-    )?;
+    let alloc = rt.alloc();
+    let patterns = Patterns::parse(alloc, None, matches.get_str("ignore"))?;
     let mut bursts = Bursts {
-        alloc: rt.alloc(),
-        folder,
-        filter,
-        trigger: Trigger::new(rt.alloc()),
+        alloc,
+        folder: folder_of(alloc, matches)?,
+        filter: patterns.filter(alloc)?,
+        trigger: Trigger::new(alloc),
         out,
         err,
     };
-    follow(rt, reports, quiet_of(matches), &mut bursts)
+    watch::<T, R, O, E>(rt, matches, &mut bursts)
 }
 
 fn main(rt: HostRuntime) -> ExitCode {

@@ -7,7 +7,6 @@
 #![tactic(auto)]
 
 mod config;
-mod law;
 mod place;
 mod printed;
 mod reading;
@@ -15,9 +14,8 @@ mod reloader;
 mod touched;
 
 pub use config::Config;
-pub use law::law_of_reloads;
 pub use place::Place;
 pub use printed::paragraph;
 pub use reading::take_reading;
 pub use reloader::Reloader;
-pub use touched::is_touched;
+pub use touched::{is_touched, law_of_reloads};

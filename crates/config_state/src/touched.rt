@@ -2,10 +2,13 @@
 ghost use Rattle.std.specs.Prelude.{◌≡◌, ◌↔◌, IsTrue};
 ghost use Rattle.std.specs.List.{list_any};
 ghost use Rattle.notify_paths.specs.Path.{is_prefix};
+ghost use Rattle.config_state.specs.Reloads.{RunsReadEachChange};
 ghost use Rattle.config_state.specs.Touched.{touches, Touches, HasChange};
 
+use file_id_cache::cache::FileIdCache;
 use notify_paths::path::PathBuf;
 use notify_types::event::DebouncedEvent;
+use std::alloc::Allocator;
 
 /// Whether some event of the batch may be about the file: it names the file or a folder above it, as its
 /// one path or as one of the two of a rename, or it asks to read anew.
@@ -39,3 +42,13 @@ fn names(paths: &[PathBuf], file: &PathBuf) -> bool
 {
     paths.iter().any(|path| file.starts_with(path))
 }
+
+/// Does nothing. By its contract each change of a file that a debouncer accepts is followed by a batch
+/// for which [`is_touched`] answers `true`, or its event still waits for its batch,
+/// or a later removal took the file or a folder above it away.
+///
+/// The run begins where nothing waits, and has no accepted rename; a watcher that polls reports none. A
+/// change is a creation of the file or a plain change of it, told by an event whose first path it is.
+pub fn law_of_reloads<C: FileIdCache<A>, A: Allocator>()
+    ensures { RunsReadEachChange C.rules }
+{}
