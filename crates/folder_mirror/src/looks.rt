@@ -50,10 +50,22 @@ pub(crate) fn all_of<R: DebouncerRuntime + AllocGlobal>(
     let mut batch = Vec::new(rt.alloc());
     let original = listing_of(rt, from)?;
     name_listed(&mut batch, &original, from)?;
-    for (path, _found) in listing_of(rt, to)?.iter() {
-        name_rest(&mut batch, &original, target_of(to, from, path)?)?;
-    }
+    name_beside(&mut batch, &original, &listing_of(rt, to)?, from, to)?;
     Ok(batch)
+}
+
+/// Names what the copy has beside the original, at the original's paths.
+fn name_beside(
+    batch: &mut Vec<DebouncedEvent>,
+    original: &Listing,
+    copied: &Listing,
+    from: &PathBuf,
+    to: &PathBuf,
+) -> Result<(), Fault> {
+    for (path, _found) in copied.iter() {
+        name_rest(batch, original, target_of(to, from, path)?)?;
+    }
+    Ok(())
 }
 
 /// Names the path, if it is one and nothing stands there in the original.
