@@ -1,7 +1,6 @@
 //! Looks at folders.
 use batch_plan::action::Standing;
-use batch_plan::naming::{name_listed, name_path};
-use batch_plan::target::target_of;
+use batch_plan::naming::{name_beside, name_listed};
 use notify_debouncer_full::{
     DebouncedEvent, DebouncerRuntime, ErrorKind, Folders, Listing, PathBuf, RealFolders,
     RecursiveMode, list,
@@ -52,32 +51,6 @@ pub(crate) fn all_of<R: DebouncerRuntime + AllocGlobal>(
     name_listed(&mut batch, &original, from)?;
     name_beside(&mut batch, &original, &listing_of(rt, to)?, from, to)?;
     Ok(batch)
-}
-
-/// Names what the copy has beside the original, at the original's paths.
-fn name_beside(
-    batch: &mut Vec<DebouncedEvent>,
-    original: &Listing,
-    copied: &Listing,
-    from: &PathBuf,
-    to: &PathBuf,
-) -> Result<(), Fault> {
-    for (path, _found) in copied.iter() {
-        name_rest(batch, original, target_of(to, from, path)?)?;
-    }
-    Ok(())
-}
-
-/// Names the path, if it is one and nothing stands there in the original.
-fn name_rest(
-    batch: &mut Vec<DebouncedEvent>,
-    original: &Listing,
-    path: Option<PathBuf>,
-) -> Result<(), Fault> {
-    match path {
-        Some(path) if original.get(&path).is_none() => Ok(name_path(batch, &path)?),
-        _ => Ok(()),
-    }
 }
 
 /// What stands at the folder and below it.
