@@ -52,8 +52,9 @@ answers events || well=no
 answers event || well=no
 report 'document_index: the documents that remain' $well
 exec 3>&- 4<&-
-wait $running
-report 'document_index: it ends with its input' "$([ $? = 0 ] && [ ! -s err ] && echo yes)"
+well=no
+wait $running && [ ! -s err ] && well=yes
+report 'document_index: it ends with its input' $well
 
 echo 'Event' >notes/z.txt
 echo notes/z.txt >wanted

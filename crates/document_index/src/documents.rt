@@ -12,7 +12,7 @@ use word_index::words::{Words, words_of};
 #[derive(Drop)]
 pub(crate) struct Documents<R: Drop> {
     rt: R,
-    folder: PathBuf,
+    pub(crate) folder: PathBuf,
 }
 
 impl<R: DebouncerRuntime + AllocGlobal> Documents<R> {

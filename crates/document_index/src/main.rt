@@ -53,6 +53,31 @@ fn answer_lines<T: Drop, R: DebouncerRuntime + AllocGlobal + Input, O: Write + D
 
 /// Watches the folder, indexes what stands there, and answers the query of the words, or else those of
 /// the standard input.
+fn serve<
+    T: Watcher<Feed<RecommendedCache, R, Global>, R, Global>,
+    R: DebouncerRuntime + AllocGlobal + Input,
+    O: Write + Drop,
+>(rt: R, matches: &ArgMatches<'_>, service: &mut Service<R, O>) -> Result<(), Fault>
+    requires takes { (feed : _) → T.takes feed }
+{
+    let folder = &service.documents.folder;
+    // The folder is watched first, so that no change after the first look is missed.
+    let reports: FolderReports<T, R> = FolderReports::start(
+        rt,
+        folder,
+        RecursiveMode::Recursive,
+        pace_of(matches),
+    )?;
+    service.read_all()?;
+    match matches.get_str("query") {
+        Some(word) => service.answer(word)?,
+        None => answer_lines(rt, service, &reports)?,
+    }
+    reports.finish()?;
+    Ok(())
+}
+
+/// Serves the folder that the words name.
 fn run<
     T: Watcher<Feed<RecommendedCache, R, Global>, R, Global>,
     R: DebouncerRuntime + AllocGlobal + Input,
@@ -60,22 +85,9 @@ fn run<
 >(rt: R, matches: &ArgMatches<'_>, out: O) -> Result<(), Fault>
     requires takes { (feed : _) → T.takes feed }
 {
-    let folder = folder_of(rt.alloc(), matches)?;
-    // The folder is watched first, so that no change after the first look is missed.
-    let reports: FolderReports<T, R> = FolderReports::start(
-        rt,
-        &folder,
-        RecursiveMode::Recursive,
-        pace_of(matches),
-    )?;
-    let mut service = Service::new(rt.alloc(), Documents::new(rt, folder), out);
-    service.read_all()?;
-    match matches.get_str("query") {
-        Some(word) => service.answer(word)?,
-        None => answer_lines(rt, &mut service, &reports)?,
-    }
-    reports.finish()?;
-    Ok(())
+    let documents = Documents::new(rt, folder_of(rt.alloc(), matches)?);
+    let mut service = Service::new(rt.alloc(), documents, out);
+    serve::<T, R, O>(rt, matches, &mut service)
 }
 
 fn main(rt: HostRuntime) -> ExitCode {

@@ -13,7 +13,7 @@ use word_index::index::DocumentIndex;
 #[derive(Drop)]
 pub(crate) struct Service<R: Drop, O: Drop> {
     alloc: Global,
-    documents: Documents<R>,
+    pub(crate) documents: Documents<R>,
     index: DocumentIndex,
     out: O,
 }

@@ -1,7 +1,6 @@
 //! Looks at folders.
 use batch_plan::action::Standing;
-use batch_plan::naming::{name_listed, name_path};
-use batch_plan::target::target_of;
+use batch_plan::naming::{name_beside, name_listed};
 use notify_debouncer_full::{
     DebouncedEvent, DebouncerRuntime, ErrorKind, Folders, Listing, PathBuf, RealFolders,
     RecursiveMode, list,
@@ -50,22 +49,8 @@ pub(crate) fn all_of<R: DebouncerRuntime + AllocGlobal>(
     let mut batch = Vec::new(rt.alloc());
     let original = listing_of(rt, from)?;
     name_listed(&mut batch, &original, from)?;
-    for (path, _found) in listing_of(rt, to)?.iter() {
-        name_rest(&mut batch, &original, target_of(to, from, path)?)?;
-    }
+    name_beside(&mut batch, &original, &listing_of(rt, to)?, from, to)?;
     Ok(batch)
-}
-
-/// Names the path, if it is one and nothing stands there in the original.
-fn name_rest(
-    batch: &mut Vec<DebouncedEvent>,
-    original: &Listing,
-    path: Option<PathBuf>,
-) -> Result<(), Fault> {
-    match path {
-        Some(path) if original.get(&path).is_none() => Ok(name_path(batch, &path)?),
-        _ => Ok(()),
-    }
 }
 
 /// What stands at the folder and below it.

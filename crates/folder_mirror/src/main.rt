@@ -10,7 +10,8 @@ use clap::{Arg, ArgMatches, Command};
 use copy::FolderCopy;
 use mirror::Mirror;
 use notify_debouncer_full::{
-    DebouncerRuntime, Feed, PathBuf, RecommendedCache, RecommendedWatcher, RecursiveMode, Watcher,
+    DebounceEventResult, DebouncerRuntime, Feed, PathBuf, RecommendedCache, RecommendedWatcher,
+    RecursiveMode, Watcher,
 };
 use std::alloc::{AllocError, Global};
 use std::fs;
@@ -18,7 +19,9 @@ use std::io::Write;
 use std::process::ExitCode;
 use std::time::{Clock, Duration, Instant};
 use watch_loop::FolderReports;
-use watch_program::{Fault, command, end, folder_of, matches_of, pace_of, place_of, words_of};
+use watch_program::{
+    Fault, Pace, command, end, folder_of, matches_of, pace_of, place_of, words_of,
+};
 
 /// The program's name.
 const NAME: &str = "folder_mirror";
@@ -32,27 +35,28 @@ fn command_line<'a>(alloc: Global) -> Result<Command<'a>, AllocError> {
     command(alloc, NAME, "Keeps the folder TO a copy of FROM.", "FROM")?.arg(to)
 }
 
-/// Makes the folder TO, if it is missing, and returns it as the copy of FROM. It can't be one if one of the
-/// two lies in the other.
+/// Whether both folders are there, and neither lies in the other.
+fn are_apart<R: DebouncerRuntime + AllocGlobal>(rt: &R, from: &str, to: &str) -> bool {
+    match (fs::canonicalize(rt, from), fs::canonicalize(rt, to)) {
+        (Ok(from), Ok(to)) => !from.starts_with(&to) && !to.starts_with(&from),
+        _ => false,
+    }
+}
+
+/// Makes the folder TO, if it is missing, and returns it as the copy of FROM.
 fn copy_of<R: DebouncerRuntime + AllocGlobal>(
     rt: R,
     matches: &ArgMatches<'_>,
 ) -> Result<FolderCopy<R>, Fault> {
     let to = matches.get_str("to").unwrap_or("");
-    let (Ok(_), Ok(from_end), Ok(to_end)) = (
-        fs::create_dir_all(&rt, to),
-        fs::canonicalize(&rt, place_of(matches)),
-        fs::canonicalize(&rt, to),
-    ) else {
-        return Err(Fault::CannotWatch);
-    };
-    if from_end.starts_with(&to_end) || to_end.starts_with(&from_end) {
+    if fs::create_dir_all(&rt, to).is_err() || !are_apart(&rt, place_of(matches), to) {
         return Err(Fault::CannotWatch);
     }
-    let Ok(to) = PathBuf::parse(rt.alloc(), to) else {
-        return Err(Fault::Memory);
-    };
-    FolderCopy::new(rt, folder_of(rt.alloc(), matches)?, to)
+    let from = folder_of(rt.alloc(), matches)?;
+    match PathBuf::parse(rt.alloc(), to) {
+        Ok(to) => FolderCopy::new(rt, from, to),
+        Err(_) => Err(Fault::Memory),
+    }
 }
 
 /// Whether the moment is over.
@@ -60,6 +64,18 @@ fn is_past<R: Clock>(rt: &R, moment: Option<Instant>) -> bool {
     match (moment, Instant::now(rt)) {
         (Some(moment), Ok(now)) => now >= moment,
         _ => false,
+    }
+}
+
+/// Waits for the next report; if something failed, no longer than until it is tried again.
+fn next_report<T: Drop, R: DebouncerRuntime + AllocGlobal>(
+    reports: &FolderReports<T, R>,
+    failed: bool,
+) -> Option<DebounceEventResult> {
+    if failed {
+        reports.next_within(Duration::from_millis(PAUSE))
+    } else {
+        reports.next()
     }
 }
 
@@ -71,15 +87,9 @@ fn follow<T: Drop, R: DebouncerRuntime + AllocGlobal, O: Write + Drop, E: Write 
     life_end: Option<Instant>,
 ) -> Result<(), Fault> {
     for _ in rt.forever() {
-        let failed = mirror.has_failed();
-        let report = if failed {
-            reports.next_within(Duration::from_millis(PAUSE))
-        } else {
-            reports.next()
-        };
-        match report {
+        match next_report(reports, mirror.has_failed()) {
             Some(report) => mirror.take_report(&report)?,
-            None if failed && !is_past(&rt, life_end) => mirror.try_again()?,
+            None if mirror.has_failed() && !is_past(&rt, life_end) => mirror.try_again()?,
             None => return Ok(()),
         }
     }
@@ -87,6 +97,28 @@ fn follow<T: Drop, R: DebouncerRuntime + AllocGlobal, O: Write + Drop, E: Write 
 }
 
 /// Watches FROM, makes TO a copy of it, and keeps it one.
+fn keep<
+    T: Watcher<Feed<RecommendedCache, R, Global>, R, Global>,
+    R: DebouncerRuntime + AllocGlobal,
+    O: Write + Drop,
+    E: Write + Drop,
+>(rt: R, mirror: &mut Mirror<R, O, E>, pace: Pace) -> Result<(), Fault>
+    requires takes { (feed : _) → T.takes feed }
+{
+    let life_end = end_of(&rt, pace.life);
+    // The folder is watched first, so that no change after the first look is missed.
+    let reports: FolderReports<T, R> = FolderReports::start(
+        rt,
+        mirror.from(),
+        RecursiveMode::Recursive,
+        pace,
+    )?;
+    mirror.take_all()?;
+    follow(rt, &reports, mirror, life_end)?;
+    mirror.take_rest(&reports.finish()?)
+}
+
+/// Mirrors the folders that the words name.
 fn run<
     T: Watcher<Feed<RecommendedCache, R, Global>, R, Global>,
     R: DebouncerRuntime + AllocGlobal,
@@ -95,23 +127,8 @@ fn run<
 >(rt: R, matches: &ArgMatches<'_>, out: O, err: E) -> Result<(), Fault>
     requires takes { (feed : _) → T.takes feed }
 {
-    let pace = pace_of(matches);
-    let life_end = end_of(&rt, pace.life);
-    let copy = copy_of(rt, matches)?;
-    // The folder is watched first, so that no change after the first look is missed.
-    let reports: FolderReports<T, R> = FolderReports::start(
-        rt,
-        &copy.from,
-        RecursiveMode::Recursive,
-        pace,
-    )?;
-    let mut mirror = Mirror::new(rt, copy, out, err);
-    mirror.take_all()?;
-    follow(rt, &reports, &mut mirror, life_end)?;
-    for report in &reports.finish()?.reports {
-        mirror.take_report(report)?;
-    }
-    Ok(())
+    let mut mirror = Mirror::new(rt, copy_of(rt, matches)?, out, err);
+    keep::<T, R, O, E>(rt, &mut mirror, pace_of(matches))
 }
 
 /// The moment that lies so far ahead, if the clock can be read.

@@ -4,10 +4,11 @@ use crate::looks::{all_of, standing_at};
 use batch_plan::action::{Action, Standing};
 use batch_plan::naming::name_path;
 use batch_plan::planning::plan;
-use notify_debouncer_full::{DebounceEventResult, DebouncedEvent, DebouncerRuntime};
+use notify_debouncer_full::{DebounceEventResult, DebouncedEvent, DebouncerRuntime, PathBuf};
 use std::io::Write;
 use std::{io, mem};
-use watch_program::{Fault, push_field, write_now};
+use watch_loop::Rest;
+use watch_program::{Fault, push_field, write_missed, write_now};
 
 /// A copy that follows its folder, where what it does is said, and events of the paths at which something
 /// failed.
@@ -32,6 +33,11 @@ impl<R: DebouncerRuntime + AllocGlobal, O: Write + Drop, E: Write + Drop> Mirror
         }
     }
 
+    /// Returns the folder that is mirrored.
+    pub(crate) fn from(&self) -> &PathBuf {
+        &self.copy.from
+    }
+
     /// Whether something failed and is to be tried again.
     pub(crate) fn has_failed(&self) -> bool {
         !self.failed.is_empty()
@@ -51,6 +57,15 @@ impl<R: DebouncerRuntime + AllocGlobal, O: Write + Drop, E: Write + Drop> Mirror
             }
             _ => self.take_all(),
         }
+    }
+
+    /// Takes what was reported and not taken yet.
+    pub(crate) fn take_rest(&mut self, rest: &Rest) -> Result<(), Fault> {
+        for report in &rest.reports {
+            self.take_report(report)?;
+        }
+        write_missed(rest.missed, "folder_mirror", &mut self.err);
+        Ok(())
     }
 
     /// Tries again what failed.
