@@ -9,9 +9,7 @@
 mod line;
 mod step;
 mod trigger;
-mod write;
 
-pub use line::push_line;
+pub use line::{push_line, write_line};
 pub use step::{Step, play};
 pub use trigger::Trigger;
-pub use write::write_line;

@@ -1,13 +1,42 @@
-//! What a line says.
-ghost use Rattle.std.specs.Prelude.{◌≡◌, ◌++◌, OnOk, IfOk};
+//! What a line says, and its writing.
+ghost use Rattle.std.specs.Prelude.{◌≡◌, ◌⊎◌, ◌++◌, [], IfErr, IfOk, OnErr, OnOk};
+ghost use Rattle.std.specs.Io.KnownBytes.{Appends};
 ghost use Rattle.notify_paths.specs.PathText.{text_of};
-ghost use Rattle.trigger_lines.specs.Line.{current_path, as_in, path_fields, event_fields, line_of};
+ghost use Rattle.trigger_lines.specs.Line.{current_path, as_in, path_fields, event_fields, line_of, written_of};
 ghost use Rattle.watch_program.specs.Fields.{field_of};
+ghost use Rattle.watch_program.specs.Output.{WritesFront};
+ghost use Rattle.watch_program.specs.declared.fault.Fault.TheVariants.{Memory, OutputFailed};
 
+use crate::trigger::Trigger;
 use notify_paths::path::PathBuf;
 use notify_types::event::DebouncedEvent;
 use std::alloc::{AllocError, Global};
-use watch_program::push_field;
+use std::io::Write;
+use watch_program::{Fault, push_field, write_now};
+
+/// Writes the line of what waits, if anything does, and flushes the writer. From then on nothing waits,
+/// also after an error: then a beginning of the line was written, perhaps nothing, and no further line
+/// should follow it.
+pub fn write_line<O: Write>(
+    alloc: Global,
+    trigger: &mut Trigger,
+    folder: &PathBuf,
+    out: &mut O,
+) -> Result<(), Fault>
+    ensures written { OnOk result (Appends (O.contents out.old) (O.contents out.new)
+        (written_of folder.now trigger.old)) }
+    ensures begun { OnErr result (WritesFront (O.contents out.old)
+        (written_of folder.now trigger.old) (O.contents out.new)) }
+    ensures taken { trigger.new ≡ [] }
+    ensures err { IfErr result (λ e. (e ≡ Memory) ⊎ (e ≡ OutputFailed)) }
+{
+    let Some(events) = trigger.take_line(alloc) else {
+        return Ok(());
+    };
+    let mut line = Vec::new(alloc);
+    push_line(alloc, &mut line, folder, events.as_slice())?;
+    write_now(line.as_slice(), out)
+}
 
 /// Appends the line of these events: how many there are, and after a tab each their paths. A path at
 /// or below the folder is written as it lies in `.`, as `./src/main.c`.
