@@ -5,8 +5,7 @@ mkdir -p journal/watched && cd journal || return
 
 # tells FILE PATTERN: the journal tells of it, within a minute.
 tells() {
-    local turn
-    for turn in $(seq 1200); do
+    for _ in $(seq 1200); do
         tr '\0' '\n' <"$1" | grep -qE -- "$2" && return 0
         sleep 0.05
     done
