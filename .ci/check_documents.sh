@@ -28,9 +28,9 @@ links() {
     done
 }
 
-# Paths from the top, also with stars; names of files; names in backticks that have an underscore.
+# Paths from the top, also with stars, but of what is built; names of files; names in backticks that have an underscore.
 names() {
-    grep -oE '(crates|docs|scripts|\.ci)/[A-Za-z0-9_.*/-]*[A-Za-z0-9_*]' "$1" | sort -u | while read -r path; do
+    grep -oE '(crates|docs|scripts|\.ci)/[A-Za-z0-9_.*/-]*[A-Za-z0-9_*]' "$1" | grep -v /out/ | sort -u | while read -r path; do
         compgen -G "$path" >/dev/null || echo "no file: $path"
     done
     grep -oE '\b[A-Za-z_]+\.(rt|antt|edit)\b' "$1" | sort -u | comm -23 - "$room/names"
@@ -75,7 +75,7 @@ widths() {
     grep '^crates/.*\.rt$' "$room/files" | xargs grep -nE '^.{101}' | grep -vE ':[0-9]+: *(//|ghost use |use |#\[tactic|")'
 }
 
-for page in README.md docs/*.md; do
+for page in README.md docs/*.md docs/examples/*.md; do
     for kind in links names blocks; do check "$page: $kind" $kind "$page"; done
 done
 check 'what scripts/lemma_map writes' cmp docs/LEMMAS.md <(scripts/lemma_map)
