@@ -4,7 +4,7 @@ ghost use Rattle.std.specs.Io.KnownBytes.{Appends};
 ghost use Rattle.journal_lines.specs.Kept.{passing};
 ghost use Rattle.journal_lines.specs.KeptView.{filter_rule};
 ghost use Rattle.trigger_lines.specs.Line.{written_of};
-ghost use Rattle.watch_program.specs.Output.{WritesFront};
+ghost use Rattle.whole_output.specs.Output.{WritesFront};
 
 use crate::NAME;
 use journal_lines::PathFilter;

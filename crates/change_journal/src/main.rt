@@ -18,26 +18,6 @@ use watch_loop::FolderReports;
 use watch_program::{Fault, end, folder_of, matches_of, pace_of, place_of, words_of, write_missed};
 use words::{NAME, command_line, form_of, patterns_of};
 
-/// Prints what is reported until the life is over, and then what still waits.
-fn follow<T: Drop, R: DebouncerRuntime + AllocGlobal, O: Write + Drop, E: Write + Drop>(
-    rt: R,
-    reports: FolderReports<T, R>,
-    printer: &mut Printer<'_, O, E>,
-) -> Result<(), Fault> {
-    for _ in rt.forever() {
-        let Some(report) = reports.next() else {
-            break;
-        };
-        printer.print(report)?;
-    }
-    let rest = reports.finish()?;
-    write_missed(rest.missed, NAME, &mut printer.err);
-    for report in rest.reports {
-        printer.print(report)?;
-    }
-    Ok(())
-}
-
 /// Watches the folder, and prints of it what passes the patterns.
 fn run<
     T: Watcher<Feed<RecommendedCache, R, Global>, R, Global>,
@@ -57,8 +37,11 @@ fn run<
         err,
     };
     let folder = folder_of(rt.alloc(), matches)?;
-    let reports = FolderReports::start(rt, &folder, RecursiveMode::Recursive, pace_of(matches))?;
-    follow::<T, R, O, E>(rt, reports, &mut printer)
+    let (mode, pace) = (RecursiveMode::Recursive, pace_of(matches));
+    let reports: FolderReports<T, R> = FolderReports::start(rt, &folder, mode, pace)?;
+    let missed = reports.hand_to(&mut printer)?;
+    write_missed(missed, NAME, &mut printer.err);
+    Ok(())
 }
 
 fn main(rt: HostRuntime) -> ExitCode {

@@ -10,6 +10,7 @@ use journal_lines::{Journal, PathFilter};
 use notify_debouncer_full::DebounceEventResult;
 use std::alloc::Global;
 use std::io::Write;
+use watch_loop::TakesReports;
 use watch_program::{Fault, write_errors};
 
 /// A journal, which events it takes, and where it is written to.
@@ -41,5 +42,11 @@ impl<O: Write + Drop, E: Write + Drop> Printer<'_, O, E> {
                 Ok(())
             }
         }
+    }
+}
+
+impl<O: Write + Drop, E: Write + Drop> TakesReports for Printer<'_, O, E> {
+    fn take(&mut self, report: DebounceEventResult) -> Result<(), Fault> {
+        self.print(report)
     }
 }

@@ -12,18 +12,25 @@ pub(crate) const NAME: &str = "change_journal";
 
 /// The command line.
 pub(crate) fn command_line<'a>(alloc: Global) -> Result<Command<'a>, AllocError> {
+    let line = command(alloc, NAME, "Prints the changes below a folder.", "DIR")?;
+    with_patterns(alloc, with_forms(alloc, line)?)
+}
+
+/// The command line, with the words that ask for a form.
+fn with_forms<'a>(alloc: Global, line: Command<'a>) -> Result<Command<'a>, AllocError> {
     let json = flag(alloc, "json").long("json").help("print JSON objects");
     let zero = flag(alloc, "zero")
         .short('0')
         .conflicts_with("json")?
         .help("print paths, each with a zero byte after it");
+    line.arg(json)?.arg(zero)
+}
+
+/// The command line, with the words that choose events.
+fn with_patterns<'a>(alloc: Global, line: Command<'a>) -> Result<Command<'a>, AllocError> {
     let include = option(alloc, "include", "RE").help("print events with such a path");
     let exclude = option(alloc, "exclude", "RE").help("leave out events with such paths alone");
-    command(alloc, NAME, "Prints the changes below a folder.", "DIR")?
-        .arg(json)?
-        .arg(zero)?
-        .arg(include)?
-        .arg(exclude)
+    line.arg(include)?.arg(exclude)
 }
 
 /// The form that the words ask for.

@@ -9,31 +9,29 @@ use notify_debouncer_full::{DebounceEventResult, PathBuf};
 use std::fs;
 use std::fs::Files;
 use std::io::Write;
+use watch_loop::TakesReports;
 use watch_program::{Fault, write_errors};
 
 /// The file, what is in force, and where the program prints.
 #[derive(Drop)]
-pub(crate) struct Follower<O: Drop, E: Drop> {
+pub(crate) struct Follower<R: Drop, O: Drop, E: Drop> {
+    pub(crate) rt: R,
     pub(crate) file: PathBuf,
     pub(crate) reloader: Reloader,
     pub(crate) out: O,
     pub(crate) err: E,
 }
 
-impl<O: Write + Drop, E: Write + Drop> Follower<O, E> {
+impl<R: Files + Drop + AllocGlobal, O: Write + Drop, E: Write + Drop> Follower<R, O, E> {
     /// Reads the file again if the batch may be about it, or prints a line for each error. After an error
     /// the watcher looks again, so no change is lost by one.
-    pub(crate) fn take<R: Files + AllocGlobal>(
-        &mut self,
-        rt: &R,
-        report: &DebounceEventResult,
-    ) -> Result<(), Fault>
+    fn follow(&mut self, report: &DebounceEventResult) -> Result<(), Fault>
         ensures apart { IfOk report.now (λ batch.
             list_any (touches self.old.file) batch.items ≡ false → self.new ≡ self.old) }
         ensures errors { IfErr report.now (λ _. self.new.reloader ≡ self.old.reloader) }
     {
         match report {
-            Ok(batch) if is_touched(batch.as_slice(), &self.file) => self.read(rt),
+            Ok(batch) if is_touched(batch.as_slice(), &self.file) => self.read(),
             Ok(_) => Ok(()),
             Err(errors) => {
                 write_errors(errors.as_slice(), NAME, &mut self.err);
@@ -43,8 +41,15 @@ impl<O: Write + Drop, E: Write + Drop> Follower<O, E> {
     }
 
     /// Reads the file, and prints what became of it.
-    pub(crate) fn read<R: Files + AllocGlobal>(&mut self, rt: &R) -> Result<(), Fault> {
-        let reading = fs::read_to_string(rt, self.file.as_path());
-        take_reading(rt.alloc(), &mut self.reloader, reading, &mut self.out)
+    pub(crate) fn read(&mut self) -> Result<(), Fault> {
+        let reading = fs::read_to_string(&self.rt, self.file.as_path());
+        take_reading(self.rt.alloc(), &mut self.reloader, reading, &mut self.out)
+    }
+}
+
+impl<R: Files + Drop + AllocGlobal, O: Write + Drop, E: Write + Drop> TakesReports
+    for Follower<R, O, E> {
+    fn take(&mut self, report: DebounceEventResult) -> Result<(), Fault> {
+        self.follow(&report)
     }
 }

@@ -13,7 +13,7 @@ use notify_debouncer_full::{
 use std::alloc::Global;
 use std::io::Write;
 use std::process::ExitCode;
-use watch_loop::{FolderReports, Rest};
+use watch_loop::FolderReports;
 use watch_program::{
     Fault, Pace, command, end, matches_of, pace_of, place_of, words_of, write_missed,
 };
@@ -24,52 +24,26 @@ const NAME: &str = "config_reloader";
 /// What the program does, for its help.
 const ABOUT: &str = "Reads a TOML file when it changes.";
 
-/// Takes what is reported until the life is over.
-fn follow<T: Drop, R: DebouncerRuntime + AllocGlobal, O: Write + Drop, E: Write + Drop>(
-    rt: R,
-    reports: &FolderReports<T, R>,
-    follower: &mut Follower<O, E>,
-) -> Result<(), Fault> {
-    for _ in rt.forever() {
-        let Some(report) = reports.next() else {
-            break;
-        };
-        follower.take(&rt, &report)?;
-    }
-    Ok(())
-}
-
-/// Takes what was not reported when the life was over. If events were missed, the file is read anew.
-fn finish<R: DebouncerRuntime + AllocGlobal, O: Write + Drop, E: Write + Drop>(
-    rt: &R,
-    rest: &Rest,
-    follower: &mut Follower<O, E>,
-) -> Result<(), Fault> {
-    for report in &rest.reports {
-        follower.take(rt, report)?;
-    }
-    if rest.missed > 0 {
-        write_missed(rest.missed, NAME, &mut follower.err);
-        return follower.read(rt);
-    }
-    Ok(())
-}
-
-/// Reads the file, and then whenever its folder's reports may be about it.
+/// Reads the file, and then whenever its folder's reports may be about it. If events were missed, it is
+/// read anew at the end.
 fn watch<
     T: Watcher<Feed<RecommendedCache, R, Global>, R, Global>,
     R: DebouncerRuntime + AllocGlobal,
     O: Write + Drop,
     E: Write + Drop,
->(rt: R, folder: &PathBuf, pace: Pace, follower: &mut Follower<O, E>) -> Result<(), Fault>
+>(rt: R, folder: &PathBuf, pace: Pace, follower: &mut Follower<R, O, E>) -> Result<(), Fault>
     requires takes { (feed : _) → T.takes feed }
 {
     // The watch comes first: what changes after the first reading is reported.
     let mode = RecursiveMode::NonRecursive;
     let reports: FolderReports<T, R> = FolderReports::start(rt, folder, mode, pace)?;
-    follower.read(&rt)?;
-    follow(rt, &reports, follower)?;
-    finish(&rt, &reports.finish()?, follower)
+    follower.read()?;
+    let missed = reports.hand_to(follower)?;
+    write_missed(missed, NAME, &mut follower.err);
+    if missed > 0 {
+        follower.read()?;
+    }
+    Ok(())
 }
 
 /// Watches the folder of the file that the words name.
@@ -83,6 +57,7 @@ fn run<
 {
     let Place { folder, file } = Place::parse(rt.alloc(), place_of(matches))?;
     let mut follower = Follower {
+        rt,
         file,
         reloader: Reloader::new(),
         out,

@@ -45,11 +45,17 @@ fn a_tick_moves_what_it_emits(rt: HostRuntime) {
     assert_eq!(rt; [one, one_of_many], [two, two_of_many]);
 }
 
+/// A debouncer that has run the script.
+fn core_after(rt: &impl Abort, heap: Heap, script: &str) -> DebounceDataInner<NoCache, Heap> {
+    let mut core = DebounceDataInner::new(heap, NoCache::new(), 50);
+    core.run(commands(rt, heap, script)).expect(rt, "memory");
+    core
+}
+
 /// How many requests for memory a tick makes after the script: it emits one event.
 fn requests_of_tick(rt: &impl Abort, heap: Heap, script: &str) -> u64 {
     heap.refuse(0);
-    let mut core = DebounceDataInner::new(heap, NoCache::new(), 50);
-    core.run(commands(rt, heap, script)).expect(rt, "memory");
+    let mut core = core_after(rt, heap, script);
     heap.refuse(MANY);
     let emitted = core.debounced_events(100).expect(rt, "memory").len();
     let requests = MANY.saturating_sub(heap.left());

@@ -1,4 +1,6 @@
+mod GiveLemmas
 mod GroupLemmas
+mod LinkLemmas
 mod MergeLemmas
 pub mod PlaceLemmas
 pub mod PutLemmas

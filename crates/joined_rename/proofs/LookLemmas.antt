@@ -12,8 +12,8 @@ use Rattle.std.specs.declared.ops.Bound.TheVariants.{Included, Unbounded}
 use Rattle.std.proofs.lemmas.Map.{lookup-none}
 use Rattle.std.proofs.lemmas.Map.Entries.{none_below_head}
 use Rattle.notify_types.specs.Event.{Timed}
-use Rattle.notify_paths.specs.Path.{PathValue, path_cmp, is_prefix, is_below}
-use Rattle.notify_paths.specs.PathLaws.{path_cmp_total}
+use Rattle.notify_paths.specs.Path.{PathValue, path_cmp, path_eq, is_prefix, is_below}
+use Rattle.notify_paths.specs.PathLaws.{path_cmp_total, path_matches_eq}
 use Rattle.notify_paths.proofs.Prefixes.{front_no_prefix, other_below, run_ends, same_path}
 use Rattle.debounce_model.specs.MapSteps.{stale_in}
 use Rattle.debounce_model.specs.Moved.{are_apart, below_of, moved_entry}
@@ -135,3 +135,25 @@ module _ (p : PathValue) where
       sym (ap queue_first h ∙ rw i refl) ∙ queue_found m s,
       sym (ap below_first h ∙ rw i refl) ∙ below_found m s,
     )
+
+  -- .. as `look_at` finds them: no queue
+  pub none_look : (m : Queues) {it : Queues} → IsStrictlySortedBy path_cmp (keys_of m) → it ≡ from_path m → it ≡ [] →
+      (p ≡ p) × (None ≡ queue_at m p) × (false ≡ waits_below m p)
+  none_look m s whole end = let found = none_from m s (sym whole ∙ end) in (refl, found.0, found.1)
+
+  module _ (m : Queues) {it : Queues} (e : PathValue × List Timed) (rest : Queues) {b below : Bool}
+      (s : IsStrictlySortedBy path_cmp (keys_of m)) (whole : it ≡ from_path m) (first : it ≡ e ∷ rest)
+      (same : b ≡ path_eq p e.0) where
+    -- another path's
+    pub other_look : b ≡ false → below ≡ is_prefix p e.0 →
+        (p ≡ p) × (None ≡ queue_at m p) × (below ≡ waits_below m p)
+    other_look other is =
+        let found = other_from m s e rest (sym whole ∙ first) (sym (path_matches_eq p e.0) ∙ sym same ∙ other) in
+        (refl, found.0, is ∙ found.1)
+
+    -- the path's
+    pub same_look : b ≡ true → below ≡ starts_below rest →
+        (p ≡ p) × (Some e.1 ≡ queue_at m p) × (below ≡ waits_below m p)
+    same_look own is =
+        let found = same_from m s e rest (sym whole ∙ first) (sym (path_matches_eq p e.0) ∙ sym same ∙ own) in
+        (refl, found.0, is ∙ found.1)

@@ -4,7 +4,7 @@ ghost use Rattle.std.specs.Io.KnownBytes.{Appends};
 ghost use Rattle.journal_lines.specs.Kept.{passing};
 ghost use Rattle.journal_lines.specs.KeptView.{filter_rule};
 ghost use Rattle.journal_lines.specs.Lines.{AreReadBack, entries_of, after};
-ghost use Rattle.watch_program.specs.Output.{WritesFront};
+ghost use Rattle.whole_output.specs.Output.{WritesFront};
 
 use crate::filter::PathFilter;
 use crate::form::{Form, push_event};

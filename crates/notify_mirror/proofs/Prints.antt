@@ -4,6 +4,7 @@ use Rattle.std.specs.Io.KnownBytes.{Keeps, Appends}
 use Rattle.std.proofs.KnownBytes.{Appends-nil, Appends-trans, Appends-kept}
 use Rattle.std.proofs.Common.{◌⊎◌, inl, inr}
 use Rattle.debounce_model.specs.Command.{CommandValue, ReplyValue}
+use Rattle.whole_output.specs.Output.{WritesFront}
 use Rattle.notify_mirror.specs.Output.{Prints, Begins}
 use Rattle.notify_mirror.specs.Printed.{replies_lines}
 
@@ -117,27 +118,16 @@ pub on_err : {A E : Type 0} {P Q : Type 0} (r : Result A E) → (P → Q) → On
 on_err (Ok x) f h = h
 on_err (Err e) f h = f h
 
--- a beginning of what is left was written
-pub prints_front : (a b c : Option (List ℕ)) (t u v front : List ℕ) → u ≡ front ++ v → Prints a t b u [] →
-    Appends b c front → Prints a t c v []
-prints_front a b c t u v front e p h = record {
-  written = p.written ++ front;
-  appended =
-      Appends-trans a b c p.written front p.appended h;
-  split = p.split ∙ ap (λ k. p.written ++ k) e
-      ∙ sym (append_assoc p.written front v);
+-- a front of the text was written
+pub begins_front : (a b : Option (List ℕ)) (t : List ℕ) → WritesFront a t b → Begins a t b []
+begins_front a b t p = record {
+  left = p.rest;
+  prints = record {
+    written = p.up_to.front;
+    appended = p.up_to.written;
+    split = append-nil t ∙ p.up_to.split;
+  };
 }
-
--- nothing was written
-pub prints_kept : (a b c : Option (List ℕ)) (t u v : List ℕ) → v ≡ u → Prints a t b u [] → Keeps b c →
-    Prints a t c v []
-prints_kept a b c t u v e p h =
-    record {
-      written = p.written;
-      appended = Appends-kept a b c p.written p.appended h;
-      split = p.split
-          ∙ ap (λ k. p.written ++ k) (sym e);
-    }
 
 -- what holds anyway holds where a call fails
 pub at_err : {A E : Type 0} {P : Type 0} (r : Result A E) → P → OnErr r P

@@ -7,31 +7,11 @@ ghost use Rattle.notify_mirror.specs.Output.{Begins};
 
 use mirror_script::Fault;
 use std::alloc::Allocator;
-use std::io::{ErrorKind, Write};
+use std::io::Write;
+use whole_output::write_bytes;
 
 /// As much text is held before it is written.
 const FULL: usize = 65536;
-
-/// Writes the bytes out. If the output fails, a beginning of them is written.
-fn write_bytes<O: Write>(bytes: &[u8], out: &mut O) -> Result<(), Fault>
-    ensures written { OnOk result (Appends (O.contents out.old) (O.contents out.new) bytes.now) }
-    ensures begun { OnErr result (Begins (O.contents out.old) bytes.now (O.contents out.new) []) }
-    ensures err { IfErr result (λ e. e ≡ Fault.OutputFailed) }
-{
-    let mut rest = bytes;
-    for _ in 0..u64::MAX {
-        if rest.is_empty() {
-            return Ok(());
-        }
-        match out.write(rest) {
-            Ok(0) => return Err(Fault::OutputFailed),
-            Ok(count) => rest = &rest[count..],
-            Err(error) if error.kind() == ErrorKind::Interrupted => {}
-            Err(_) => return Err(Fault::OutputFailed),
-        }
-    }
-    Err(Fault::OutputFailed)
-}
 
 /// Writes the text out, and empties it.
 fn write_out<A: Allocator, O: Write>(text: &mut String<A>, out: &mut O) -> Result<(), Fault>
@@ -42,9 +22,13 @@ fn write_out<A: Allocator, O: Write>(text: &mut String<A>, out: &mut O) -> Resul
         (O.contents out.new) []) }
     ensures err { IfErr result (λ e. e ≡ Fault.OutputFailed) }
 {
-    write_bytes(text.as_bytes(), out)?;
-    text.clear();
-    Ok(())
+    match write_bytes(text.as_bytes(), out) {
+        Ok(()) => {
+            text.clear();
+            Ok(())
+        }
+        Err(_) => Err(Fault::OutputFailed),
+    }
 }
 
 /// Writes the text out, and empties it, if it is long: 64 KiB or more.

@@ -1,4 +1,4 @@
-//! Paths, what lies below one in a map, and the errors that name paths.
+//! Paths, and the errors that name paths.
 //!
 //! A path is a list of parts, as Rust cuts a text into components on Unix, and that list is all that
 //! a contract sees of it. Each type that holds memory is generic in its allocator, and is made with
@@ -11,7 +11,6 @@
 //! ```
 #![tactic(auto)]
 
-pub mod below;
 pub mod error;
 mod order;
 pub mod part;

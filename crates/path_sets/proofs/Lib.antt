@@ -2,3 +2,4 @@ pub mod Keys
 pub mod ReplyLemmas
 pub mod HonestLemmas
 pub mod ClockLemmas
+mod PairLemmas

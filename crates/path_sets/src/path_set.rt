@@ -5,10 +5,10 @@ ghost use Rattle.notify_paths.specs.Errors.{out_of_memory};
 ghost use Rattle.debounce_model.specs.Play.{has_path, with_path, without_at, play_one, play, events_of};
 ghost use Rattle.path_sets.specs.Played.{with_paths};
 
-use notify_paths::below::drop_at_or_below;
 use notify_paths::error::Error;
 use notify_paths::path::PathBuf;
 use notify_types::event::{DebouncedEvent, Event};
+use paths_below::drop_at_or_below;
 use std::alloc::{AllocError, Allocator, Global};
 use std::collections::BTreeMap;
 use std::marker::Model;

@@ -4,7 +4,7 @@ ghost use Rattle.std.specs.Io.KnownBytes.{Appends};
 ghost use Rattle.notify_paths.specs.PathText.{text_of};
 ghost use Rattle.trigger_lines.specs.Line.{current_path, as_in, path_fields, event_fields, line_of, written_of};
 ghost use Rattle.watch_program.specs.Fields.{field_of};
-ghost use Rattle.watch_program.specs.Output.{WritesFront};
+ghost use Rattle.whole_output.specs.Output.{WritesFront};
 ghost use Rattle.watch_program.specs.declared.fault.Fault.TheVariants.{Memory, OutputFailed};
 
 use crate::trigger::Trigger;

@@ -20,6 +20,12 @@ pub struct FolderReports<T: Drop, R: DebouncerRuntime> {
     end: Option<Instant>,
 }
 
+/// What a program does with the reports of a folder.
+pub trait TakesReports: Drop {
+    /// Takes a report: a batch, or errors. An error ends the program.
+    fn take(&mut self, report: DebounceEventResult) -> Result<(), Fault>;
+}
+
 /// What is left when the reports end.
 #[derive(Drop)]
 pub struct Rest {
@@ -91,6 +97,22 @@ impl<T: Drop, R: DebouncerRuntime + AllocGlobal> FolderReports<T, R> {
             Some(end) => pause.min(left(&self.rt, end)?),
         };
         self.reports.next_within(pause)
+    }
+
+    /// Hands on each report until the life is over, and then what was not given yet. Returns how many
+    /// events, errors and batches were lost, since an allocation failed.
+    pub fn hand_to<S: TakesReports>(self, program: &mut S) -> Result<u64, Fault> {
+        for _ in self.rt.forever() {
+            let Some(report) = self.next() else {
+                break;
+            };
+            program.take(report)?;
+        }
+        let rest = self.finish()?;
+        for report in rest.reports {
+            program.take(report)?;
+        }
+        Ok(rest.missed)
     }
 
     /// Stops the watcher and the debouncer, waits until both have ended, and returns what was not given

@@ -3,14 +3,13 @@
 //!
 //! ```text
 //! let reports: FolderReports<T, R> = FolderReports::start(rt, &folder, RecursiveMode::Recursive, pace)?;
-//! for _ in rt.forever() {
-//!     let Some(report) = reports.next() else { break };
-//!     ..
-//! }
-//! for report in reports.finish()?.reports { .. }
+//! let missed = reports.hand_to(&mut program)?;
 //! ```
+//!
+//! A program that does more between two reports asks for each by `next` or `next_within`, and for the
+//! rest by `finish`.
 #![tactic(auto)]
 
 mod folder_reports;
 
-pub use folder_reports::{FolderReports, Rest};
+pub use folder_reports::{FolderReports, Rest, TakesReports};

@@ -2,12 +2,13 @@
 ghost use Rattle.std.specs.Prelude.{◌≡◌, OnOk};
 ghost use Rattle.std.specs.Io.KnownBytes.{Appends};
 ghost use Rattle.watch_program.specs.Faults.{fault_status, fault_line, fault_of};
-ghost use Rattle.watch_program.specs.declared.fault.Fault.TheVariants.{Memory};
+ghost use Rattle.watch_program.specs.declared.fault.Fault.TheVariants.{Memory, OutputFailed};
 
 use notify_paths::error::{Error, ErrorKind};
 use std::alloc::{AllocError, AllocFailed, Allocator};
 use std::io;
 use std::io::Write;
+use whole_output::OutputFailed;
 
 /// Why a program that watches ends. Each fault has one exit status and one line.
 #[derive(Clone, Copy, Debug, PartialEq, Eq)]
@@ -82,5 +83,13 @@ impl<T: Drop> From<AllocFailed<T>> for Fault {
 
     fn from(_error: AllocFailed<T>) -> Fault {
         Fault::Memory
+    }
+}
+
+impl From<OutputFailed> for Fault {
+    ghost from_gives = { λ _ e. e ≡ OutputFailed };
+
+    fn from(_error: OutputFailed) -> Fault {
+        Fault::OutputFailed
     }
 }

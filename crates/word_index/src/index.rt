@@ -9,9 +9,9 @@ ghost use Rattle.word_index.specs.Index.{IsIndexAfter, StaysExact, documents_wit
 
 use crate::words::Words;
 use batch_plan::planning::gone_at;
-use notify_paths::below::drop_at_or_below;
 use notify_paths::path::PathBuf;
 use notify_types::event::DebouncedEvent;
+use paths_below::drop_at_or_below;
 use std::alloc::{AllocError, Allocator, Global};
 use std::collections::BTreeMap;
 use std::marker::Model;

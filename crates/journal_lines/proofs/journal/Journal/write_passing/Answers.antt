@@ -1,5 +1,5 @@
 use Rattle.std.proofs.Common.{rules}
-use Rattle.watch_program.proofs.Fronts.{front_none}
+use Rattle.whole_output.proofs.Fronts.{front_none}
 use Rattle.journal_lines.proofs.journal.Journal.write_passing.Goals as goal
 
 pub returns-in_err-batch-clause-begun : goal.returns-in_err-batch-clause-begun
