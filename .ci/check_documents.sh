@@ -37,10 +37,13 @@ names() {
     grep -oE '`[a-z0-9]+(_[a-z0-9]+)+`' "$1" | tr -d '`' | sort -u | comm -23 - "$room/words"
 }
 
-# Each block of code or of a proof, and each script with its output, stands in a crate.
+# Each block of code or of a proof, and each script with its output, stands in a crate. A whole program of a
+# page is one that .ci/examples/vendor.sh takes from there and runs.
 blocks() {
     for number in $(seq "$(grep -cE '^```(rust|antt|script)' "$1")"); do
         block=$(awk -v wanted="$number" '/^```/ { inside = /^```(rust|antt|script)/ && ++seen == wanted; next } inside' "$1" | squeezed)
+        program=$(sed -n 's,^//! \(The program `[a-z]*`\): .*,\1,p' <<<"$block")
+        [ -z "$program" ] || ! grep -qF -- "$program" .ci/examples/vendor.sh || continue
         [ -n "$block" ] && grep -qF -- "$block" "$room/code" || echo "block $number stands in no crate"
     done
 }

@@ -32,3 +32,17 @@ done
 report 'crates are copied, and once more' $well
 (cd elsewhere/crates/mine && "$toolchain" try) >out 2>err
 report 'a program of another repository' "$([ $? = 0 ] && [ "$(cat out)" = watched ] && echo yes)"
+
+# The tutorial's program over a folder, with the crates that it names.
+mkdir -p programs/crates/batches/src grown
+grep -o 'batches: [a-z_ ]*' "$top/docs/TUTORIAL.md" >programs/crates.txt
+awk '/^```/ { if (block ~ /The program `batches`/) printf "%s", block; block = ""; next } { block = block $0 "\n" }' \
+    "$top/docs/TUTORIAL.md" \
+    >programs/crates/batches/src/main.rt
+"$top/scripts/vendor" programs notify_debouncer_full watch_loop watch_program >out 2>err
+while sleep 1; do : >grown/$RANDOM; done &
+growing=$!
+(cd programs/crates/batches && "$toolchain" try -- "$room/grown" --ticks 8) >out 2>err
+ended=$?
+kill $growing
+report "the tutorial's program over a folder" "$([ $ended = 0 ] && [ -s out ] && ! grep -qvE "^[0-9]+ $room/grown/[0-9]+$" out && echo yes)"

@@ -11,5 +11,7 @@
 #![tactic(auto)]
 
 mod folder_reports;
+mod whole_program;
 
 pub use folder_reports::{FolderReports, Rest, TakesReports};
+pub use whole_program::{TakesBatches, run_program};

@@ -1,0 +1,87 @@
+//! A whole program over a folder, from its words to its exit status.
+ghost use Rattle.std.specs.Prelude.{◌≡◌, ◌⊎◌};
+
+use crate::folder_reports::{FolderReports, TakesReports};
+use clap::ArgMatches;
+use notify_debouncer_full::{
+    DebounceEventResult, DebouncedEvent, DebouncerRuntime, Feed, RecommendedCache, RecursiveMode,
+    Watcher,
+};
+use std::alloc::Global;
+use std::io::Write;
+use std::rt::Env;
+use watch_program::{
+    Fault, command, end, folder_of, matches_of, pace_of, place_of, words_of, write_errors,
+    write_missed,
+};
+
+/// What a program does with the batches of a folder.
+pub trait TakesBatches: Drop {
+    /// Takes a batch. An error ends the program.
+    fn take(&mut self, batch: Vec<DebouncedEvent>) -> Result<(), Fault>;
+}
+
+/// Runs a program whose words are `DIR`, `--timeout`, `--interval`, `--ticks` and `--help`: watches the
+/// folder with all below it, and hands on each batch until the program's life is over, and then, as one
+/// batch, all that waits. Returns the exit status. Faults, errors of the watcher and the number of lost
+/// events are written to `err`; what there is to say of the words is printed.
+pub fn run_program<
+    T: Watcher<Feed<RecommendedCache, R, Global>, R, Global>,
+    R: DebouncerRuntime + AllocGlobal + Env + Print + Eprint,
+    P: TakesBatches,
+    E: Write + Drop,
+>(rt: R, name: &str, about: &str, program: P, err: E) -> u8
+    requires takes { (feed : _) → T.takes feed }
+    ensures status { (result ≡ 0) ⊎ ((result ≡ 2) ⊎ ((result ≡ 4) ⊎ ((result ≡ 5)
+        ⊎ ((result ≡ 6) ⊎ (result ≡ 8))))) }
+{
+    let mut printer = Printer { name, program, err };
+    let words = match words_of(&rt) {
+        Ok(words) => words,
+        Err(fault) => return end(Err(fault), name, "", &mut printer.err),
+    };
+    let line = command(rt.alloc(), name, about, "DIR");
+    let matches = match matches_of(&rt, line, words.as_slice()) {
+        Ok(matches) => matches,
+        Err(status) => return status,
+    };
+    let run = watch::<T, R, P, E>(rt, &matches, &mut printer);
+    end(run, name, place_of(&matches), &mut printer.err)
+}
+
+/// A program, and where its errors are written to.
+#[derive(Drop)]
+struct Printer<'n, P: Drop, E: Drop> {
+    name: &'n str,
+    program: P,
+    err: E,
+}
+
+impl<P: TakesBatches, E: Write + Drop> TakesReports for Printer<'_, P, E> {
+    fn take(&mut self, report: DebounceEventResult) -> Result<(), Fault> {
+        match report {
+            Ok(batch) => self.program.take(batch),
+            Err(errors) => {
+                write_errors(errors.as_slice(), self.name, &mut self.err);
+                Ok(())
+            }
+        }
+    }
+}
+
+/// Watches the folder that the words name.
+fn watch<
+    T: Watcher<Feed<RecommendedCache, R, Global>, R, Global>,
+    R: DebouncerRuntime + AllocGlobal,
+    P: TakesBatches,
+    E: Write + Drop,
+>(rt: R, matches: &ArgMatches<'_>, printer: &mut Printer<'_, P, E>) -> Result<(), Fault>
+    requires takes { (feed : _) → T.takes feed }
+{
+    let folder = folder_of(rt.alloc(), matches)?;
+    let (mode, pace) = (RecursiveMode::Recursive, pace_of(matches));
+    let reports: FolderReports<T, R> = FolderReports::start(rt, &folder, mode, pace)?;
+    let missed = reports.hand_to(printer)?;
+    write_missed(missed, printer.name, &mut printer.err);
+    Ok(())
+}
