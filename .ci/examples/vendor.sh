@@ -34,15 +34,15 @@ report 'crates are copied, and once more' $well
 report 'a program of another repository' "$([ $? = 0 ] && [ "$(cat out)" = watched ] && echo yes)"
 
 # The tutorial's program over a folder, with the crates that it names.
-mkdir -p programs/crates/batches/src grown
-grep -o 'batches: [a-z_ ]*' "$top/docs/TUTORIAL.md" >programs/crates.txt
-awk '/^```/ { if (block ~ /The program `batches`/) printf "%s", block; block = ""; next } { block = block $0 "\n" }' \
+mkdir -p programs/crates/changed/src grown
+grep -o 'changed: [a-z_ ]*' "$top/docs/TUTORIAL.md" >programs/crates.txt
+awk '/^```/ { if (block ~ /The program `changed`/) printf "%s", block; block = ""; next } { block = block $0 "\n" }' \
     "$top/docs/TUTORIAL.md" \
-    >programs/crates/batches/src/main.rt
+    >programs/crates/changed/src/main.rt
 "$top/scripts/vendor" programs notify_debouncer_full watch_loop watch_program >out 2>err
 while sleep 1; do : >grown/$RANDOM; done &
 growing=$!
-(cd programs/crates/batches && "$toolchain" try -- "$room/grown" --ticks 8) >out 2>err
+(cd programs/crates/changed && "$toolchain" try -- "$room/grown" --ticks 8) >out 2>err
 ended=$?
 kill $growing
-report "the tutorial's program over a folder" "$([ $ended = 0 ] && [ -s out ] && ! grep -qvE "^[0-9]+ $room/grown/[0-9]+$" out && echo yes)"
+report "the tutorial's program over a folder" "$([ $ended = 0 ] && [ -s out ] && ! grep -qvE "^$room/grown/[0-9]+$" out && echo yes)"
