@@ -32,9 +32,11 @@ const QUIET: u64 = 500;
 
 /// The command line.
 fn command_line<'a>(alloc: Global) -> Result<Command<'a>, AllocError> {
-    let ignore = option(alloc, "ignore", "RE").help("leave out events with such paths alone");
-    let quiet = number(alloc, "quiet", "MS").help("a burst ends with such a pause [default: 500]");
-    command(alloc, NAME, ABOUT, "DIR")?.arg(ignore)?.arg(quiet)
+    let line = command(alloc, NAME, ABOUT, "DIR")?;
+    let line = line.arg(option(alloc, "ignore", "RE").help(
+        "leave out events with such paths alone",
+    ))?;
+    line.arg(number(alloc, "quiet", "MS").help("a burst ends with such a pause [default: 500]"))
 }
 
 /// Takes what is reported until the life is over. A line is written once events wait and nothing is

@@ -39,14 +39,20 @@ impl<R: DebouncerRuntime + AllocGlobal> Documents<R> {
     pub(crate) fn read(&self, batch: &[DebouncedEvent]) -> Result<BTreeMap<PathBuf, Words>, Fault> {
         let mut read = BTreeMap::new(self.rt.alloc());
         for event in batch {
-            let Some(path) = event.first_path() else {
-                continue;
-            };
-            if let Some(words) = self.words_at(path)? {
-                read.insert(path.clone()?, words)?;
+            if let Some(path) = event.first_path() {
+                self.read_into(&mut read, path)?;
             }
         }
         Ok(read)
+    }
+
+    /// Puts in the words of what stands at the path, if something does.
+    fn read_into(&self, read: &mut BTreeMap<PathBuf, Words>, path: &PathBuf) -> Result<(), Fault> {
+        let key = path.clone()?;
+        if let Some(words) = self.words_at(path)? {
+            read.insert(key, words)?;
+        }
+        Ok(())
     }
 
     /// The words of what stands at the path, if something does. Links aren't followed.

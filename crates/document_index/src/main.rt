@@ -22,16 +22,13 @@ use watch_program::{
 /// The program's name.
 const NAME: &str = "document_index";
 
+/// What the program does, for its help.
+const ABOUT: &str = "Says which files below a folder have a word.";
+
 /// The command line.
 fn command_line<'a>(alloc: Global) -> Result<Command<'a>, AllocError> {
-    let query = option(alloc, "query", "WORD").help("print the files that have the word, and end");
-    command(
-        alloc,
-        NAME,
-        "Says which files below a folder have a word.",
-        "DIR",
-    )?
-    .arg(query)
+    let line = command(alloc, NAME, ABOUT, "DIR")?;
+    line.arg(option(alloc, "query", "WORD").help("print the files that have the word, and end"))
 }
 
 /// Answers each line of the standard input, and ends each answer with an empty line.
@@ -41,18 +38,41 @@ fn answer_lines<T: Drop, R: DebouncerRuntime + AllocGlobal + Input, O: Write + D
     reports: &FolderReports<T, R>,
 ) -> Result<(), Fault> {
     for line in rt.lines(rt.alloc()) {
-        let Ok(line) = line else {
-            return Ok(());
-        };
-        service.catch_up(rt, reports)?;
-        service.answer(line.as_str().trim())?;
-        service.end_answer()?;
+        match line {
+            Ok(line) => answer_line(rt, service, reports, line.as_str().trim())?,
+            Err(_) => break,
+        }
     }
     Ok(())
 }
 
-/// Watches the folder, indexes what stands there, and answers the query of the words, or else those of
-/// the standard input.
+/// Answers the word, of what stands there now, and ends the answer with an empty line.
+fn answer_line<T: Drop, R: DebouncerRuntime + AllocGlobal, O: Write + Drop>(
+    rt: R,
+    service: &mut Service<R, O>,
+    reports: &FolderReports<T, R>,
+    word: &str,
+) -> Result<(), Fault> {
+    service.catch_up(rt, reports)?;
+    service.answer(word)?;
+    service.end_answer()
+}
+
+/// Indexes what stands there, and answers the query of the words, or else those of the standard input.
+fn answer<T: Drop, R: DebouncerRuntime + AllocGlobal + Input, O: Write + Drop>(
+    rt: R,
+    matches: &ArgMatches<'_>,
+    service: &mut Service<R, O>,
+    reports: &FolderReports<T, R>,
+) -> Result<(), Fault> {
+    service.read_all()?;
+    match matches.get_str("query") {
+        Some(word) => service.answer(word),
+        None => answer_lines(rt, service, reports),
+    }
+}
+
+/// Watches the folder, and answers of it until the queries end.
 fn serve<
     T: Watcher<Feed<RecommendedCache, R, Global>, R, Global>,
     R: DebouncerRuntime + AllocGlobal + Input,
@@ -68,11 +88,7 @@ fn serve<
         RecursiveMode::Recursive,
         pace_of(matches),
     )?;
-    service.read_all()?;
-    match matches.get_str("query") {
-        Some(word) => service.answer(word)?,
-        None => answer_lines(rt, service, &reports)?,
-    }
+    answer(rt, matches, service, &reports)?;
     reports.finish()?;
     Ok(())
 }

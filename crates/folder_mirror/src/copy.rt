@@ -92,8 +92,8 @@ impl<R: DebouncerRuntime + AllocGlobal> FolderCopy<R> {
         Ok(old.as_slice() == new.as_slice())
     }
 
-    /// What stands there. It is an error if a folder of the copy above it is none, as a link to one.
-    fn found_at(&self, target: &PathBuf) -> io::Result<Option<Metadata>> {
+    /// It is an error if a folder of the copy above the target is none, as a link to one.
+    fn check_folders_above(&self, target: &PathBuf) -> io::Result<()> {
         for folder in target.folders() {
             if folder.as_os_str().len() <= self.to.as_str().len() {
                 break;
@@ -102,6 +102,12 @@ impl<R: DebouncerRuntime + AllocGlobal> FolderCopy<R> {
                 return Err(io::Error::from(io::ErrorKind::NotADirectory));
             }
         }
+        Ok(())
+    }
+
+    /// What stands there, and not what a link on the way leads to.
+    fn found_at(&self, target: &PathBuf) -> io::Result<Option<Metadata>> {
+        self.check_folders_above(target)?;
         match fs::symlink_metadata(&self.rt, target.as_str()) {
             Ok(found) => Ok(Some(found)),
             Err(error) if is_missing(&error) => Ok(None),

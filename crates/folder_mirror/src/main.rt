@@ -31,8 +31,8 @@ const PAUSE: u64 = 1000;
 
 /// The command line.
 fn command_line<'a>(alloc: Global) -> Result<Command<'a>, AllocError> {
-    let to = Arg::new(alloc, "to").value_name("TO").required(true);
-    command(alloc, NAME, "Keeps the folder TO a copy of FROM.", "FROM")?.arg(to)
+    let line = command(alloc, NAME, "Keeps the folder TO a copy of FROM.", "FROM")?;
+    line.arg(Arg::new(alloc, "to").value_name("TO").required(true))
 }
 
 /// Whether both folders are there, and neither lies in the other.
