@@ -2,7 +2,7 @@
 use crate::build::{Heap, Host, Running, new_heap, path, sleep_a_turn, start};
 use crate::memory::Silent;
 use crate::running::wait_for_any;
-use crate::watchers::{Replay, Starved};
+use crate::watchers::{Prompt, Starved, Stubborn};
 use notify_debouncer_full::{
     Command, Config, DebounceDataInner, DebounceEventResult, Entry, ErrorKind, Feed, NoCache,
     PathBuf, RecursiveMode, Watcher, new_debouncer_opt, new_journaled_debouncer,
@@ -25,7 +25,7 @@ fn millis_since(rt: &(impl Abort + Clock), start: Instant) -> u128 {
 
 #[test]
 fn what_was_never_emitted_is_in_the_book(rt: HostRuntime) {
-    check_the_book::<Replay<HostRuntime, Heap>, HostRuntime>(rt);
+    check_the_book::<Prompt<HostRuntime, Heap>, HostRuntime>(rt);
 }
 
 fn check_the_book<T: Watcher<Feed<NoCache, R, Heap>, R, Heap>, R: Host>(rt: R)
@@ -63,7 +63,7 @@ fn goes_on(core: &mut DebounceDataInner<NoCache, Heap>, part: Vec<Entry<Heap>, H
 
 #[test]
 fn the_parts_of_a_journal_in_a_row_are_the_journal(rt: HostRuntime) {
-    check_the_parts::<Replay<HostRuntime, Heap>, HostRuntime>(rt);
+    check_the_parts::<Prompt<HostRuntime, Heap>, HostRuntime>(rt);
 }
 
 fn check_the_parts<T: Watcher<Feed<NoCache, R, Heap>, R, Heap>, R: Host>(rt: R)
@@ -102,7 +102,7 @@ fn check_the_parts<T: Watcher<Feed<NoCache, R, Heap>, R, Heap>, R: Host>(rt: R)
 
 #[test]
 fn a_journal_that_was_taken_is_not_given_whole(rt: HostRuntime) {
-    check_the_rest::<Replay<HostRuntime, Heap>, HostRuntime>(rt);
+    check_the_rest::<Prompt<HostRuntime, Heap>, HostRuntime>(rt);
 }
 
 fn check_the_rest<T: Watcher<Feed<NoCache, R, Heap>, R, Heap>, R: Host>(rt: R)
@@ -120,7 +120,7 @@ fn check_the_rest<T: Watcher<Feed<NoCache, R, Heap>, R, Heap>, R: Host>(rt: R)
 
 #[test]
 fn a_long_tick_does_not_hold_up_a_stop(rt: HostRuntime) {
-    check_stops::<Replay<HostRuntime, Heap>, HostRuntime>(rt);
+    check_stops::<Stubborn<Heap>, HostRuntime>(rt);
 }
 
 fn check_stops<T: Watcher<Feed<NoCache, R, Heap>, R, Heap>, R: Host>(rt: R)
@@ -145,7 +145,7 @@ fn check_stops<T: Watcher<Feed<NoCache, R, Heap>, R, Heap>, R: Host>(rt: R)
 
 #[test]
 fn a_tick_of_nothing_does_not_spin(rt: HostRuntime) {
-    check_ticks::<Replay<HostRuntime, Global>, HostRuntime>(rt);
+    check_ticks::<Stubborn<Global>, HostRuntime>(rt);
 }
 
 fn check_ticks<T: Watcher<Feed<NoCache, R>, R, Global>, R: Host>(rt: R)
@@ -178,7 +178,7 @@ fn check_ticks<T: Watcher<Feed<NoCache, R>, R, Global>, R: Host>(rt: R)
 
 #[test]
 fn a_closure_counts_what_it_cannot_send(rt: HostRuntime) {
-    check_count::<Replay<HostRuntime, Global>, HostRuntime>(rt);
+    check_count::<Prompt<HostRuntime, Global>, HostRuntime>(rt);
 }
 
 fn check_count<T: Watcher<Feed<NoCache, R>, R, Global>, R: Host>(rt: R)

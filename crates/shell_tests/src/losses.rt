@@ -1,6 +1,6 @@
 //! What could not be sent, and turns that were refused.
 use crate::build::{Heap, Host, Running, TURNS, new_heap, path, start};
-use crate::watchers::Replay;
+use crate::watchers::Prompt;
 use crossbeam_channel::Receiver;
 use notify_debouncer_full::{
     DebounceEventHandler, DebounceEventResult, Feed, NoCache, RecursiveMode, SendTo, Watcher,
@@ -42,7 +42,7 @@ fn has_batch(rt: &(impl Wait + Clock), from: &Receiver<DebounceEventResult<Heap>
 
 #[test]
 fn a_refused_turn_is_counted_and_loses_nothing(rt: HostRuntime) {
-    check_turns::<Replay<HostRuntime, Heap>, HostRuntime>(rt);
+    check_turns::<Prompt<HostRuntime, Heap>, HostRuntime>(rt);
 }
 
 fn check_turns<T: Watcher<Feed<NoCache, R, Heap>, R, Heap>, R: Host>(rt: R)
