@@ -7,9 +7,7 @@ mod bursts;
 use bursts::Bursts;
 use clap::{ArgMatches, Command};
 use journal_lines::Patterns;
-use notify_debouncer_full::{
-    DebouncerRuntime, Feed, RecommendedCache, RecommendedWatcher, RecursiveMode, Watcher,
-};
+use notify_debouncer_full::{DebouncerRuntime, RecursiveMode};
 use std::alloc::{AllocError, Global};
 use std::io::Write;
 use std::process::ExitCode;
@@ -41,9 +39,9 @@ fn command_line<'a>(alloc: Global) -> Result<Command<'a>, AllocError> {
 
 /// Takes what is reported until the life is over. A line is written once events wait and nothing is
 /// reported for so long.
-fn follow<T: Drop, R: DebouncerRuntime + AllocGlobal, O: Write + Drop, E: Write + Drop>(
+fn follow<R: DebouncerRuntime + AllocGlobal, O: Write + Drop, E: Write + Drop>(
     rt: R,
-    reports: &FolderReports<T, R>,
+    reports: &FolderReports<R>,
     quiet: Duration,
     bursts: &mut Bursts<'_, O, E>,
 ) -> Result<(), Fault> {
@@ -76,30 +74,25 @@ fn finish<O: Write + Drop, E: Write + Drop>(
 }
 
 /// Watches the folder, and prints a line for each burst.
-fn watch<
-    T: Watcher<Feed<RecommendedCache, R, Global>, R, Global>,
-    R: DebouncerRuntime + AllocGlobal,
-    O: Write + Drop,
-    E: Write + Drop,
->(rt: R, matches: &ArgMatches<'_>, bursts: &mut Bursts<'_, O, E>) -> Result<(), Fault>
-    requires takes { (feed : _) → T.takes feed }
-{
+fn watch<R: DebouncerRuntime + AllocGlobal, O: Write + Drop, E: Write + Drop>(
+    rt: R,
+    matches: &ArgMatches<'_>,
+    bursts: &mut Bursts<'_, O, E>,
+) -> Result<(), Fault> {
     let (mode, pace) = (RecursiveMode::Recursive, pace_of(matches));
-    let reports: FolderReports<T, R> = FolderReports::start(rt, &bursts.folder, mode, pace)?;
+    let reports = FolderReports::start(rt, &bursts.folder, mode, pace)?;
     let quiet = Duration::from_millis(number_of(matches, "quiet", QUIET));
     follow(rt, &reports, quiet, bursts)?;
     finish(reports.finish()?, bursts)
 }
 
 /// Reads what the words say, and watches.
-fn run<
-    T: Watcher<Feed<RecommendedCache, R, Global>, R, Global>,
-    R: DebouncerRuntime + AllocGlobal,
-    O: Write + Drop,
-    E: Write + Drop,
->(rt: R, matches: &ArgMatches<'_>, out: O, err: E) -> Result<(), Fault>
-    requires takes { (feed : _) → T.takes feed }
-{
+fn run<R: DebouncerRuntime + AllocGlobal, O: Write + Drop, E: Write + Drop>(
+    rt: R,
+    matches: &ArgMatches<'_>,
+    out: O,
+    err: E,
+) -> Result<(), Fault> {
     let alloc = rt.alloc();
     let patterns = Patterns::parse(alloc, None, matches.get_str("ignore"))?;
     let mut bursts = Bursts {
@@ -110,7 +103,7 @@ fn run<
         out,
         err,
     };
-    watch::<T, R, O, E>(rt, matches, &mut bursts)
+    watch(rt, matches, &mut bursts)
 }
 
 fn main(rt: HostRuntime) -> ExitCode {
@@ -122,11 +115,6 @@ fn main(rt: HostRuntime) -> ExitCode {
         Ok(matches) => matches,
         Err(status) => return ExitCode::from(status),
     };
-    let run = run::<RecommendedWatcher<HostRuntime>, _, _, _>(
-        rt,
-        &matches,
-        rt.stdout(),
-        rt.stderr(),
-    );
+    let run = run(rt, &matches, rt.stdout(), rt.stderr());
     ExitCode::from(end(run, NAME, place_of(&matches), &mut rt.stderr()))
 }

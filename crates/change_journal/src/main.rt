@@ -7,9 +7,7 @@ mod words;
 
 use clap::ArgMatches;
 use journal_lines::{Journal, PathFilter};
-use notify_debouncer_full::{
-    DebouncerRuntime, Feed, RecommendedCache, RecommendedWatcher, RecursiveMode, Watcher,
-};
+use notify_debouncer_full::{DebouncerRuntime, RecursiveMode};
 use printer::Printer;
 use std::alloc::Global;
 use std::io::Write;
@@ -19,14 +17,12 @@ use watch_program::{Fault, end, folder_of, matches_of, pace_of, place_of, words_
 use words::{NAME, command_line, form_of, patterns_of};
 
 /// Watches the folder, and prints of it what passes the patterns.
-fn run<
-    T: Watcher<Feed<RecommendedCache, R, Global>, R, Global>,
-    R: DebouncerRuntime + AllocGlobal,
-    O: Write + Drop,
-    E: Write + Drop,
->(rt: R, matches: &ArgMatches<'_>, out: O, err: E) -> Result<(), Fault>
-    requires takes { (feed : _) → T.takes feed }
-{
+fn run<R: DebouncerRuntime + AllocGlobal, O: Write + Drop, E: Write + Drop>(
+    rt: R,
+    matches: &ArgMatches<'_>,
+    out: O,
+    err: E,
+) -> Result<(), Fault> {
     let patterns = patterns_of(rt.alloc(), matches)?;
     let filter: PathFilter<'_> = patterns.filter(rt.alloc())?;
     let mut printer = Printer {
@@ -38,7 +34,7 @@ fn run<
     };
     let folder = folder_of(rt.alloc(), matches)?;
     let (mode, pace) = (RecursiveMode::Recursive, pace_of(matches));
-    let reports: FolderReports<T, R> = FolderReports::start(rt, &folder, mode, pace)?;
+    let reports = FolderReports::start(rt, &folder, mode, pace)?;
     let missed = reports.hand_to(&mut printer)?;
     write_missed(missed, NAME, &mut printer.err);
     Ok(())
@@ -53,11 +49,6 @@ fn main(rt: HostRuntime) -> ExitCode {
         Ok(matches) => matches,
         Err(status) => return ExitCode::from(status),
     };
-    let run = run::<RecommendedWatcher<HostRuntime>, _, _, _>(
-        rt,
-        &matches,
-        rt.stdout(),
-        rt.stderr(),
-    );
+    let run = run(rt, &matches, rt.stdout(), rt.stderr());
     ExitCode::from(end(run, NAME, place_of(&matches), &mut rt.stderr()))
 }

@@ -7,9 +7,7 @@ mod follower;
 use clap::ArgMatches;
 use config_state::{Place, Reloader};
 use follower::Follower;
-use notify_debouncer_full::{
-    DebouncerRuntime, Feed, PathBuf, RecommendedCache, RecommendedWatcher, RecursiveMode, Watcher,
-};
+use notify_debouncer_full::{DebouncerRuntime, PathBuf, RecursiveMode};
 use std::alloc::Global;
 use std::io::Write;
 use std::process::ExitCode;
@@ -26,17 +24,15 @@ const ABOUT: &str = "Reads a TOML file when it changes.";
 
 /// Reads the file, and then whenever its folder's reports may be about it. If events were missed, it is
 /// read anew at the end.
-fn watch<
-    T: Watcher<Feed<RecommendedCache, R, Global>, R, Global>,
-    R: DebouncerRuntime + AllocGlobal,
-    O: Write + Drop,
-    E: Write + Drop,
->(rt: R, folder: &PathBuf, pace: Pace, follower: &mut Follower<R, O, E>) -> Result<(), Fault>
-    requires takes { (feed : _) → T.takes feed }
-{
+fn watch<R: DebouncerRuntime + AllocGlobal, O: Write + Drop, E: Write + Drop>(
+    rt: R,
+    folder: &PathBuf,
+    pace: Pace,
+    follower: &mut Follower<R, O, E>,
+) -> Result<(), Fault> {
     // The watch comes first: what changes after the first reading is reported.
     let mode = RecursiveMode::NonRecursive;
-    let reports: FolderReports<T, R> = FolderReports::start(rt, folder, mode, pace)?;
+    let reports = FolderReports::start(rt, folder, mode, pace)?;
     follower.read()?;
     let missed = reports.hand_to(follower)?;
     write_missed(missed, NAME, &mut follower.err);
@@ -47,14 +43,12 @@ fn watch<
 }
 
 /// Watches the folder of the file that the words name.
-fn run<
-    T: Watcher<Feed<RecommendedCache, R, Global>, R, Global>,
-    R: DebouncerRuntime + AllocGlobal,
-    O: Write + Drop,
-    E: Write + Drop,
->(rt: R, matches: &ArgMatches<'_>, out: O, err: E) -> Result<(), Fault>
-    requires takes { (feed : _) → T.takes feed }
-{
+fn run<R: DebouncerRuntime + AllocGlobal, O: Write + Drop, E: Write + Drop>(
+    rt: R,
+    matches: &ArgMatches<'_>,
+    out: O,
+    err: E,
+) -> Result<(), Fault> {
     let Place { folder, file } = Place::parse(rt.alloc(), place_of(matches))?;
     let mut follower = Follower {
         rt,
@@ -63,7 +57,7 @@ fn run<
         out,
         err,
     };
-    watch::<T, R, O, E>(rt, &folder, pace_of(matches), &mut follower)
+    watch(rt, &folder, pace_of(matches), &mut follower)
 }
 
 fn main(rt: HostRuntime) -> ExitCode {
@@ -76,11 +70,6 @@ fn main(rt: HostRuntime) -> ExitCode {
         Ok(matches) => matches,
         Err(status) => return ExitCode::from(status),
     };
-    let run = run::<RecommendedWatcher<HostRuntime>, _, _, _>(
-        rt,
-        &matches,
-        rt.stdout(),
-        rt.stderr(),
-    );
+    let run = run(rt, &matches, rt.stdout(), rt.stderr());
     ExitCode::from(end(run, NAME, place_of(&matches), &mut rt.stderr()))
 }

@@ -7,9 +7,7 @@ mod service;
 
 use clap::{ArgMatches, Command};
 use documents::Documents;
-use notify_debouncer_full::{
-    DebouncerRuntime, Feed, RecommendedCache, RecommendedWatcher, RecursiveMode, Watcher,
-};
+use notify_debouncer_full::{DebouncerRuntime, RecursiveMode};
 use service::Service;
 use std::alloc::{AllocError, Global};
 use std::io::Write;
@@ -32,10 +30,10 @@ fn command_line<'a>(alloc: Global) -> Result<Command<'a>, AllocError> {
 }
 
 /// Answers each line of the standard input, and ends each answer with an empty line.
-fn answer_lines<T: Drop, R: DebouncerRuntime + AllocGlobal + Input, O: Write + Drop>(
+fn answer_lines<R: DebouncerRuntime + AllocGlobal + Input, O: Write + Drop>(
     rt: R,
     service: &mut Service<R, O>,
-    reports: &FolderReports<T, R>,
+    reports: &FolderReports<R>,
 ) -> Result<(), Fault> {
     for line in rt.lines(rt.alloc()) {
         match line {
@@ -47,10 +45,10 @@ fn answer_lines<T: Drop, R: DebouncerRuntime + AllocGlobal + Input, O: Write + D
 }
 
 /// Answers the word, of what stands there now, and ends the answer with an empty line.
-fn answer_line<T: Drop, R: DebouncerRuntime + AllocGlobal, O: Write + Drop>(
+fn answer_line<R: DebouncerRuntime + AllocGlobal, O: Write + Drop>(
     rt: R,
     service: &mut Service<R, O>,
-    reports: &FolderReports<T, R>,
+    reports: &FolderReports<R>,
     word: &str,
 ) -> Result<(), Fault> {
     service.catch_up(rt, reports)?;
@@ -59,11 +57,11 @@ fn answer_line<T: Drop, R: DebouncerRuntime + AllocGlobal, O: Write + Drop>(
 }
 
 /// Indexes what stands there, and answers the query of the words, or else those of the standard input.
-fn answer<T: Drop, R: DebouncerRuntime + AllocGlobal + Input, O: Write + Drop>(
+fn answer<R: DebouncerRuntime + AllocGlobal + Input, O: Write + Drop>(
     rt: R,
     matches: &ArgMatches<'_>,
     service: &mut Service<R, O>,
-    reports: &FolderReports<T, R>,
+    reports: &FolderReports<R>,
 ) -> Result<(), Fault> {
     service.read_all()?;
     match matches.get_str("query") {
@@ -73,37 +71,28 @@ fn answer<T: Drop, R: DebouncerRuntime + AllocGlobal + Input, O: Write + Drop>(
 }
 
 /// Watches the folder, and answers of it until the queries end.
-fn serve<
-    T: Watcher<Feed<RecommendedCache, R, Global>, R, Global>,
-    R: DebouncerRuntime + AllocGlobal + Input,
-    O: Write + Drop,
->(rt: R, matches: &ArgMatches<'_>, service: &mut Service<R, O>) -> Result<(), Fault>
-    requires takes { (feed : _) → T.takes feed }
-{
+fn serve<R: DebouncerRuntime + AllocGlobal + Input, O: Write + Drop>(
+    rt: R,
+    matches: &ArgMatches<'_>,
+    service: &mut Service<R, O>,
+) -> Result<(), Fault> {
     let folder = &service.documents.folder;
     // The folder is watched first, so that no change after the first look is missed.
-    let reports: FolderReports<T, R> = FolderReports::start(
-        rt,
-        folder,
-        RecursiveMode::Recursive,
-        pace_of(matches),
-    )?;
+    let reports = FolderReports::start(rt, folder, RecursiveMode::Recursive, pace_of(matches))?;
     answer(rt, matches, service, &reports)?;
     reports.finish()?;
     Ok(())
 }
 
 /// Serves the folder that the words name.
-fn run<
-    T: Watcher<Feed<RecommendedCache, R, Global>, R, Global>,
-    R: DebouncerRuntime + AllocGlobal + Input,
-    O: Write + Drop,
->(rt: R, matches: &ArgMatches<'_>, out: O) -> Result<(), Fault>
-    requires takes { (feed : _) → T.takes feed }
-{
+fn run<R: DebouncerRuntime + AllocGlobal + Input, O: Write + Drop>(
+    rt: R,
+    matches: &ArgMatches<'_>,
+    out: O,
+) -> Result<(), Fault> {
     let documents = Documents::new(rt, folder_of(rt.alloc(), matches)?);
     let mut service = Service::new(rt.alloc(), documents, out);
-    serve::<T, R, O>(rt, matches, &mut service)
+    serve(rt, matches, &mut service)
 }
 
 fn main(rt: HostRuntime) -> ExitCode {
@@ -115,6 +104,6 @@ fn main(rt: HostRuntime) -> ExitCode {
         Ok(matches) => matches,
         Err(status) => return ExitCode::from(status),
     };
-    let run = run::<RecommendedWatcher<HostRuntime>, _, _>(rt, &matches, rt.stdout());
+    let run = run(rt, &matches, rt.stdout());
     ExitCode::from(end(run, NAME, place_of(&matches), &mut rt.stderr()))
 }

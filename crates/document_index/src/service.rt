@@ -54,11 +54,7 @@ impl<R: DebouncerRuntime + AllocGlobal, O: Write + Drop> Service<R, O> {
     }
 
     /// Takes the reports that have come.
-    pub(crate) fn catch_up<T: Drop>(
-        &mut self,
-        rt: R,
-        reports: &FolderReports<T, R>,
-    ) -> Result<(), Fault> {
+    pub(crate) fn catch_up(&mut self, rt: R, reports: &FolderReports<R>) -> Result<(), Fault> {
         for _ in rt.forever() {
             let Some(report) = reports.next_within(Duration::from_millis(1)) else {
                 return Ok(());

@@ -9,10 +9,7 @@ mod mirror;
 use clap::{Arg, ArgMatches, Command};
 use copy::FolderCopy;
 use mirror::Mirror;
-use notify_debouncer_full::{
-    DebounceEventResult, DebouncerRuntime, Feed, PathBuf, RecommendedCache, RecommendedWatcher,
-    RecursiveMode, Watcher,
-};
+use notify_debouncer_full::{DebounceEventResult, DebouncerRuntime, PathBuf, RecursiveMode};
 use std::alloc::{AllocError, Global};
 use std::fs;
 use std::io::Write;
@@ -68,8 +65,8 @@ fn is_past<R: Clock>(rt: &R, moment: Option<Instant>) -> bool {
 }
 
 /// Waits for the next report; if something failed, no longer than until it is tried again.
-fn next_report<T: Drop, R: DebouncerRuntime + AllocGlobal>(
-    reports: &FolderReports<T, R>,
+fn next_report<R: DebouncerRuntime + AllocGlobal>(
+    reports: &FolderReports<R>,
     failed: bool,
 ) -> Option<DebounceEventResult> {
     if failed {
@@ -80,9 +77,9 @@ fn next_report<T: Drop, R: DebouncerRuntime + AllocGlobal>(
 }
 
 /// Carries out what is reported until the life is over. What failed is tried again after a pause.
-fn follow<T: Drop, R: DebouncerRuntime + AllocGlobal, O: Write + Drop, E: Write + Drop>(
+fn follow<R: DebouncerRuntime + AllocGlobal, O: Write + Drop, E: Write + Drop>(
     rt: R,
-    reports: &FolderReports<T, R>,
+    reports: &FolderReports<R>,
     mirror: &mut Mirror<R, O, E>,
     life_end: Option<Instant>,
 ) -> Result<(), Fault> {
@@ -97,38 +94,28 @@ fn follow<T: Drop, R: DebouncerRuntime + AllocGlobal, O: Write + Drop, E: Write 
 }
 
 /// Watches FROM, makes TO a copy of it, and keeps it one.
-fn keep<
-    T: Watcher<Feed<RecommendedCache, R, Global>, R, Global>,
-    R: DebouncerRuntime + AllocGlobal,
-    O: Write + Drop,
-    E: Write + Drop,
->(rt: R, mirror: &mut Mirror<R, O, E>, pace: Pace) -> Result<(), Fault>
-    requires takes { (feed : _) → T.takes feed }
-{
+fn keep<R: DebouncerRuntime + AllocGlobal, O: Write + Drop, E: Write + Drop>(
+    rt: R,
+    mirror: &mut Mirror<R, O, E>,
+    pace: Pace,
+) -> Result<(), Fault> {
     let life_end = end_of(&rt, pace.life);
     // The folder is watched first, so that no change after the first look is missed.
-    let reports: FolderReports<T, R> = FolderReports::start(
-        rt,
-        mirror.from(),
-        RecursiveMode::Recursive,
-        pace,
-    )?;
+    let reports = FolderReports::start(rt, mirror.from(), RecursiveMode::Recursive, pace)?;
     mirror.take_all()?;
     follow(rt, &reports, mirror, life_end)?;
     mirror.take_rest(&reports.finish()?)
 }
 
 /// Mirrors the folders that the words name.
-fn run<
-    T: Watcher<Feed<RecommendedCache, R, Global>, R, Global>,
-    R: DebouncerRuntime + AllocGlobal,
-    O: Write + Drop,
-    E: Write + Drop,
->(rt: R, matches: &ArgMatches<'_>, out: O, err: E) -> Result<(), Fault>
-    requires takes { (feed : _) → T.takes feed }
-{
+fn run<R: DebouncerRuntime + AllocGlobal, O: Write + Drop, E: Write + Drop>(
+    rt: R,
+    matches: &ArgMatches<'_>,
+    out: O,
+    err: E,
+) -> Result<(), Fault> {
     let mut mirror = Mirror::new(rt, copy_of(rt, matches)?, out, err);
-    keep::<T, R, O, E>(rt, &mut mirror, pace_of(matches))
+    keep(rt, &mut mirror, pace_of(matches))
 }
 
 /// The moment that lies so far ahead, if the clock can be read.
@@ -145,11 +132,6 @@ fn main(rt: HostRuntime) -> ExitCode {
         Ok(matches) => matches,
         Err(status) => return ExitCode::from(status),
     };
-    let run = run::<RecommendedWatcher<HostRuntime>, _, _, _>(
-        rt,
-        &matches,
-        rt.stdout(),
-        rt.stderr(),
-    );
+    let run = run(rt, &matches, rt.stdout(), rt.stderr());
     ExitCode::from(end(run, NAME, place_of(&matches), &mut rt.stderr()))
 }

@@ -5,7 +5,6 @@
 #![tactic(auto)]
 
 use mirror_threads::threads_run;
-use notify_debouncer_full::RecommendedWatcher;
 use notify_mirror::{Fault, Form, check_run, script_run, watch_run};
 use std::fs::File;
 use std::io::{ErrorKind, Read};
@@ -13,9 +12,6 @@ use std::process::ExitCode;
 use std::sync::Wait;
 use std::thread::Threads;
 use std::{env, io};
-
-/// The watcher of `mirror --watch`.
-type Polling = RecommendedWatcher<HostRuntime>;
 
 /// The script's file, or if it can't be opened a reader that fails.
 #[derive(Drop)]
@@ -119,7 +115,7 @@ fn main(rt: HostRuntime) -> ExitCode {
         Some(Form::Check(name)) => check(&rt, name),
         Some(Form::Watch(folder, ticks)) => {
             let (mut out, mut err) = (rt.stdout(), rt.stderr());
-            watch_run::<Polling, _, _, _, _>(rt, rt.alloc(), folder, ticks, &mut out, &mut err)
+            watch_run(rt, rt.alloc(), folder, ticks, &mut out, &mut err)
         }
         Some(Form::Threads) => run_in_threads(&rt, &rt, words),
         None => refuse(&rt, Fault::Usage),

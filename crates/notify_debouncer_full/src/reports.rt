@@ -7,12 +7,12 @@ ghost use Rattle.debounce_book.specs.Journal.{IsLegal};
 ghost use Rattle.debounce_shell.specs.Start.{IsStartError, IsTooSlow, too_slow};
 ghost use Rattle.debounce_shell.specs.Watched.{AsksFirst, ListsFirst};
 
-use crate::recommended::{RecommendedCache, RecommendedWatcher, new_debouncer_with_config};
+use crate::recommended::{RecommendedCache, RecommendedWatcher};
 use crate::runtime::{DebouncerAllocator, DebouncerRuntime};
 use crossbeam_channel::{Receiver, Sender, unbounded};
 use debounce_book::book::Book;
 use debounce_shell::Feed;
-use debounce_shell::debouncer::Debouncer;
+use debounce_shell::debouncer::{Debouncer, new_debouncer_opt};
 use debounce_shell::send_to::{SendTo, Unsent};
 use notify_paths::error::{Error, ErrorKind};
 use notify_paths::path::PathBuf;
@@ -88,7 +88,8 @@ impl<
         }
         let (sender, queue) = channel(alloc)?;
         let (handler, unsent) = SendTo::counted(rt, alloc, sender)?;
-        let debouncer = new_debouncer_with_config(rt, alloc, timeout, tick_rate, handler, config)?;
+        let cache = RecommendedCache::new();
+        let debouncer = new_debouncer_opt(rt, alloc, timeout, tick_rate, handler, cache, config)?;
         Ok(Reports {
             rt,
             debouncer,

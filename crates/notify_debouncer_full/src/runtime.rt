@@ -7,12 +7,13 @@ use std::time::Clock;
 
 /// What a running debouncer over a [`RecommendedWatcher`](crate::RecommendedWatcher) asks of its
 /// runtime; the `HostRuntime` of a program's `main` has it. `Alloc` is what the watcher needs: a
-/// `PollWatcher` is a `Watcher` over such runtimes alone.
+/// `PollWatcher` is a `Watcher` over such runtimes alone. Files, folders and the allocator may be sent to
+/// a thread, so that a function over any such runtime can start a debouncer.
 pub trait DebouncerRuntime: Threads
     + Wait
     + Clock
-    + Files
-    + Alloc
+    + Files<File: Send + Sync + 'static, Dir: Send + Sync + 'static>
+    + Alloc<A: Send + Sync + 'static>
     + Copy
     + Drop
     + Send
@@ -20,7 +21,16 @@ pub trait DebouncerRuntime: Threads
     + 'static {}
 
 impl<
-    R: Threads + Wait + Clock + Files + Alloc + Copy + Drop + Send + Sync + 'static,
+    R: Threads
+        + Wait
+        + Clock
+        + Files<File: Send + Sync + 'static, Dir: Send + Sync + 'static>
+        + Alloc<A: Send + Sync + 'static>
+        + Copy
+        + Drop
+        + Send
+        + Sync
+        + 'static,
 > DebouncerRuntime for R {}
 
 /// What a running debouncer asks of its allocator; `Global` has it.

@@ -10,16 +10,15 @@ use crate::run::end;
 use crossbeam_channel::{Receiver, Sender, unbounded};
 use mirror_script::Fault;
 use notify_debouncer_full::{
-    Book, DebounceEventResult, Debouncer, Error, ErrorKind, Feed, PathBuf, RecommendedCache,
-    RecursiveMode, SendTo, Watcher, new_debouncer,
+    Book, Config, DebounceEventResult, Debouncer, DebouncerAllocator, DebouncerRuntime, Error,
+    ErrorKind, Feed, PathBuf, RecommendedCache, RecommendedWatcher, RecursiveMode, SendTo, Watcher,
+    new_debouncer_opt,
 };
 use std::alloc::{AllocError, Allocator};
-use std::fs::Files;
 use std::io::Write;
 use std::sync::Wait;
 use std::thread;
-use std::thread::Threads;
-use std::time::{Clock, Duration};
+use std::time::Duration;
 
 /// How old an event is when it is emitted, at least, in milliseconds.
 const TIMEOUT: u64 = 1000;
@@ -32,12 +31,26 @@ const TICK: u64 = 250;
 /// waited at the end, and last how many it missed.
 /// Returns the exit status: 0 if all was printed, 4 if an allocation failed, 5 if the folder can't be
 /// watched, 6 if the output failed, 8 if a thread can't be started.
-///
-/// `T` is the watcher; the program's is `RecommendedWatcher`.
-pub fn watch_run<
+pub fn watch_run<R: DebouncerRuntime, A: DebouncerAllocator, O: Write, E: Write>(
+    rt: R,
+    alloc: A,
+    folder: &str,
+    ticks: u64,
+    out: &mut O,
+    err: &mut E,
+) -> u8
+    ensures statuses { IsWatchStatus result }
+    ensures untouched { (result ≡ 5) ⊎ (result ≡ 8) → O.contents out.new ≡ O.contents out.old }
+    ensures silent { (result ≡ 0) ⊎ (result ≡ 6) → E.contents err.new ≡ E.contents err.old }
+{
+    watch_run_over::<RecommendedWatcher<R, A>, R, A, O, E>(rt, alloc, folder, ticks, out, err)
+}
+
+/// Runs as [`watch_run`] does, over the watcher `T`.
+pub fn watch_run_over<
     T: Watcher<Feed<RecommendedCache, R, A>, R, A>,
-    R: Threads + Wait + Clock + Files + Copy + Send + Sync + 'static,
-    A: Allocator + Copy + Send + Sync + 'static,
+    R: DebouncerRuntime,
+    A: DebouncerAllocator,
     O: Write,
     E: Write,
 >(rt: R, alloc: A, folder: &str, ticks: u64, out: &mut O, err: &mut E) -> u8
@@ -53,8 +66,8 @@ pub fn watch_run<
 /// Watches the folder, and prints what was reported.
 fn watch_and_print<
     T: Watcher<Feed<RecommendedCache, R, A>, R, A>,
-    R: Threads + Wait + Clock + Files + Copy + Send + Sync + 'static,
-    A: Allocator + Copy + Send + Sync + 'static,
+    R: DebouncerRuntime,
+    A: DebouncerAllocator,
     O: Write,
 >(rt: R, alloc: A, folder: &str, ticks: u64, out: &mut O) -> Result<(), Fault>
     requires takes { (feed : _) → T.takes feed }
@@ -69,8 +82,8 @@ fn watch_and_print<
 /// are printed last.
 fn watch<
     T: Watcher<Feed<RecommendedCache, R, A>, R, A>,
-    R: Threads + Wait + Clock + Files + Copy + Send + Sync + 'static,
-    A: Allocator + Copy + Send + Sync + 'static,
+    R: DebouncerRuntime,
+    A: DebouncerAllocator,
 >(
     rt: R,
     alloc: A,
@@ -96,8 +109,8 @@ fn watch<
 /// Ends the watch, and returns the lines that are printed last.
 fn end_watch<
     T: Watcher<Feed<RecommendedCache, R, A>, R, A>,
-    R: Threads + Wait + Clock + Files + Copy + Send + Sync + 'static,
-    A: Allocator + Copy + Send + Sync + 'static,
+    R: DebouncerRuntime,
+    A: DebouncerAllocator,
 >(alloc: A, debouncer: Debouncer<T, RecommendedCache, R, A>) -> Result<String<A>, Fault>
     ensures { IfErr result (λ e. e ≡ Fault.Memory) }
 {
@@ -122,8 +135,8 @@ fn last_lines<A: Allocator + Copy>(
 /// Starts the debouncer, which emits to the sender.
 fn start<
     T: Watcher<Feed<RecommendedCache, R, A>, R, A>,
-    R: Threads + Wait + Clock + Files + Copy + Send + Sync + 'static,
-    A: Allocator + Copy + Send + Sync + 'static,
+    R: DebouncerRuntime,
+    A: DebouncerAllocator,
 >(
     rt: R,
     alloc: A,
@@ -134,8 +147,9 @@ fn start<
 {
     let handler = SendTo::new(rt, sender);
     let timeout = Duration::from_millis(TIMEOUT);
-    let tick = Duration::from_millis(TICK);
-    new_debouncer(rt, alloc, timeout, Some(tick), handler).map_err(|error| fault_of(
+    let tick = Some(Duration::from_millis(TICK));
+    let (cache, config) = (RecommendedCache::new(), Config::default());
+    new_debouncer_opt(rt, alloc, timeout, tick, handler, cache, config).map_err(|error| fault_of(
         &error,
         Fault::NoThread,
     ))

@@ -20,7 +20,7 @@ fn folder_of(rt: &HostRuntime) -> Result<PathBuf> {
     Ok(PathBuf::parse(rt.alloc(), folder.as_str())?)
 }
 
-fn paths_of(rt: &HostRuntime, listing: &Listing) -> Result<PathSet> {
+fn paths_of(rt: &impl AllocGlobal, listing: &Listing) -> Result<PathSet> {
     let mut paths = PathSet::new(rt.alloc());
     for (path, _found) in listing.iter() {
         paths.insert(path.clone()?)?;
@@ -28,7 +28,7 @@ fn paths_of(rt: &HostRuntime, listing: &Listing) -> Result<PathSet> {
     Ok(paths)
 }
 
-fn print(rt: &HostRuntime, paths: &PathSet) -> Result<()> {
+fn print(rt: &impl Print, paths: &PathSet) -> Result<()> {
     for path in &paths.to_list()? {
         println!(rt; "{}", path.as_str())?;
     }
@@ -36,7 +36,11 @@ fn print(rt: &HostRuntime, paths: &PathSet) -> Result<()> {
     Ok(())
 }
 
-fn follow(rt: &HostRuntime, paths: &mut PathSet, report: &DebounceEventResult) -> Result<()> {
+fn follow(
+    rt: &(impl Print + Eprint),
+    paths: &mut PathSet,
+    report: &DebounceEventResult,
+) -> Result<()> {
     match report {
         Ok(batch) => {
             paths.play(batch.as_slice())?;
@@ -57,7 +61,7 @@ fn comes(
 }
 
 fn mirror(
-    rt: &HostRuntime,
+    rt: &(impl Print + Eprint),
     reports: &RecommendedReports<impl DebouncerRuntime>,
     paths: &mut PathSet,
     stop: &PathBuf,
@@ -73,8 +77,8 @@ fn mirror(
     Ok(())
 }
 
-fn end(rt: &HostRuntime, wait: &impl Wait, paths: &mut PathSet, last: &LastReports) -> Result<()> {
-    for report in last.queue.try_iter(wait) {
+fn end(rt: &(impl Print + Eprint + Wait), paths: &mut PathSet, last: &LastReports) -> Result<()> {
+    for report in last.queue.try_iter(rt) {
         follow(rt, paths, &report)?;
     }
     paths.play(last.book.outlook()?.as_slice())?;
@@ -84,15 +88,17 @@ fn end(rt: &HostRuntime, wait: &impl Wait, paths: &mut PathSet, last: &LastRepor
     print(rt, paths)
 }
 
-fn stop_in(rt: &HostRuntime, folder: &PathBuf) -> Result<PathBuf> {
+fn stop_in(rt: &impl AllocGlobal, folder: &PathBuf) -> Result<PathBuf> {
     let stop = format!(in rt.alloc(); "{}/stop", folder.as_str())?;
     Ok(PathBuf::parse(rt.alloc(), stop.as_str())?)
 }
 
-fn main(rt: HostRuntime) -> Result<()> {
-    let folder = folder_of(&rt)?;
+fn watch<R: DebouncerRuntime + AllocGlobal + Print + Eprint>(
+    rt: R,
+    folder: &PathBuf,
+) -> Result<()> {
     let config = Config::default().with_poll_interval(Duration::from_millis(5));
-    let mut reports: RecommendedReports<HostRuntime> = Reports::start(
+    let mut reports: RecommendedReports<R> = Reports::start(
         rt,
         rt.alloc(),
         Duration::from_millis(20),
@@ -101,8 +107,12 @@ fn main(rt: HostRuntime) -> Result<()> {
     )?;
     let mut paths = paths_of(
         &rt,
-        &reports.watch_listed(&folder, RecursiveMode::Recursive)?,
+        &reports.watch_listed(folder, RecursiveMode::Recursive)?,
     )?;
-    mirror(&rt, &reports, &mut paths, &stop_in(&rt, &folder)?)?;
-    end(&rt, &rt, &mut paths, &reports.finish())
+    mirror(&rt, &reports, &mut paths, &stop_in(&rt, folder)?)?;
+    end(&rt, &mut paths, &reports.finish())
+}
+
+fn main(rt: HostRuntime) -> Result<()> {
+    watch(rt, &folder_of(&rt)?)
 }

@@ -1,13 +1,11 @@
 //! Debouncers that end: how soon, and what they give back then.
-use crate::build::{Heap, Host, Running, new_heap, path, sleep_a_turn, start};
+use crate::build::{Heap, Host, Outcome, Running, new_heap, path, sleep_a_turn, start};
 use crate::memory::Silent;
 use crate::running::wait_for_any;
-use crate::watchers::{Prompt, Starved, Stubborn};
 use notify_debouncer_full::{
-    Command, Config, DebounceDataInner, DebounceEventResult, Entry, ErrorKind, Feed, NoCache,
+    Book, Command, Config, DebounceDataInner, DebouncedEvent, Entry, ErrorKind, Feed, NoCache,
     PathBuf, RecursiveMode, Watcher, new_debouncer_opt, new_journaled_debouncer,
 };
-use std::alloc::Global;
 use std::process::Abort;
 use std::sync::Arc;
 use std::sync::atomic::{AtomicU64, Ordering};
@@ -23,12 +21,9 @@ fn millis_since(rt: &(impl Abort + Clock), start: Instant) -> u128 {
     start.elapsed(rt).expect(rt, "a clock").as_millis()
 }
 
-#[test]
-fn what_was_never_emitted_is_in_the_book(rt: HostRuntime) {
-    check_the_book::<Prompt<HostRuntime, Heap>, HostRuntime>(rt);
-}
-
-fn check_the_book<T: Watcher<Feed<NoCache, R, Heap>, R, Heap>, R: Host>(rt: R)
+pub fn what_was_never_emitted_is_in_the_book<T: Watcher<Feed<NoCache, R, Heap>, R, Heap>, R: Host>(
+    rt: R,
+)
     requires takes { (feed : _) → T.takes feed }
 {
     let heap = new_heap(&rt);
@@ -38,12 +33,22 @@ fn check_the_book<T: Watcher<Feed<NoCache, R, Heap>, R, Heap>, R: Host>(rt: R)
         .expect(&rt, "a watch");
     let seen = debouncer.outlook().expect(&rt, "memory");
     let (book, missed) = debouncer.finish();
-    let rest = book.outlook().expect(&rt, "memory");
-    assert!(rt; rest == seen);
-    assert_eq!(rt; (rest.len(), missed), (3, 0));
-    assert_eq!(rt; book.core().pending_errors().len(), 1);
+    assert_eq!(rt; missed, 0);
+    check_pending(&rt, &book, &seen);
     let (timeout, journal) = book.into_journal();
     assert_eq!(rt; (timeout, journal.len()), (3_600_000_000_000, 5));
+}
+
+/// Checks that the book has these events, which are three, and an error, and nothing was emitted.
+fn check_pending(
+    rt: &impl Abort,
+    book: &Book<NoCache, Heap>,
+    seen: &Vec<DebouncedEvent<Heap>, Heap>,
+) {
+    let rest = book.outlook().expect(rt, "memory");
+    assert!(rt; &rest == seen);
+    assert_eq!(rt; rest.len(), 3);
+    assert_eq!(rt; book.core().pending_errors().len(), 1);
 }
 
 /// Whether the core gives the replies of this part of a journal to its commands.
@@ -61,12 +66,10 @@ fn goes_on(core: &mut DebounceDataInner<NoCache, Heap>, part: Vec<Entry<Heap>, H
     true
 }
 
-#[test]
-fn the_parts_of_a_journal_in_a_row_are_the_journal(rt: HostRuntime) {
-    check_the_parts::<Prompt<HostRuntime, Heap>, HostRuntime>(rt);
-}
-
-fn check_the_parts<T: Watcher<Feed<NoCache, R, Heap>, R, Heap>, R: Host>(rt: R)
+pub fn the_parts_of_a_journal_in_a_row_are_the_journal<
+    T: Watcher<Feed<NoCache, R, Heap>, R, Heap>,
+    R: Host,
+>(rt: R)
     requires takes { (feed : _) → T.takes feed }
 {
     let heap = new_heap(&rt);
@@ -85,27 +88,33 @@ fn check_the_parts<T: Watcher<Feed<NoCache, R, Heap>, R, Heap>, R: Host>(rt: R)
     debouncer
         .watch(&place, RecursiveMode::Recursive)
         .expect(&rt, "a watch");
-    let (mut book, missed) = debouncer.finish();
-    let third = book.take_journal();
-    assert!(rt; !asked && missed == 0 && !book.is_journaled());
-    assert_eq!(rt;
-        [first.len(), empty.len(), second.len(), third.len()],
-        [5, 0, 1, 5]
-    );
+    let (book, missed) = debouncer.finish();
+    assert!(rt; !asked && missed == 0);
+    assert_eq!(rt; [first.len(), empty.len(), second.len()], [5, 0, 1]);
     let mut core = DebounceDataInner::new(heap, NoCache::new(), 3_600_000_000_000);
     assert!(rt; goes_on(&mut core, first));
     assert!(rt; goes_on(&mut core, second));
-    assert!(rt; goes_on(&mut core, third));
-    let reached = core.outlook().expect(&rt, "memory");
-    assert!(rt; reached == book.outlook().expect(&rt, "memory"));
+    check_last_part(&rt, core, book);
 }
 
-#[test]
-fn a_journal_that_was_taken_is_not_given_whole(rt: HostRuntime) {
-    check_the_rest::<Prompt<HostRuntime, Heap>, HostRuntime>(rt);
+/// Checks that the book's journal has five entries, which lead the core to the book's state.
+fn check_last_part(
+    rt: &impl Abort,
+    core: DebounceDataInner<NoCache, Heap>,
+    book: Book<NoCache, Heap>,
+) {
+    let (mut core, mut book) = (core, book);
+    let part = book.take_journal();
+    assert!(rt; part.len() == 5 && !book.is_journaled());
+    assert!(rt; goes_on(&mut core, part));
+    let reached = core.outlook().expect(rt, "memory");
+    assert!(rt; reached == book.outlook().expect(rt, "memory"));
 }
 
-fn check_the_rest<T: Watcher<Feed<NoCache, R, Heap>, R, Heap>, R: Host>(rt: R)
+pub fn a_journal_that_was_taken_is_not_given_whole<
+    T: Watcher<Feed<NoCache, R, Heap>, R, Heap>,
+    R: Host,
+>(rt: R)
     requires takes { (feed : _) → T.takes feed }
 {
     let heap = new_heap(&rt);
@@ -118,12 +127,9 @@ fn check_the_rest<T: Watcher<Feed<NoCache, R, Heap>, R, Heap>, R: Host>(rt: R)
     assert_eq!(rt; (taken.len(), journal.len()), (5, 0));
 }
 
-#[test]
-fn a_long_tick_does_not_hold_up_a_stop(rt: HostRuntime) {
-    check_stops::<Stubborn<Heap>, HostRuntime>(rt);
-}
-
-fn check_stops<T: Watcher<Feed<NoCache, R, Heap>, R, Heap>, R: Host>(rt: R)
+pub fn a_long_tick_does_not_hold_up_a_stop<T: Watcher<Feed<NoCache, R, Heap>, R, Heap>, R: Host>(
+    rt: R,
+)
     requires takes { (feed : _) → T.takes feed }
 {
     let heap = new_heap(&rt);
@@ -143,21 +149,17 @@ fn check_stops<T: Watcher<Feed<NoCache, R, Heap>, R, Heap>, R: Host>(rt: R)
     assert!(rt; soon);
 }
 
-#[test]
-fn a_tick_of_nothing_does_not_spin(rt: HostRuntime) {
-    check_ticks::<Stubborn<Global>, HostRuntime>(rt);
-}
-
-fn check_ticks<T: Watcher<Feed<NoCache, R>, R, Global>, R: Host>(rt: R)
+pub fn a_tick_of_nothing_does_not_spin<T: Watcher<Feed<NoCache, R, Heap>, R, Heap>, R: Host>(rt: R)
     requires takes { (feed : _) → T.takes feed }
 {
+    let heap = new_heap(&rt);
     let start = Instant::now(&rt).expect(&rt, "a clock");
-    let made: Result<Running<T, R, Global>, _> = new_journaled_debouncer(
+    let made: Result<Running<T, R>, _> = new_journaled_debouncer(
         rt,
-        rt.alloc(),
+        heap,
         Duration::from_millis(4),
         Some(Duration::from_nanos(0)),
-        |_outcome: DebounceEventResult| {},
+        |_outcome: Outcome| {},
         NoCache::new(),
         Config::default(),
     );
@@ -176,26 +178,24 @@ fn check_ticks<T: Watcher<Feed<NoCache, R>, R, Global>, R: Host>(rt: R)
     );
 }
 
-#[test]
-fn a_closure_counts_what_it_cannot_send(rt: HostRuntime) {
-    check_count::<Prompt<HostRuntime, Global>, HostRuntime>(rt);
-}
-
-fn check_count<T: Watcher<Feed<NoCache, R>, R, Global>, R: Host>(rt: R)
+pub fn a_closure_counts_what_it_cannot_send<T: Watcher<Feed<NoCache, R, Heap>, R, Heap>, R: Host>(
+    rt: R,
+)
     requires takes { (feed : _) → T.takes feed }
 {
+    let heap = new_heap(&rt);
     let (to, from) = crossbeam_channel::unbounded(rt.alloc()).expect(&rt, "memory");
     let lost = Arc::new(rt.alloc(), AtomicU64::new(0)).expect(&rt, "memory");
     let count = Arc::try_clone(&lost).expect(&rt, "memory");
-    let send = move |outcome: DebounceEventResult| {
-        if to.send(&rt, outcome).is_err() {
+    let send = move |outcome: Outcome| {
+        if to.send(&rt, outcome.is_ok()).is_err() {
             count.fetch_add(1, Ordering::SeqCst);
         }
     };
     drop(from);
-    let made: Result<Running<T, R, Global>, _> = new_debouncer_opt(
+    let made: Result<Running<T, R>, _> = new_debouncer_opt(
         rt,
-        rt.alloc(),
+        heap,
         Duration::from_millis(4),
         None,
         send,
@@ -204,7 +204,7 @@ fn check_count<T: Watcher<Feed<NoCache, R>, R, Global>, R: Host>(rt: R)
     );
     let mut debouncer = made.expect(&rt, "a debouncer");
     debouncer
-        .watch(&path(&rt, rt.alloc(), "/w"), RecursiveMode::Recursive)
+        .watch(&path(&rt, heap, "/w"), RecursiveMode::Recursive)
         .expect(&rt, "a watch");
     let counted = wait_for_any(&rt, &lost);
     debouncer.finish();
@@ -223,12 +223,10 @@ fn is_starved<T: Watcher<Feed<NoCache, R, Heap>, R, Heap>, R: Host>(
     refusal == Some(ErrorKind::Memory)
 }
 
-#[test]
-fn a_root_that_a_refused_unwatch_left_is_removed(rt: HostRuntime) {
-    check_the_root::<Starved<HostRuntime>, HostRuntime>(rt);
-}
-
-fn check_the_root<T: Watcher<Feed<NoCache, R, Heap>, R, Heap>, R: Host>(rt: R)
+pub fn a_root_that_a_refused_unwatch_left_is_removed<
+    T: Watcher<Feed<NoCache, R, Heap>, R, Heap>,
+    R: Host,
+>(rt: R)
     requires takes { (feed : _) → T.takes feed }
 {
     let heap = new_heap(&rt);

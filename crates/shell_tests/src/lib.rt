@@ -16,6 +16,8 @@ mod reports;
 #[cfg(test)]
 mod running;
 #[cfg(test)]
+mod scenes;
+#[cfg(test)]
 mod starting;
 #[cfg(test)]
 mod stopping;

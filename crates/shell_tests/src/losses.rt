@@ -1,10 +1,7 @@
 //! What could not be sent, and turns that were refused.
-use crate::build::{Heap, Host, Running, TURNS, new_heap, path, start};
-use crate::watchers::Prompt;
+use crate::build::{Heap, Host, Outcome, Running, TURNS, channel, new_heap, path, start};
 use crossbeam_channel::Receiver;
-use notify_debouncer_full::{
-    DebounceEventHandler, DebounceEventResult, Feed, NoCache, RecursiveMode, SendTo, Watcher,
-};
+use notify_debouncer_full::{DebounceEventHandler, Feed, NoCache, RecursiveMode, SendTo, Watcher};
 use std::process::Abort;
 use std::sync::Wait;
 use std::thread;
@@ -31,7 +28,7 @@ fn what_cannot_be_sent_is_counted(rt: HostRuntime) {
 }
 
 /// Waits for a batch, and answers whether one came.
-fn has_batch(rt: &(impl Wait + Clock), from: &Receiver<DebounceEventResult<Heap>>) -> bool {
+fn has_batch(rt: &(impl Wait + Clock), from: &Receiver<Outcome>) -> bool {
     for _ in 0..TURNS {
         if let Ok(Ok(_batch)) = from.recv_timeout(rt, Duration::from_millis(1)) {
             return true;
@@ -40,16 +37,14 @@ fn has_batch(rt: &(impl Wait + Clock), from: &Receiver<DebounceEventResult<Heap>
     false
 }
 
-#[test]
-fn a_refused_turn_is_counted_and_loses_nothing(rt: HostRuntime) {
-    check_turns::<Prompt<HostRuntime, Heap>, HostRuntime>(rt);
-}
-
-fn check_turns<T: Watcher<Feed<NoCache, R, Heap>, R, Heap>, R: Host>(rt: R)
+pub fn a_refused_turn_is_counted_and_loses_nothing<
+    T: Watcher<Feed<NoCache, R, Heap>, R, Heap>,
+    R: Host,
+>(rt: R)
     requires takes { (feed : _) → T.takes feed }
 {
     let heap = new_heap(&rt);
-    let (sender, from) = crossbeam_channel::unbounded(rt.alloc()).expect(&rt, "memory");
+    let (sender, from) = channel(&rt);
     let handler = SendTo::new(rt, sender);
     // The first tick comes after memory is refused.
     let mut debouncer: Running<T, R> = start(rt, heap, Duration::from_secs(1), handler);

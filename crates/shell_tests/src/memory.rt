@@ -1,9 +1,8 @@
 //! Each request for memory refused in turn, and what a feed notes of an event.
-use crate::build::{Heap, Host, Running, commands, new_heap, path, start};
-use crate::watchers::Starved;
+use crate::build::{Heap, Host, Outcome, Running, commands, new_heap, path, start};
 use notify_debouncer_full::{
-    Book, Command, Config, DebounceEventHandler, DebounceEventResult, Entry, Error, ErrorKind,
-    Feed, NoCache, PathBuf, RecursiveMode, Watcher, command_step, tick_step,
+    Book, Command, Config, DebounceEventHandler, Entry, Error, ErrorKind, Feed, NoCache, PathBuf,
+    RecursiveMode, Watcher, command_step, tick_step,
 };
 use std::process::Abort;
 use std::time::Duration;
@@ -79,12 +78,12 @@ fn a_refused_tick_loses_nothing(rt: HostRuntime) {
 #[derive(Drop)]
 pub(crate) struct Silent;
 
-impl DebounceEventHandler<DebounceEventResult<Heap>> for Silent {
+impl DebounceEventHandler<Outcome> for Silent {
     ghost ready = { λ _. Unit {0} };
 
     ghost handles = { λ _ _ _. Unit {0} };
 
-    fn handle_event(&mut self, _event: DebounceEventResult<Heap>)
+    fn handle_event(&mut self, _event: Outcome)
         ensures again { Unit {0} }
         ensures handled { Unit {0} }
     {}
@@ -114,12 +113,9 @@ fn is_missed<T: Watcher<Feed<NoCache, R, Heap>, R, Heap>, R: Host>(
     false
 }
 
-#[test]
-fn each_refused_event_and_error_is_missed(rt: HostRuntime) {
-    check_missed::<Starved<HostRuntime>, HostRuntime>(rt);
-}
-
-fn check_missed<T: Watcher<Feed<NoCache, R, Heap>, R, Heap>, R: Host>(rt: R)
+pub fn each_refused_event_and_error_is_missed<T: Watcher<Feed<NoCache, R, Heap>, R, Heap>, R: Host>(
+    rt: R,
+)
     requires takes { (feed : _) → T.takes feed }
 {
     let heap = new_heap(&rt);
@@ -143,12 +139,10 @@ fn check_missed<T: Watcher<Feed<NoCache, R, Heap>, R, Heap>, R: Host>(rt: R)
     }
 }
 
-#[test]
-fn each_refused_copy_of_the_journal_is_reported(rt: HostRuntime) {
-    check_copies::<Starved<HostRuntime>, HostRuntime>(rt);
-}
-
-fn check_copies<T: Watcher<Feed<NoCache, R, Heap>, R, Heap>, R: Host>(rt: R)
+pub fn each_refused_copy_of_the_journal_is_reported<
+    T: Watcher<Feed<NoCache, R, Heap>, R, Heap>,
+    R: Host,
+>(rt: R)
     requires takes { (feed : _) → T.takes feed }
 {
     let heap = new_heap(&rt);
@@ -189,12 +183,10 @@ fn existing(rt: &(impl Abort + AllocGlobal), journal: &[Entry<Heap>]) -> String 
     text
 }
 
-#[test]
-fn a_feed_sees_whether_the_path_of_a_half_exists(rt: HostRuntime) {
-    check_halves::<Starved<HostRuntime>, HostRuntime>(rt);
-}
-
-fn check_halves<T: Watcher<Feed<NoCache, R, Heap>, R, Heap>, R: Host>(rt: R)
+pub fn a_feed_sees_whether_the_path_of_a_half_exists<
+    T: Watcher<Feed<NoCache, R, Heap>, R, Heap>,
+    R: Host,
+>(rt: R)
     requires takes { (feed : _) → T.takes feed }
 {
     let heap = new_heap(&rt);

@@ -75,23 +75,26 @@ fn the_path_that_fails_is_told(rt: HostRuntime) {
     let id = process::id(rt.process());
     let top = format!(in rt.alloc(); "{}/failed_{id}", base.as_str()).expect(&rt, "memory");
     make_tree(&rt, top.as_str());
+    check_path(rt, top.as_str());
+    fs::remove_dir_all(&rt, top.as_str()).expect(&rt, "it is there");
+}
+
+fn check_path<R: DebouncerRuntime + Abort + AllocGlobal>(rt: R, top: &str) {
     let config = Config::default().with_poll_interval(Duration::from_millis(2));
-    let mut reports: RecommendedReports<HostRuntime> = Reports::start(
+    let timeout = Duration::from_millis(4);
+    let mut reports: RecommendedReports<R> = Reports::start(
         rt,
         rt.alloc(),
-        Duration::from_millis(4),
+        timeout,
         None,
         config,
     ).expect(&rt, "a start");
-    let file = PathBuf::parse(rt.alloc(), entry(&rt, top.as_str(), "/l/x").as_str()).expect(
-        &rt, "memory",
-    );
+    let file = PathBuf::parse(rt.alloc(), entry(&rt, top, "/l/x").as_str()).expect(&rt, "memory");
     reports
         .watch(&file, RecursiveMode::Recursive)
         .expect(&rt, "a watch");
-    let answer = follow_link(&rt, top.as_str(), &reports, &file);
+    let answer = follow_link(&rt, top, &reports, &file);
     let last = reports.finish();
-    fs::remove_dir_all(&rt, top.as_str()).expect(&rt, "it is there");
     assert!(rt; answer.0[1] > 0 && answer.1 && answer.2);
     assert_eq!(rt; (last.missed, last.unsent), (0, 0));
 }

@@ -2,17 +2,13 @@
 use crate::build::{Heap, Host, Running, new_heap, path, start};
 use crate::memory::Silent;
 use crate::running::{Holder, Seen, wait_for, wait_for_any};
-use crate::watchers::{Replay, Stubborn};
 use notify_debouncer_full::{
-    Config, DebounceDataInner, Debouncer, Entry, Error, ErrorKind, Feed, Moment, NoCache, PathBuf,
+    Config, DebounceDataInner, Entry, Error, ErrorKind, Feed, Moment, NoCache, PathBuf,
     RecursiveMode, Watcher, new_debouncer_opt,
 };
-use std::alloc::Global;
-use std::fs::Files;
 use std::process::Abort;
+use std::sync::Arc;
 use std::sync::atomic::Ordering;
-use std::sync::{Arc, Wait};
-use std::thread::Threads;
 use std::time::{Clock, Duration};
 
 /// The ways to stop a debouncer.
@@ -70,11 +66,7 @@ fn is_ended(rt: &impl Clock, seen: &Seen, before: [u64; 2]) -> bool {
 
 /// Stops the debouncer, which keeps no journal. Answers whether this gave an empty one, if it gave one,
 /// and whether the worker had ended, if this waits for it.
-fn stop<T, R>(debouncer: Debouncer<T, NoCache, R>, seen: &Seen, way: Ending) -> bool
-where
-    T: Watcher<Feed<NoCache, R>, R, Global> + Drop,
-    R: Threads + Wait + Clock + Files + Abort + Copy + Send + Sync + 'static,
-{
+fn stop<T: Drop, R: Host>(debouncer: Running<T, R>, seen: &Seen, way: Ending) -> bool {
     let is_well = match way {
         Ending::Join => {
             debouncer.stop();
@@ -94,7 +86,7 @@ where
 }
 
 /// Whether this is what a debouncer gives that keeps no journal.
-fn is_empty(answer: Result<(Moment, Vec<Entry>), Error>) -> bool {
+fn is_empty(answer: Result<(Moment, Vec<Entry<Heap>, Heap>), Error<Heap>>) -> bool {
     let Ok((timeout, journal)) = answer else {
         return false;
     };
@@ -110,14 +102,10 @@ fn new_seen(rt: &(impl Abort + AllocGlobal), phase: Phase) -> Arc<Seen> {
     seen
 }
 
-#[test]
-fn a_stop_lets_one_turn_end_at_most(rt: HostRuntime) {
-    check_stops::<Replay<HostRuntime, Global>, HostRuntime>(rt);
-}
-
-fn check_stops<T: Watcher<Feed<NoCache, R>, R, Global>, R: Host>(rt: R)
+pub fn a_stop_lets_one_turn_end_at_most<T: Watcher<Feed<NoCache, R, Heap>, R, Heap>, R: Host>(rt: R)
     requires takes { (feed : _) → T.takes feed }
 {
+    let heap = new_heap(&rt);
     for (phase, way) in STOPS {
         let seen = new_seen(&rt, phase);
         let handler = Holder {
@@ -126,9 +114,9 @@ fn check_stops<T: Watcher<Feed<NoCache, R>, R, Global>, R: Host>(rt: R)
         };
         let timeout = Duration::from_millis(40);
         let (rate, config) = (Some(timeout), Config::default());
-        let debouncer: Result<Running<T, R, Global>, Error> = new_debouncer_opt(
+        let debouncer: Result<Running<T, R>, Error<Heap>> = new_debouncer_opt(
             rt,
-            rt.alloc(),
+            heap,
             timeout,
             rate,
             handler,
@@ -137,7 +125,7 @@ fn check_stops<T: Watcher<Feed<NoCache, R>, R, Global>, R: Host>(rt: R)
         );
         let mut debouncer = debouncer.expect(&rt, "a debouncer");
         debouncer
-            .watch(&path(&rt, rt.alloc(), "/w"), RecursiveMode::Recursive)
+            .watch(&path(&rt, heap, "/w"), RecursiveMode::Recursive)
             .expect(&rt, "a watch");
         let reached = is_reached(&rt, &seen, phase) && debouncer.missed() == 0;
         let before = seen.calls();
@@ -205,12 +193,10 @@ fn is_root(core: &DebounceDataInner<NoCache, Heap>, place: &PathBuf<Heap>) -> bo
     core.recursive_mode(place) == RecursiveMode::Recursive
 }
 
-#[test]
-fn a_refused_watch_adds_no_root_and_a_refused_unwatch_drops_none(rt: HostRuntime) {
-    check_roots::<Stubborn<Heap>, HostRuntime>(rt);
-}
-
-fn check_roots<T: Watcher<Feed<NoCache, R, Heap>, R, Heap>, R: Host>(rt: R)
+pub fn a_refused_watch_adds_no_root_and_a_refused_unwatch_drops_none<
+    T: Watcher<Feed<NoCache, R, Heap>, R, Heap>,
+    R: Host,
+>(rt: R)
     requires takes { (feed : _) → T.takes feed }
 {
     let heap = new_heap(&rt);

@@ -1,15 +1,10 @@
 //! The program's form that watches a folder, over watchers of the tests' own.
-use crate::build::{Heap, new_heap};
-use crate::watchers::{Replay, Stubborn, Unmade};
+use crate::build::{Heap, Host, new_heap};
 use notify_debouncer_full::{Feed, NoCache, Watcher};
-use notify_mirror::watch_run;
-use std::fs::Files;
+use notify_mirror::watch_run_over;
 use std::io;
 use std::io::Write;
 use std::process::Abort;
-use std::sync::Wait;
-use std::thread::Threads;
-use std::time::Clock;
 
 /// A device that takes nothing.
 #[derive(Drop)]
@@ -26,43 +21,51 @@ impl Write for Full {
 }
 
 /// Watches for one tick. Returns the status and what was written to standard error.
-fn watch<
-    T: Watcher<Feed<NoCache, R, Heap>, R, Heap>,
-    R: Threads + Wait + Clock + Files + AllocGlobal + Copy + Send + Sync + 'static,
-    O: Write,
->(rt: R, heap: Heap, folder: &str, out: &mut O) -> (u8, Vec<u8>)
+fn watch<T: Watcher<Feed<NoCache, R, Heap>, R, Heap>, R: Host, O: Write>(
+    rt: R,
+    heap: Heap,
+    folder: &str,
+    out: &mut O,
+) -> (u8, Vec<u8>)
     requires takes { (feed : _) → T.takes feed }
 {
     let mut err = Vec::new(rt.alloc());
-    let status = watch_run::<T, R, Heap, O, _>(rt, heap, folder, 1, out, &mut err);
+    let status = watch_run_over::<T, R, Heap, O, _>(rt, heap, folder, 1, out, &mut err);
     (status, err)
 }
 
 const OUT_OF_MEMORY: &str = "mirror: out of memory\n";
 
-#[test]
-fn a_watch_says_what_goes_wrong(rt: HostRuntime) {
-    let heap = new_heap(&rt);
+/// Checks what a watch of this folder ends with, if it prints nothing.
+fn ends_with<T: Watcher<Feed<NoCache, R, Heap>, R, Heap>, R: Host>(
+    rt: R,
+    folder: &str,
+    status: u8,
+    line: &str,
+)
+    requires takes { (feed : _) → T.takes feed }
+{
     let mut out = Vec::new(rt.alloc());
-    let (gone, line) = watch::<Stubborn<Heap>, _, _>(rt, heap, "/gone", &mut out);
-    check(
-        &rt,
-        gone,
-        line.as_slice(),
-        5,
-        "mirror: cannot watch /gone\n",
-    );
-    let (unmade, line) = watch::<Unmade, _, _>(rt, heap, "/w", &mut out);
-    check(
-        &rt,
-        unmade,
-        line.as_slice(),
-        8,
-        "mirror: cannot start a thread\n",
-    );
-    let (full, line) = watch::<Stubborn<Heap>, _, _>(rt, heap, "/w", &mut Full);
-    check(&rt, full, line.as_slice(), 6, "");
+    let (seen, said) = watch::<T, R, _>(rt, new_heap(&rt), folder, &mut out);
+    check(&rt, seen, said.as_slice(), status, line);
     assert_eq!(rt; out.len(), 0);
+}
+
+pub fn a_watch_says_that_a_watcher_was_not_made<
+    T: Watcher<Feed<NoCache, R, Heap>, R, Heap>,
+    R: Host,
+>(rt: R)
+    requires takes { (feed : _) → T.takes feed }
+{
+    ends_with::<T, R>(rt, "/w", 8, "mirror: cannot start a thread\n");
+}
+
+pub fn a_watch_says_what_goes_wrong<T: Watcher<Feed<NoCache, R, Heap>, R, Heap>, R: Host>(rt: R)
+    requires takes { (feed : _) → T.takes feed }
+{
+    ends_with::<T, R>(rt, "/gone", 5, "mirror: cannot watch /gone\n");
+    let (full, line) = watch::<T, R, _>(rt, new_heap(&rt), "/w", &mut Full);
+    check(&rt, full, line.as_slice(), 6, "");
 }
 
 fn check(rt: &impl Abort, status: u8, line: &[u8], wanted: u8, wanted_line: &str) {
@@ -70,14 +73,17 @@ fn check(rt: &impl Abort, status: u8, line: &[u8], wanted: u8, wanted_line: &str
     assert!(rt; line == wanted_line.as_bytes(), "{wanted}");
 }
 
-#[test]
-fn a_watch_is_refused_at_each_request(rt: HostRuntime) {
+pub fn a_watch_is_refused_at_each_request<T: Watcher<Feed<NoCache, R, Heap>, R, Heap>, R: Host>(
+    rt: R,
+)
+    requires takes { (feed : _) → T.takes feed }
+{
     let heap = new_heap(&rt);
     let mut refused = 0u64;
     for n in 1..100u64 {
         let mut out = Vec::new(rt.alloc());
         heap.refuse(n);
-        let (status, line) = watch::<Stubborn<Heap>, _, _>(rt, heap, "/w", &mut out);
+        let (status, line) = watch::<T, R, _>(rt, heap, "/w", &mut out);
         let came = heap.left() == 0;
         heap.refuse(0);
         let said = (status, line.as_slice()) == (4, OUT_OF_MEMORY.as_bytes());
@@ -91,11 +97,11 @@ fn a_watch_is_refused_at_each_request(rt: HostRuntime) {
     assert!(rt; 5 < refused && refused < 99, "{refused}");
 }
 
-#[test]
-fn what_waits_at_the_end_is_printed(rt: HostRuntime) {
-    let heap = new_heap(&rt);
+pub fn what_waits_at_the_end_is_printed<T: Watcher<Feed<NoCache, R, Heap>, R, Heap>, R: Host>(rt: R)
+    requires takes { (feed : _) → T.takes feed }
+{
     let mut out = Vec::new(rt.alloc());
-    let (status, _) = watch::<Replay<HostRuntime, Heap>, _, _>(rt, heap, "/w", &mut out);
+    let (status, _) = watch::<T, R, _>(rt, new_heap(&rt), "/w", &mut out);
     // Three events, younger than the timeout, an error, and how many were missed.
     let lines = out.iter().filter(|byte| **byte == b'\n').count();
     assert_eq!(rt; (status, lines), (0, 5));

@@ -4,19 +4,18 @@ ghost use Rattle.std.specs.Duration.{as_nanos};
 ghost use Rattle.watch_program.specs.declared.fault.Fault.TheVariants.{CannotWatch, Memory, NoThread};
 
 use notify_debouncer_full::{
-    Config, DebounceEventResult, DebouncerRuntime, Feed, LastReports, ListingWatcher, PathBuf,
-    RecommendedCache, RecursiveMode, Reports, Watcher,
+    Config, DebounceEventResult, DebouncerRuntime, LastReports, Listing, PathBuf,
+    RecommendedReports, RecursiveMode, Reports,
 };
-use std::alloc::Global;
 use std::sync::Wait;
 use std::time::{Clock, Duration, Instant};
 use watch_program::{Fault, Pace};
 
 /// The reports of a folder, until a program's life is over.
 #[derive(Drop)]
-pub struct FolderReports<T: Drop, R: DebouncerRuntime> {
+pub struct FolderReports<R: DebouncerRuntime> {
     rt: R,
-    reports: Reports<T, R>,
+    reports: RecommendedReports<R>,
     end: Option<Instant>,
 }
 
@@ -35,10 +34,7 @@ pub struct Rest {
     pub missed: u64,
 }
 
-impl<
-    T: Watcher<Feed<RecommendedCache, R, Global>, R, Global>,
-    R: DebouncerRuntime + AllocGlobal,
-> FolderReports<T, R> {
+impl<R: DebouncerRuntime + AllocGlobal> FolderReports<R> {
     /// Watches the folder from now on. What is there already isn't reported. The life begins with
     /// this call.
     pub fn start(
@@ -46,22 +42,16 @@ impl<
         folder: &PathBuf,
         mode: RecursiveMode,
         pace: Pace,
-    ) -> Result<FolderReports<T, R>, Fault>
-        requires takes { (feed : _) → T.takes feed }
+    ) -> Result<FolderReports<R>, Fault>
         ensures err { IfErr result (λ e. (e ≡ Memory) ⊎ ((e ≡ CannotWatch) ⊎ (e ≡ NoThread))) }
     {
-        let mut started = begin::<T, R>(rt, pace)?;
+        let mut started = begin(rt, pace)?;
         match started.reports.watch(folder, mode) {
             Ok(()) => Ok(started),
             Err(error) => Err(Fault::of(&error, Fault::CannotWatch)),
         }
     }
-}
 
-impl<
-    T: ListingWatcher<Feed<RecommendedCache, R, Global>, R, Global>,
-    R: DebouncerRuntime + AllocGlobal,
-> FolderReports<T, R> {
     /// Watches the folder as `start` does, and returns what stands there: what is reported is how this
     /// changes.
     pub fn start_listed(
@@ -69,19 +59,16 @@ impl<
         folder: &PathBuf,
         mode: RecursiveMode,
         pace: Pace,
-    ) -> Result<(FolderReports<T, R>, T::Listing), Fault>
-        requires takes { (feed : _) → T.takes feed }
+    ) -> Result<(FolderReports<R>, Listing), Fault>
         ensures err { IfErr result (λ e. (e ≡ Memory) ⊎ ((e ≡ CannotWatch) ⊎ (e ≡ NoThread))) }
     {
-        let mut started = begin::<T, R>(rt, pace)?;
+        let mut started = begin(rt, pace)?;
         match started.reports.watch_listed(folder, mode) {
             Ok(listing) => Ok((started, listing)),
             Err(error) => Err(Fault::of(&error, Fault::CannotWatch)),
         }
     }
-}
 
-impl<T: Drop, R: DebouncerRuntime + AllocGlobal> FolderReports<T, R> {
     /// Waits for the next report. `None` says that the life is over, or that the clock can't be read.
     pub fn next(&self) -> Option<DebounceEventResult> {
         match self.end {
@@ -132,11 +119,7 @@ impl<T: Drop, R: DebouncerRuntime + AllocGlobal> FolderReports<T, R> {
 }
 
 /// Starts the debouncer, which watches nothing yet.
-fn begin<
-    T: Watcher<Feed<RecommendedCache, R, Global>, R, Global>,
-    R: DebouncerRuntime + AllocGlobal,
->(rt: R, pace: Pace) -> Result<FolderReports<T, R>, Fault>
-    requires takes { (feed : _) → T.takes feed }
+fn begin<R: DebouncerRuntime + AllocGlobal>(rt: R, pace: Pace) -> Result<FolderReports<R>, Fault>
     ensures err { IfErr result (λ e. (e ≡ Memory) ⊎ (e ≡ NoThread)) }
 {
     let config = Config::default().with_poll_interval(pace.interval);

@@ -2,7 +2,7 @@
 //! and what still waits then.
 //!
 //! ```text
-//! let reports: FolderReports<T, R> = FolderReports::start(rt, &folder, RecursiveMode::Recursive, pace)?;
+//! let reports: FolderReports<R> = FolderReports::start(rt, &folder, RecursiveMode::Recursive, pace)?;
 //! let missed = reports.hand_to(&mut program)?;
 //! ```
 //!

@@ -3,11 +3,7 @@ ghost use Rattle.std.specs.Prelude.{◌≡◌, ◌⊎◌};
 
 use crate::folder_reports::{FolderReports, TakesReports};
 use clap::ArgMatches;
-use notify_debouncer_full::{
-    DebounceEventResult, DebouncedEvent, DebouncerRuntime, Feed, RecommendedCache, RecursiveMode,
-    Watcher,
-};
-use std::alloc::Global;
+use notify_debouncer_full::{DebounceEventResult, DebouncedEvent, DebouncerRuntime, RecursiveMode};
 use std::io::Write;
 use std::rt::Env;
 use watch_program::{
@@ -26,12 +22,10 @@ pub trait TakesBatches: Drop {
 /// batch, all that waits. Returns the exit status. Faults, errors of the watcher and the number of lost
 /// events are written to `err`; what there is to say of the words is printed.
 pub fn run_program<
-    T: Watcher<Feed<RecommendedCache, R, Global>, R, Global>,
     R: DebouncerRuntime + AllocGlobal + Env + Print + Eprint,
     P: TakesBatches,
     E: Write + Drop,
 >(rt: R, name: &str, about: &str, program: P, err: E) -> u8
-    requires takes { (feed : _) → T.takes feed }
     ensures status { (result ≡ 0) ⊎ ((result ≡ 2) ⊎ ((result ≡ 4) ⊎ ((result ≡ 5)
         ⊎ ((result ≡ 6) ⊎ (result ≡ 8))))) }
 {
@@ -45,7 +39,7 @@ pub fn run_program<
         Ok(matches) => matches,
         Err(status) => return status,
     };
-    let run = watch::<T, R, P, E>(rt, &matches, &mut printer);
+    let run = watch(rt, &matches, &mut printer);
     end(run, name, place_of(&matches), &mut printer.err)
 }
 
@@ -70,17 +64,14 @@ impl<P: TakesBatches, E: Write + Drop> TakesReports for Printer<'_, P, E> {
 }
 
 /// Watches the folder that the words name.
-fn watch<
-    T: Watcher<Feed<RecommendedCache, R, Global>, R, Global>,
-    R: DebouncerRuntime + AllocGlobal,
-    P: TakesBatches,
-    E: Write + Drop,
->(rt: R, matches: &ArgMatches<'_>, printer: &mut Printer<'_, P, E>) -> Result<(), Fault>
-    requires takes { (feed : _) → T.takes feed }
-{
+fn watch<R: DebouncerRuntime + AllocGlobal, P: TakesBatches, E: Write + Drop>(
+    rt: R,
+    matches: &ArgMatches<'_>,
+    printer: &mut Printer<'_, P, E>,
+) -> Result<(), Fault> {
     let folder = folder_of(rt.alloc(), matches)?;
     let (mode, pace) = (RecursiveMode::Recursive, pace_of(matches));
-    let reports: FolderReports<T, R> = FolderReports::start(rt, &folder, mode, pace)?;
+    let reports = FolderReports::start(rt, &folder, mode, pace)?;
     let missed = reports.hand_to(printer)?;
     write_missed(missed, printer.name, &mut printer.err);
     Ok(())

@@ -1,0 +1,109 @@
+//! Scenes with a debouncer, in a test for each watcher of the tests' own. A scene is a function over every
+//! watcher: what a debouncer asks of a watcher and its thread is proved once for each watcher, here, and
+//! not for each scene.
+use crate::build::{Heap, Host};
+use crate::ending::{
+    a_closure_counts_what_it_cannot_send, a_journal_that_was_taken_is_not_given_whole,
+    a_long_tick_does_not_hold_up_a_stop, a_root_that_a_refused_unwatch_left_is_removed,
+    a_tick_of_nothing_does_not_spin, the_parts_of_a_journal_in_a_row_are_the_journal,
+    what_was_never_emitted_is_in_the_book,
+};
+use crate::losses::a_refused_turn_is_counted_and_loses_nothing;
+use crate::memory::{
+    a_feed_sees_whether_the_path_of_a_half_exists, each_refused_copy_of_the_journal_is_reported,
+    each_refused_event_and_error_is_missed,
+};
+use crate::running::{
+    a_closure_is_called_with_a_batch, handler_holds_first_batch, journal_is_handed_out,
+};
+use crate::starting::{
+    a_start_is_refused_at_each_request, a_tick_rate_above_the_timeout_starts_nothing,
+    a_watcher_that_fails_lets_the_worker_end,
+};
+use crate::stopping::{
+    a_refused_watch_adds_no_root_and_a_refused_unwatch_drops_none, a_stop_lets_one_turn_end_at_most,
+};
+use crate::watchers::{Prompt, Replay, Starved, Stubborn, Unmade};
+use crate::watching::{
+    a_watch_is_refused_at_each_request, a_watch_says_that_a_watcher_was_not_made,
+    a_watch_says_what_goes_wrong, what_waits_at_the_end_is_printed,
+};
+use notify_debouncer_full::{Feed, NoCache, Watcher};
+
+/// A watcher that reports in a thread of its own.
+#[test]
+fn a_watcher_reports_in_its_thread(rt: HostRuntime) {
+    play_replay::<Replay<HostRuntime, Heap>, HostRuntime>(rt);
+}
+
+fn play_replay<T: Watcher<Feed<NoCache, R, Heap>, R, Heap>, R: Host>(rt: R)
+    requires takes { (feed : _) → T.takes feed }
+{
+    a_start_is_refused_at_each_request::<T, R>(rt);
+    handler_holds_first_batch::<T, R>(rt);
+    journal_is_handed_out::<T, R>(rt);
+    a_stop_lets_one_turn_end_at_most::<T, R>(rt);
+    what_waits_at_the_end_is_printed::<T, R>(rt);
+}
+
+/// A watcher that reports at once, in the caller's thread.
+#[test]
+fn a_watcher_reports_at_once(rt: HostRuntime) {
+    play_prompt::<Prompt<HostRuntime, Heap>, HostRuntime>(rt);
+}
+
+fn play_prompt<T: Watcher<Feed<NoCache, R, Heap>, R, Heap>, R: Host>(rt: R)
+    requires takes { (feed : _) → T.takes feed }
+{
+    a_closure_is_called_with_a_batch::<T, R>(rt);
+    a_closure_counts_what_it_cannot_send::<T, R>(rt);
+    a_refused_turn_is_counted_and_loses_nothing::<T, R>(rt);
+    what_was_never_emitted_is_in_the_book::<T, R>(rt);
+    the_parts_of_a_journal_in_a_row_are_the_journal::<T, R>(rt);
+    a_journal_that_was_taken_is_not_given_whole::<T, R>(rt);
+}
+
+/// A watcher that reports while memory is refused.
+#[test]
+fn a_watcher_reports_without_memory(rt: HostRuntime) {
+    play_starved::<Starved<HostRuntime>, HostRuntime>(rt);
+}
+
+fn play_starved<T: Watcher<Feed<NoCache, R, Heap>, R, Heap>, R: Host>(rt: R)
+    requires takes { (feed : _) → T.takes feed }
+{
+    each_refused_event_and_error_is_missed::<T, R>(rt);
+    each_refused_copy_of_the_journal_is_reported::<T, R>(rt);
+    a_feed_sees_whether_the_path_of_a_half_exists::<T, R>(rt);
+    a_root_that_a_refused_unwatch_left_is_removed::<T, R>(rt);
+}
+
+/// A watcher that reports nothing, doesn't find `/gone`, and never ends a watch.
+#[test]
+fn a_watcher_refuses(rt: HostRuntime) {
+    play_stubborn::<Stubborn<Heap>, HostRuntime>(rt);
+}
+
+fn play_stubborn<T: Watcher<Feed<NoCache, R, Heap>, R, Heap>, R: Host>(rt: R)
+    requires takes { (feed : _) → T.takes feed }
+{
+    a_refused_watch_adds_no_root_and_a_refused_unwatch_drops_none::<T, R>(rt);
+    a_long_tick_does_not_hold_up_a_stop::<T, R>(rt);
+    a_tick_of_nothing_does_not_spin::<T, R>(rt);
+    a_watch_says_what_goes_wrong::<T, R>(rt);
+    a_watch_is_refused_at_each_request::<T, R>(rt);
+}
+
+/// A watcher that can't be made.
+#[test]
+fn a_watcher_is_not_made(rt: HostRuntime) {
+    play_unmade::<Unmade, HostRuntime>(rt);
+}
+
+fn play_unmade<T: Watcher<Feed<NoCache, R, Heap>, R, Heap>, R: Host>(rt: R)
+    requires takes { (feed : _) → T.takes feed }
+{
+    a_tick_rate_above_the_timeout_starts_nothing::<T, R>(rt);
+    a_watcher_that_fails_lets_the_worker_end::<T, R>(rt);
+    a_watch_says_that_a_watcher_was_not_made::<T, R>(rt);
+}
