@@ -11,13 +11,12 @@ echo 'mine: notify_debouncer_full anyhow' >elsewhere/crates.txt
 cat >elsewhere/crates/mine/src/main.rt <<'END'
 #![tactic(auto)]
 use anyhow::Result;
-use notify_debouncer_full::{DebounceEventResult, PathBuf, RecommendedDebouncer, RecursiveMode, new_debouncer};
+use notify_debouncer_full::{DebounceEventResult, PathBuf, RecursiveMode, new_debouncer};
 use std::time::Duration;
 
 fn main(rt: HostRuntime) -> Result<()> {
     let handler = |_outcome: DebounceEventResult| {};
-    let mut debouncer: RecommendedDebouncer<HostRuntime> =
-        new_debouncer(rt, rt.alloc(), Duration::from_millis(200), None, handler)?;
+    let mut debouncer = new_debouncer(rt, rt.alloc(), Duration::from_millis(200), None, handler)?;
     debouncer.watch(&PathBuf::parse(rt.alloc(), "/")?, RecursiveMode::NonRecursive)?;
     println!(rt; "watched")?;
     debouncer.stop();

@@ -11,7 +11,9 @@ use journal_lines::PathFilter;
 use notify_debouncer_full::{DebounceEventResult, PathBuf};
 use std::alloc::Global;
 use std::io::Write;
+use std::time::Duration;
 use trigger_lines::{Trigger, write_line};
+use watch_loop::TakesReports;
 use watch_program::{Fault, write_errors};
 
 /// The events that wait for a line, which of them count, and where the lines go.
@@ -19,6 +21,8 @@ use watch_program::{Fault, write_errors};
 pub(crate) struct Bursts<'p, O: Drop, E: Drop> {
     pub(crate) alloc: Global,
     pub(crate) folder: PathBuf,
+    /// How long nothing is reported after a burst.
+    pub(crate) quiet: Duration,
     pub(crate) filter: PathFilter<'p>,
     pub(crate) trigger: Trigger,
     pub(crate) out: O,
@@ -28,7 +32,7 @@ pub(crate) struct Bursts<'p, O: Drop, E: Drop> {
 impl<O: Write + Drop, E: Write + Drop> Bursts<'_, O, E> {
     /// Hands in the events that aren't ignored, or prints a line for each error. After an error the
     /// watcher looks again, so no change is lost by one.
-    pub(crate) fn take(&mut self, report: DebounceEventResult) -> Result<(), Fault>
+    fn hand_in(&mut self, report: DebounceEventResult) -> Result<(), Fault>
         ensures handed { IfOk report (λ batch. OnOk result
             (self.new.trigger ≡ self.old.trigger
             ++ passing (filter_rule self.old.filter) batch.items)) }
@@ -55,5 +59,24 @@ impl<O: Write + Drop, E: Write + Drop> Bursts<'_, O, E> {
         ensures taken { self.new.trigger ≡ [] }
     {
         write_line(self.alloc, &mut self.trigger, &self.folder, &mut self.out)
+    }
+}
+
+impl<O: Write + Drop, E: Write + Drop> TakesReports for Bursts<'_, O, E> {
+    fn take(&mut self, report: DebounceEventResult) -> Result<(), Fault> {
+        self.hand_in(report)
+    }
+
+    /// While events wait, a pause ends their burst.
+    fn patience(&self) -> Option<Duration> {
+        if self.trigger.is_empty() {
+            None
+        } else {
+            Some(self.quiet)
+        }
+    }
+
+    fn pass(&mut self) -> Result<(), Fault> {
+        self.write()
     }
 }

@@ -13,9 +13,9 @@ use std::io::Write;
 use std::process::ExitCode;
 use std::time::Duration;
 use trigger_lines::Trigger;
-use watch_loop::{FolderReports, Rest};
+use watch_loop::follow_folder;
 use watch_program::{
-    Fault, command, end, folder_of, matches_of, number, number_of, option, pace_of, place_of,
+    Fault, Pace, command, end, folder_of, matches_of, number, number_of, option, pace_of, place_of,
     words_of, write_missed,
 };
 
@@ -37,53 +37,17 @@ fn command_line<'a>(alloc: Global) -> Result<Command<'a>, AllocError> {
     line.arg(number(alloc, "quiet", "MS").help("a burst ends with such a pause [default: 500]"))
 }
 
-/// Takes what is reported until the life is over. A line is written once events wait and nothing is
-/// reported for so long.
-fn follow<R: DebouncerRuntime + AllocGlobal, O: Write + Drop, E: Write + Drop>(
-    rt: R,
-    reports: &FolderReports<R>,
-    quiet: Duration,
-    bursts: &mut Bursts<'_, O, E>,
-) -> Result<(), Fault> {
-    for _ in rt.forever() {
-        let waits = !bursts.trigger.is_empty();
-        let report = if waits {
-            reports.next_within(quiet)
-        } else {
-            reports.next()
-        };
-        match report {
-            Some(report) => bursts.take(report)?,
-            None if waits => bursts.write()?,
-            None => break,
-        }
-    }
-    Ok(())
-}
-
-/// Takes what was not reported when the life was over, and writes a last line.
-fn finish<O: Write + Drop, E: Write + Drop>(
-    rest: Rest,
-    bursts: &mut Bursts<'_, O, E>,
-) -> Result<(), Fault> {
-    write_missed(rest.missed, NAME, &mut bursts.err);
-    for report in rest.reports {
-        bursts.take(report)?;
-    }
-    bursts.write()
-}
-
 /// Watches the folder, and prints a line for each burst.
 fn watch<R: DebouncerRuntime + AllocGlobal, O: Write + Drop, E: Write + Drop>(
     rt: R,
-    matches: &ArgMatches<'_>,
+    pace: Pace,
     bursts: &mut Bursts<'_, O, E>,
 ) -> Result<(), Fault> {
-    let (mode, pace) = (RecursiveMode::Recursive, pace_of(matches));
-    let reports = FolderReports::start(rt, &bursts.folder, mode, pace)?;
-    let quiet = Duration::from_millis(number_of(matches, "quiet", QUIET));
-    follow(rt, &reports, quiet, bursts)?;
-    finish(reports.finish()?, bursts)
+    let folder = bursts.folder.clone()?;
+    let missed = follow_folder(rt, &folder, RecursiveMode::Recursive, pace, bursts)?;
+    write_missed(missed, NAME, &mut bursts.err);
+    // What came last has no pause after it.
+    bursts.write()
 }
 
 /// Reads what the words say, and watches.
@@ -98,12 +62,13 @@ fn run<R: DebouncerRuntime + AllocGlobal, O: Write + Drop, E: Write + Drop>(
     let mut bursts = Bursts {
         alloc,
         folder: folder_of(alloc, matches)?,
+        quiet: Duration::from_millis(number_of(matches, "quiet", QUIET)),
         filter: patterns.filter(alloc)?,
         trigger: Trigger::new(alloc),
         out,
         err,
     };
-    watch(rt, matches, &mut bursts)
+    watch(rt, pace_of(matches), &mut bursts)
 }
 
 fn main(rt: HostRuntime) -> ExitCode {

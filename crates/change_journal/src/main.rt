@@ -12,7 +12,7 @@ use printer::Printer;
 use std::alloc::Global;
 use std::io::Write;
 use std::process::ExitCode;
-use watch_loop::FolderReports;
+use watch_loop::follow_folder;
 use watch_program::{Fault, end, folder_of, matches_of, pace_of, place_of, words_of, write_missed};
 use words::{NAME, command_line, form_of, patterns_of};
 
@@ -34,8 +34,7 @@ fn run<R: DebouncerRuntime + AllocGlobal, O: Write + Drop, E: Write + Drop>(
     };
     let folder = folder_of(rt.alloc(), matches)?;
     let (mode, pace) = (RecursiveMode::Recursive, pace_of(matches));
-    let reports = FolderReports::start(rt, &folder, mode, pace)?;
-    let missed = reports.hand_to(&mut printer)?;
+    let missed = follow_folder(rt, &folder, mode, pace, &mut printer)?;
     write_missed(missed, NAME, &mut printer.err);
     Ok(())
 }

@@ -49,6 +49,11 @@ impl<R: Files + Drop + AllocGlobal, O: Write + Drop, E: Write + Drop> Follower<R
 
 impl<R: Files + Drop + AllocGlobal, O: Write + Drop, E: Write + Drop> TakesReports
     for Follower<R, O, E> {
+    /// Reads the file for the first time. The watch came first: what changes after this is reported.
+    fn begin(&mut self) -> Result<(), Fault> {
+        self.read()
+    }
+
     fn take(&mut self, report: DebounceEventResult) -> Result<(), Fault> {
         self.follow(&report)
     }

@@ -11,7 +11,7 @@ use notify_debouncer_full::{DebouncerRuntime, PathBuf, RecursiveMode};
 use std::alloc::Global;
 use std::io::Write;
 use std::process::ExitCode;
-use watch_loop::FolderReports;
+use watch_loop::follow_folder;
 use watch_program::{
     Fault, Pace, command, end, matches_of, pace_of, place_of, words_of, write_missed,
 };
@@ -30,11 +30,7 @@ fn watch<R: DebouncerRuntime + AllocGlobal, O: Write + Drop, E: Write + Drop>(
     pace: Pace,
     follower: &mut Follower<R, O, E>,
 ) -> Result<(), Fault> {
-    // The watch comes first: what changes after the first reading is reported.
-    let mode = RecursiveMode::NonRecursive;
-    let reports = FolderReports::start(rt, folder, mode, pace)?;
-    follower.read()?;
-    let missed = reports.hand_to(follower)?;
+    let missed = follow_folder(rt, folder, RecursiveMode::NonRecursive, pace, follower)?;
     write_missed(missed, NAME, &mut follower.err);
     if missed > 0 {
         follower.read()?;

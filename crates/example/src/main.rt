@@ -3,9 +3,7 @@
 #![tactic(auto)]
 
 use anyhow::{Result, bail};
-use notify_debouncer_full::{
-    DebounceEventResult, PathBuf, RecommendedDebouncer, RecursiveMode, new_debouncer,
-};
+use notify_debouncer_full::{DebounceEventResult, PathBuf, RecursiveMode, new_debouncer};
 use std::time::Duration;
 use std::{env, io, thread};
 
@@ -38,13 +36,7 @@ fn main(rt: HostRuntime) -> Result<()> {
         let _ = print(&rt, &outcome);
     };
     let timeout = Duration::from_millis(200);
-    let mut debouncer: RecommendedDebouncer<HostRuntime> = new_debouncer(
-        rt,
-        rt.alloc(),
-        timeout,
-        None,
-        handler,
-    )?;
+    let mut debouncer = new_debouncer(rt, rt.alloc(), timeout, None, handler)?;
     debouncer.watch(
         &PathBuf::parse(rt.alloc(), folder.as_str())?,
         RecursiveMode::Recursive,

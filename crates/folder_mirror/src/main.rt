@@ -9,22 +9,18 @@ mod mirror;
 use clap::{Arg, ArgMatches, Command};
 use copy::FolderCopy;
 use mirror::Mirror;
-use notify_debouncer_full::{DebounceEventResult, DebouncerRuntime, PathBuf, RecursiveMode};
+use notify_debouncer_full::{DebouncerRuntime, PathBuf, RecursiveMode};
 use std::alloc::{AllocError, Global};
 use std::fs;
 use std::io::Write;
 use std::process::ExitCode;
-use std::time::{Clock, Duration, Instant};
-use watch_loop::FolderReports;
+use watch_loop::follow_folder;
 use watch_program::{
     Fault, Pace, command, end, folder_of, matches_of, pace_of, place_of, words_of,
 };
 
 /// The program's name.
 const NAME: &str = "folder_mirror";
-
-/// After how many milliseconds what failed is tried again.
-const PAUSE: u64 = 1000;
 
 /// The command line.
 fn command_line<'a>(alloc: Global) -> Result<Command<'a>, AllocError> {
@@ -56,55 +52,16 @@ fn copy_of<R: DebouncerRuntime + AllocGlobal>(
     }
 }
 
-/// Whether the moment is over.
-fn is_past<R: Clock>(rt: &R, moment: Option<Instant>) -> bool {
-    match (moment, Instant::now(rt)) {
-        (Some(moment), Ok(now)) => now >= moment,
-        _ => false,
-    }
-}
-
-/// Waits for the next report; if something failed, no longer than until it is tried again.
-fn next_report<R: DebouncerRuntime + AllocGlobal>(
-    reports: &FolderReports<R>,
-    failed: bool,
-) -> Option<DebounceEventResult> {
-    if failed {
-        reports.next_within(Duration::from_millis(PAUSE))
-    } else {
-        reports.next()
-    }
-}
-
-/// Carries out what is reported until the life is over. What failed is tried again after a pause.
-fn follow<R: DebouncerRuntime + AllocGlobal, O: Write + Drop, E: Write + Drop>(
-    rt: R,
-    reports: &FolderReports<R>,
-    mirror: &mut Mirror<R, O, E>,
-    life_end: Option<Instant>,
-) -> Result<(), Fault> {
-    for _ in rt.forever() {
-        match next_report(reports, mirror.has_failed()) {
-            Some(report) => mirror.take_report(&report)?,
-            None if mirror.has_failed() && !is_past(&rt, life_end) => mirror.try_again()?,
-            None => return Ok(()),
-        }
-    }
-    Ok(())
-}
-
 /// Watches FROM, makes TO a copy of it, and keeps it one.
 fn keep<R: DebouncerRuntime + AllocGlobal, O: Write + Drop, E: Write + Drop>(
     rt: R,
     mirror: &mut Mirror<R, O, E>,
     pace: Pace,
 ) -> Result<(), Fault> {
-    let life_end = end_of(&rt, pace.life);
-    // The folder is watched first, so that no change after the first look is missed.
-    let reports = FolderReports::start(rt, mirror.from(), RecursiveMode::Recursive, pace)?;
-    mirror.take_all()?;
-    follow(rt, &reports, mirror, life_end)?;
-    mirror.take_rest(&reports.finish()?)
+    let from = mirror.from().clone()?;
+    let missed = follow_folder(rt, &from, RecursiveMode::Recursive, pace, mirror)?;
+    mirror.say_missed(missed);
+    Ok(())
 }
 
 /// Mirrors the folders that the words name.
@@ -116,11 +73,6 @@ fn run<R: DebouncerRuntime + AllocGlobal, O: Write + Drop, E: Write + Drop>(
 ) -> Result<(), Fault> {
     let mut mirror = Mirror::new(rt, copy_of(rt, matches)?, out, err);
     keep(rt, &mut mirror, pace_of(matches))
-}
-
-/// The moment that lies so far ahead, if the clock can be read.
-fn end_of<R: Clock>(rt: &R, life: Option<Duration>) -> Option<Instant> {
-    Instant::now(rt).ok()?.checked_add(life?)
 }
 
 fn main(rt: HostRuntime) -> ExitCode {

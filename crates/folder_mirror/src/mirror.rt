@@ -6,9 +6,13 @@ use batch_plan::naming::name_path;
 use batch_plan::planning::plan;
 use notify_debouncer_full::{DebounceEventResult, DebouncedEvent, DebouncerRuntime, PathBuf};
 use std::io::Write;
+use std::time::Duration;
 use std::{io, mem};
-use watch_loop::Rest;
+use watch_loop::TakesReports;
 use watch_program::{Fault, push_field, write_missed, write_now};
+
+/// After how many milliseconds what failed is tried again.
+const PAUSE: u64 = 1000;
 
 /// A copy that follows its folder, where what it does is said, and events of the paths at which something
 /// failed.
@@ -38,19 +42,14 @@ impl<R: DebouncerRuntime + AllocGlobal, O: Write + Drop, E: Write + Drop> Mirror
         &self.copy.from
     }
 
-    /// Whether something failed and is to be tried again.
-    pub(crate) fn has_failed(&self) -> bool {
-        !self.failed.is_empty()
-    }
-
     /// Brings the whole copy up to date.
-    pub(crate) fn take_all(&mut self) -> Result<(), Fault> {
+    fn take_all(&mut self) -> Result<(), Fault> {
         let batch = all_of(self.rt, &self.copy.from, &self.copy.to)?;
         self.take_batch(batch.as_slice())
     }
 
     /// Takes a report. After errors, or if events were lost, the whole copy is brought up to date.
-    pub(crate) fn take_report(&mut self, report: &DebounceEventResult) -> Result<(), Fault> {
+    fn take_report(&mut self, report: &DebounceEventResult) -> Result<(), Fault> {
         match report {
             Ok(batch) if !batch.iter().any(|event| event.need_rescan()) => {
                 self.take_batch(batch.as_slice())
@@ -59,17 +58,13 @@ impl<R: DebouncerRuntime + AllocGlobal, O: Write + Drop, E: Write + Drop> Mirror
         }
     }
 
-    /// Takes what was reported and not taken yet.
-    pub(crate) fn take_rest(&mut self, rest: &Rest) -> Result<(), Fault> {
-        for report in &rest.reports {
-            self.take_report(report)?;
-        }
-        write_missed(rest.missed, "folder_mirror", &mut self.err);
-        Ok(())
+    /// Says how many events, errors and batches were lost, if any was.
+    pub(crate) fn say_missed(&mut self, missed: u64) {
+        write_missed(missed, "folder_mirror", &mut self.err);
     }
 
     /// Tries again what failed.
-    pub(crate) fn try_again(&mut self) -> Result<(), Fault> {
+    fn try_again(&mut self) -> Result<(), Fault> {
         let failed = mem::replace(&mut self.failed, Vec::new(self.rt.alloc()));
         self.take_batch(failed.as_slice())
     }
@@ -109,6 +104,31 @@ impl<R: DebouncerRuntime + AllocGlobal, O: Write + Drop, E: Write + Drop> Mirror
         let _ = writeln!(self.err, "folder_mirror: cannot {word} {path}: {error}");
         name_path(&mut self.failed, &action.path)?;
         Ok(())
+    }
+}
+
+impl<R: DebouncerRuntime + AllocGlobal, O: Write + Drop, E: Write + Drop> TakesReports
+    for Mirror<R, O, E> {
+    /// Makes the copy. The watch came first: what changes after this look is reported.
+    fn begin(&mut self) -> Result<(), Fault> {
+        self.take_all()
+    }
+
+    fn take(&mut self, report: DebounceEventResult) -> Result<(), Fault> {
+        self.take_report(&report)
+    }
+
+    /// What failed is tried again after a pause.
+    fn patience(&self) -> Option<Duration> {
+        if self.failed.is_empty() {
+            None
+        } else {
+            Some(Duration::from_millis(PAUSE))
+        }
+    }
+
+    fn pass(&mut self) -> Result<(), Fault> {
+        self.try_again()
     }
 }
 

@@ -1,5 +1,5 @@
 //! Reports of a folder of the test's own.
-use crate::build::{TURNS, sleep_a_turn};
+use crate::build::{Host, TURNS, sleep_a_turn};
 use notify_debouncer_full::{
     Config, DebouncerRuntime, PathBuf, RecommendedReports, RecursiveMode, Reports,
 };
@@ -79,7 +79,7 @@ fn the_path_that_fails_is_told(rt: HostRuntime) {
     fs::remove_dir_all(&rt, top.as_str()).expect(&rt, "it is there");
 }
 
-fn check_path<R: DebouncerRuntime + Abort + AllocGlobal>(rt: R, top: &str) {
+fn check_path<R: Host>(rt: R, top: &str) {
     let config = Config::default().with_poll_interval(Duration::from_millis(2));
     let timeout = Duration::from_millis(4);
     let mut reports: RecommendedReports<R> = Reports::start(

@@ -4,8 +4,8 @@ ghost use Rattle.std.specs.Duration.{as_nanos};
 ghost use Rattle.watch_program.specs.declared.fault.Fault.TheVariants.{CannotWatch, Memory, NoThread};
 
 use notify_debouncer_full::{
-    Config, DebounceEventResult, DebouncerRuntime, LastReports, Listing, PathBuf,
-    RecommendedReports, RecursiveMode, Reports,
+    Config, DebounceEventResult, DebouncerRuntime, LastReports, PathBuf, RecommendedReports,
+    RecursiveMode, Reports,
 };
 use std::sync::Wait;
 use std::time::{Clock, Duration, Instant};
@@ -19,10 +19,25 @@ pub struct FolderReports<R: DebouncerRuntime> {
     end: Option<Instant>,
 }
 
-/// What a program does with the reports of a folder.
+/// A program that follows the reports of a folder.
 pub trait TakesReports: Drop {
+    /// What it does once the folder is watched: what changes after a first look, here, is reported.
+    fn begin(&mut self) -> Result<(), Fault> {
+        Ok(())
+    }
+
     /// Takes a report: a batch, or errors. An error ends the program.
     fn take(&mut self, report: DebounceEventResult) -> Result<(), Fault>;
+
+    /// How long it waits for the next report at most. `None` says: as long as it takes.
+    fn patience(&self) -> Option<Duration> {
+        None
+    }
+
+    /// What it does if nothing was reported for so long.
+    fn pass(&mut self) -> Result<(), Fault> {
+        Ok(())
+    }
 }
 
 /// What is left when the reports end.
@@ -52,23 +67,6 @@ impl<R: DebouncerRuntime + AllocGlobal> FolderReports<R> {
         }
     }
 
-    /// Watches the folder as `start` does, and returns what stands there: what is reported is how this
-    /// changes.
-    pub fn start_listed(
-        rt: R,
-        folder: &PathBuf,
-        mode: RecursiveMode,
-        pace: Pace,
-    ) -> Result<(FolderReports<R>, Listing), Fault>
-        ensures err { IfErr result (λ e. (e ≡ Memory) ⊎ ((e ≡ CannotWatch) ⊎ (e ≡ NoThread))) }
-    {
-        let mut started = begin(rt, pace)?;
-        match started.reports.watch_listed(folder, mode) {
-            Ok(listing) => Ok((started, listing)),
-            Err(error) => Err(Fault::of(&error, Fault::CannotWatch)),
-        }
-    }
-
     /// Waits for the next report. `None` says that the life is over, or that the clock can't be read.
     pub fn next(&self) -> Option<DebounceEventResult> {
         match self.end {
@@ -86,20 +84,29 @@ impl<R: DebouncerRuntime + AllocGlobal> FolderReports<R> {
         self.reports.next_within(pause)
     }
 
-    /// Hands on each report until the life is over, and then what was not given yet. Returns how many
-    /// events, errors and batches were lost, since an allocation failed.
-    pub fn hand_to<S: TakesReports>(self, program: &mut S) -> Result<u64, Fault> {
+    /// Returns whether the life is over, or the clock can't be read.
+    fn is_over(&self) -> bool {
+        match self.end {
+            None => false,
+            Some(end) => left(&self.rt, end).is_none(),
+        }
+    }
+
+    /// Hands on each report until the life is over.
+    fn hand_to<S: TakesReports>(&self, program: &mut S) -> Result<(), Fault> {
         for _ in self.rt.forever() {
-            let Some(report) = self.next() else {
-                break;
+            let patience = program.patience();
+            let report = match patience {
+                None => self.next(),
+                Some(pause) => self.next_within(pause),
             };
-            program.take(report)?;
+            match report {
+                Some(report) => program.take(report)?,
+                None if patience.is_some() && !self.is_over() => program.pass()?,
+                None => break,
+            }
         }
-        let rest = self.finish()?;
-        for report in rest.reports {
-            program.take(report)?;
-        }
-        Ok(rest.missed)
+        Ok(())
     }
 
     /// Stops the watcher and the debouncer, waits until both have ended, and returns what was not given
@@ -116,6 +123,26 @@ impl<R: DebouncerRuntime + AllocGlobal> FolderReports<R> {
             missed: last.missed.saturating_add(last.unsent),
         })
     }
+}
+
+/// Watches the folder, and hands on each report until the program's life is over, and then what was not
+/// given yet: what was emitted, and all that waited, as one batch. What is there already isn't reported.
+/// Returns how many events, errors and batches were lost, since an allocation failed.
+pub fn follow_folder<R: DebouncerRuntime + AllocGlobal, S: TakesReports>(
+    rt: R,
+    folder: &PathBuf,
+    mode: RecursiveMode,
+    pace: Pace,
+    program: &mut S,
+) -> Result<u64, Fault> {
+    let reports = FolderReports::start(rt, folder, mode, pace)?;
+    program.begin()?;
+    reports.hand_to(program)?;
+    let rest = reports.finish()?;
+    for report in rest.reports {
+        program.take(report)?;
+    }
+    Ok(rest.missed)
 }
 
 /// Starts the debouncer, which watches nothing yet.

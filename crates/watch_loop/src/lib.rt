@@ -2,16 +2,15 @@
 //! and what still waits then.
 //!
 //! ```text
-//! let reports: FolderReports<R> = FolderReports::start(rt, &folder, RecursiveMode::Recursive, pace)?;
-//! let missed = reports.hand_to(&mut program)?;
+//! let missed = follow_folder(rt, &folder, RecursiveMode::Recursive, pace, &mut program)?;
 //! ```
 //!
-//! A program that does more between two reports asks for each by `next` or `next_within`, and for the
-//! rest by `finish`.
+//! A program that is driven by something else, as by its input, starts [`FolderReports`], asks for each
+//! report by `next` or `next_within`, and for the rest by `finish`.
 #![tactic(auto)]
 
 mod folder_reports;
 mod whole_program;
 
-pub use folder_reports::{FolderReports, Rest, TakesReports};
+pub use folder_reports::{FolderReports, Rest, TakesReports, follow_folder};
 pub use whole_program::{TakesBatches, run_program};

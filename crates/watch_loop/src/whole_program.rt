@@ -1,7 +1,7 @@
 //! A whole program over a folder, from its words to its exit status.
 ghost use Rattle.std.specs.Prelude.{◌≡◌, ◌⊎◌};
 
-use crate::folder_reports::{FolderReports, TakesReports};
+use crate::folder_reports::{TakesReports, follow_folder};
 use clap::ArgMatches;
 use notify_debouncer_full::{DebounceEventResult, DebouncedEvent, DebouncerRuntime, RecursiveMode};
 use std::io::Write;
@@ -71,8 +71,7 @@ fn watch<R: DebouncerRuntime + AllocGlobal, P: TakesBatches, E: Write + Drop>(
 ) -> Result<(), Fault> {
     let folder = folder_of(rt.alloc(), matches)?;
     let (mode, pace) = (RecursiveMode::Recursive, pace_of(matches));
-    let reports = FolderReports::start(rt, &folder, mode, pace)?;
-    let missed = reports.hand_to(printer)?;
+    let missed = follow_folder(rt, &folder, mode, pace, printer)?;
     write_missed(missed, printer.name, &mut printer.err);
     Ok(())
 }
