@@ -2,7 +2,7 @@
 ghost use Rattle.std.specs.Prelude.{◌≡◌, ◌⊎◌, IfErr};
 ghost use Rattle.watch_program.specs.declared.fault.Fault.TheVariants.{NotPattern, Memory};
 
-use clap::{ArgMatches, Command};
+use clap::{Arg, ArgMatches, Command};
 use journal_lines::{Form, Patterns};
 use std::alloc::{AllocError, Global};
 use watch_program::{Fault, command, flag, option};
@@ -13,24 +13,21 @@ pub(crate) const NAME: &str = "change_journal";
 /// The command line.
 pub(crate) fn command_line<'a>(alloc: Global) -> Result<Command<'a>, AllocError> {
     let line = command(alloc, NAME, "Prints the changes below a folder.", "DIR")?;
-    with_patterns(alloc, with_forms(alloc, line)?)
+    let line = line.arg(flag(alloc, "json").long("json").help("print JSON objects"))?;
+    with_patterns(alloc, line.arg(zero(alloc)?)?)
 }
 
-/// The command line, with the words that ask for a form.
-fn with_forms<'a>(alloc: Global, line: Command<'a>) -> Result<Command<'a>, AllocError> {
-    let json = flag(alloc, "json").long("json").help("print JSON objects");
-    let zero = flag(alloc, "zero")
-        .short('0')
-        .conflicts_with("json")?
-        .help("print paths, each with a zero byte after it");
-    line.arg(json)?.arg(zero)
+/// The word that asks for paths.
+fn zero<'a>(alloc: Global) -> Result<Arg<'a>, AllocError> {
+    let zero = flag(alloc, "zero").short('0').conflicts_with("json")?;
+    Ok(zero.help("print paths, each with a zero byte after it"))
 }
 
 /// The command line, with the words that choose events.
 fn with_patterns<'a>(alloc: Global, line: Command<'a>) -> Result<Command<'a>, AllocError> {
     let include = option(alloc, "include", "RE").help("print events with such a path");
-    let exclude = option(alloc, "exclude", "RE").help("leave out events with such paths alone");
-    line.arg(include)?.arg(exclude)
+    let line = line.arg(include)?;
+    line.arg(option(alloc, "exclude", "RE").help("leave out events with such paths alone"))
 }
 
 /// The form that the words ask for.
