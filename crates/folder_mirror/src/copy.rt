@@ -1,8 +1,8 @@
 //! The copy of a folder: actions carried out on it.
 use batch_plan::action::{Action, Standing};
 use batch_plan::target::target_of;
-use notify_debouncer_full::{DebouncerRuntime, PathBuf};
-use std::fs::Metadata;
+use notify_debouncer_full::PathBuf;
+use std::fs::{Files, Metadata};
 use std::{fs, io};
 use watch_program::Fault;
 
@@ -18,7 +18,7 @@ pub(crate) struct FolderCopy<R: Drop> {
     partial: PathBuf,
 }
 
-impl<R: DebouncerRuntime + AllocGlobal> FolderCopy<R> {
+impl<R: Files + AllocGlobal + Copy + Drop> FolderCopy<R> {
     /// Returns the copy `to` of the folder `from`.
     pub(crate) fn new(rt: R, from: PathBuf, to: PathBuf) -> Result<FolderCopy<R>, Fault> {
         let Some(partial) = to.child(PARTIAL)? else {

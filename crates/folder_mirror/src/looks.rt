@@ -2,14 +2,14 @@
 use batch_plan::action::Standing;
 use batch_plan::naming::{name_beside, name_listed};
 use notify_debouncer_full::{
-    DebouncedEvent, DebouncerRuntime, ErrorKind, Folders, Listing, PathBuf, RealFolders,
-    RecursiveMode, list,
+    DebouncedEvent, ErrorKind, Folders, Listing, PathBuf, RealFolders, RecursiveMode, list,
 };
 use std::collections::BTreeMap;
+use std::fs::Files;
 use watch_program::Fault;
 
 /// What stands at the first path of each event.
-pub(crate) fn standing_at<R: DebouncerRuntime + AllocGlobal>(
+pub(crate) fn standing_at<R: Files + AllocGlobal + Copy + Drop>(
     rt: R,
     batch: &[DebouncedEvent],
 ) -> Result<BTreeMap<PathBuf, Standing>, Fault> {
@@ -26,7 +26,7 @@ pub(crate) fn standing_at<R: DebouncerRuntime + AllocGlobal>(
 }
 
 /// What stands at the path, if it is copied. Links aren't followed.
-fn look_at<R: DebouncerRuntime + AllocGlobal>(
+fn look_at<R: Files + AllocGlobal + Copy + Drop>(
     rt: R,
     path: &PathBuf,
 ) -> Result<Option<Standing>, Fault> {
@@ -41,7 +41,7 @@ fn look_at<R: DebouncerRuntime + AllocGlobal>(
 }
 
 /// A batch that names all that stands in the folder, and what the copy has beside that.
-pub(crate) fn all_of<R: DebouncerRuntime + AllocGlobal>(
+pub(crate) fn all_of<R: Files + AllocGlobal + Copy + Drop>(
     rt: R,
     from: &PathBuf,
     to: &PathBuf,
@@ -54,7 +54,7 @@ pub(crate) fn all_of<R: DebouncerRuntime + AllocGlobal>(
 }
 
 /// What stands at the folder and below it.
-fn listing_of<R: DebouncerRuntime + AllocGlobal>(
+fn listing_of<R: Files + AllocGlobal + Copy + Drop>(
     rt: R,
     folder: &PathBuf,
 ) -> Result<Listing, Fault> {

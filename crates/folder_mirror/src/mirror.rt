@@ -4,7 +4,8 @@ use crate::looks::{all_of, standing_at};
 use batch_plan::action::{Action, Standing};
 use batch_plan::naming::name_path;
 use batch_plan::planning::plan;
-use notify_debouncer_full::{DebounceEventResult, DebouncedEvent, DebouncerRuntime, PathBuf};
+use notify_debouncer_full::{DebounceEventResult, DebouncedEvent, PathBuf};
+use std::fs::Files;
 use std::io::Write;
 use std::time::Duration;
 use std::{io, mem};
@@ -25,7 +26,7 @@ pub(crate) struct Mirror<R: Drop, O: Drop, E: Drop> {
     err: E,
 }
 
-impl<R: DebouncerRuntime + AllocGlobal, O: Write + Drop, E: Write + Drop> Mirror<R, O, E> {
+impl<R: Files + AllocGlobal + Copy + Drop, O: Write + Drop, E: Write + Drop> Mirror<R, O, E> {
     /// Returns the mirror of the copy. It says on `out` what it does, and on `err` what failed.
     pub(crate) fn new(rt: R, copy: FolderCopy<R>, out: O, err: E) -> Mirror<R, O, E> {
         Mirror {
@@ -107,7 +108,7 @@ impl<R: DebouncerRuntime + AllocGlobal, O: Write + Drop, E: Write + Drop> Mirror
     }
 }
 
-impl<R: DebouncerRuntime + AllocGlobal, O: Write + Drop, E: Write + Drop> TakesReports
+impl<R: Files + AllocGlobal + Copy + Drop, O: Write + Drop, E: Write + Drop> TakesReports
     for Mirror<R, O, E> {
     /// Makes the copy. The watch came first: what changes after this look is reported.
     fn begin(&mut self) -> Result<(), Fault> {
