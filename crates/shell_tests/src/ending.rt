@@ -1,11 +1,13 @@
 //! Debouncers that end: how soon, and what they give back then.
-use crate::build::{Heap, Host, Outcome, Running, new_heap, path, sleep_a_turn, start};
+use crate::build::{Heap, Host, Running, new_heap, path, sleep_a_turn, start};
 use crate::memory::Silent;
 use crate::running::wait_for_any;
 use notify_debouncer_full::{
-    Book, Command, Config, DebounceDataInner, DebouncedEvent, Entry, ErrorKind, Feed, NoCache,
-    PathBuf, RecursiveMode, Watcher, new_debouncer_opt, new_journaled_debouncer,
+    Book, Command, Config, DebounceDataInner, DebounceEventResult, DebouncedEvent, Entry,
+    ErrorKind, Feed, NoCache, PathBuf, RecursiveMode, Watcher, new_debouncer_opt,
+    new_journaled_debouncer,
 };
+use std::alloc::Global;
 use std::process::Abort;
 use std::sync::Arc;
 use std::sync::atomic::{AtomicU64, Ordering};
@@ -149,17 +151,16 @@ pub fn a_long_tick_does_not_hold_up_a_stop<T: Watcher<Feed<NoCache, R, Heap>, R,
     assert!(rt; soon);
 }
 
-pub fn a_tick_of_nothing_does_not_spin<T: Watcher<Feed<NoCache, R, Heap>, R, Heap>, R: Host>(rt: R)
+pub fn a_tick_of_nothing_does_not_spin<T: Watcher<Feed<NoCache, R>, R, Global>, R: Host>(rt: R)
     requires takes { (feed : _) → T.takes feed }
 {
-    let heap = new_heap(&rt);
     let start = Instant::now(&rt).expect(&rt, "a clock");
-    let made: Result<Running<T, R>, _> = new_journaled_debouncer(
+    let made: Result<Running<T, R, Global>, _> = new_journaled_debouncer(
         rt,
-        heap,
+        rt.alloc(),
         Duration::from_millis(4),
         Some(Duration::from_nanos(0)),
-        |_outcome: Outcome| {},
+        |_outcome: DebounceEventResult| {},
         NoCache::new(),
         Config::default(),
     );
@@ -178,24 +179,21 @@ pub fn a_tick_of_nothing_does_not_spin<T: Watcher<Feed<NoCache, R, Heap>, R, Hea
     );
 }
 
-pub fn a_closure_counts_what_it_cannot_send<T: Watcher<Feed<NoCache, R, Heap>, R, Heap>, R: Host>(
-    rt: R,
-)
+pub fn a_closure_counts_what_it_cannot_send<T: Watcher<Feed<NoCache, R>, R, Global>, R: Host>(rt: R)
     requires takes { (feed : _) → T.takes feed }
 {
-    let heap = new_heap(&rt);
     let (to, from) = crossbeam_channel::unbounded(rt.alloc()).expect(&rt, "memory");
     let lost = Arc::new(rt.alloc(), AtomicU64::new(0)).expect(&rt, "memory");
     let count = Arc::try_clone(&lost).expect(&rt, "memory");
-    let send = move |outcome: Outcome| {
-        if to.send(&rt, outcome.is_ok()).is_err() {
+    let send = move |outcome: DebounceEventResult| {
+        if to.send(&rt, outcome).is_err() {
             count.fetch_add(1, Ordering::SeqCst);
         }
     };
     drop(from);
-    let made: Result<Running<T, R>, _> = new_debouncer_opt(
+    let made: Result<Running<T, R, Global>, _> = new_debouncer_opt(
         rt,
-        heap,
+        rt.alloc(),
         Duration::from_millis(4),
         None,
         send,
@@ -204,7 +202,7 @@ pub fn a_closure_counts_what_it_cannot_send<T: Watcher<Feed<NoCache, R, Heap>, R
     );
     let mut debouncer = made.expect(&rt, "a debouncer");
     debouncer
-        .watch(&path(&rt, heap, "/w"), RecursiveMode::Recursive)
+        .watch(&path(&rt, rt.alloc(), "/w"), RecursiveMode::Recursive)
         .expect(&rt, "a watch");
     let counted = wait_for_any(&rt, &lost);
     debouncer.finish();

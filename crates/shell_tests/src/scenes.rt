@@ -29,6 +29,7 @@ use crate::watching::{
     a_watch_says_what_goes_wrong, what_waits_at_the_end_is_printed,
 };
 use notify_debouncer_full::{Feed, NoCache, Watcher};
+use std::alloc::Global;
 
 /// A watcher that reports in a thread of its own.
 #[test]
@@ -55,12 +56,24 @@ fn a_watcher_reports_at_once(rt: HostRuntime) {
 fn play_prompt<T: Watcher<Feed<NoCache, R, Heap>, R, Heap>, R: Host>(rt: R)
     requires takes { (feed : _) → T.takes feed }
 {
-    a_closure_is_called_with_a_batch::<T, R>(rt);
-    a_closure_counts_what_it_cannot_send::<T, R>(rt);
     a_refused_turn_is_counted_and_loses_nothing::<T, R>(rt);
     what_was_never_emitted_is_in_the_book::<T, R>(rt);
     the_parts_of_a_journal_in_a_row_are_the_journal::<T, R>(rt);
     a_journal_that_was_taken_is_not_given_whole::<T, R>(rt);
+}
+
+/// The same, and the handler is a closure.
+#[test]
+fn a_watcher_reports_to_a_closure(rt: HostRuntime) {
+    play_closures::<Prompt<HostRuntime, Global>, HostRuntime>(rt);
+}
+
+fn play_closures<T: Watcher<Feed<NoCache, R>, R, Global>, R: Host>(rt: R)
+    requires takes { (feed : _) → T.takes feed }
+{
+    a_closure_is_called_with_a_batch::<T, R>(rt);
+    a_closure_counts_what_it_cannot_send::<T, R>(rt);
+    a_tick_of_nothing_does_not_spin::<T, R>(rt);
 }
 
 /// A watcher that reports while memory is refused.
@@ -89,7 +102,6 @@ fn play_stubborn<T: Watcher<Feed<NoCache, R, Heap>, R, Heap>, R: Host>(rt: R)
 {
     a_refused_watch_adds_no_root_and_a_refused_unwatch_drops_none::<T, R>(rt);
     a_long_tick_does_not_hold_up_a_stop::<T, R>(rt);
-    a_tick_of_nothing_does_not_spin::<T, R>(rt);
     a_watch_says_what_goes_wrong::<T, R>(rt);
     a_watch_is_refused_at_each_request::<T, R>(rt);
 }
