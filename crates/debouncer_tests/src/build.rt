@@ -1,16 +1,14 @@
 //! What several tests build. There is memory for it, so each call gives what it is asked for.
 use mirror_script::read_script;
 use notify_debouncer_full::{Command, PathBuf};
-use refusing_allocator::Refusing;
-use std::alloc::{Allocator, Global};
+use refusing_allocator::TestHeap;
+use std::alloc::Allocator;
 use std::fmt::Debug;
 use std::process::Abort;
 
-pub type Heap = &'static Refusing<Global>;
-
-pub fn new_heap(rt: &(impl Abort + AllocGlobal)) -> Heap {
-    let heap = Box::new(rt.alloc(), Refusing::new(rt.alloc())).expect(rt, "memory");
-    Box::leak(heap)
+/// Memory of the test's own, which refuses nothing yet.
+pub fn new_heap<A: TestHeap>(rt: &(impl Abort + AllocGlobal)) -> A {
+    A::new(rt.alloc()).expect(rt, "memory")
 }
 
 pub fn path<A: Allocator + Copy + Debug>(rt: &impl Abort, alloc: A, text: &str) -> PathBuf<A> {

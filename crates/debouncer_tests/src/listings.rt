@@ -1,8 +1,10 @@
 //! Each request for memory refused in turn.
-use crate::build::{Heap, new_heap, path};
+use crate::build::{new_heap, path};
 use crate::trees::{Notes, entries, listing, root, tree};
 use fake_folders::tree::TreeFolders;
 use notify_debouncer_full::{Listing, PathBuf, Polled, RecursiveMode, compare, list, poll_round};
+use refusing_allocator::{Heap, TestHeap};
+use std::alloc::Allocator;
 use std::process::Abort;
 
 const OLD: &str = "/ folder, /a folder, /a/x file 1, /b file 2, /c file 3";
@@ -13,7 +15,7 @@ const NEW: &str = "/ folder, /a file 1, /b file 3, /d folder, /d/y file 1";
 const MOST: u64 = 200;
 
 /// Refuses request after request of the call, until it succeeds, and checks that each refusal is one.
-fn check_refusals(rt: &impl Abort, heap: Heap, name: &str, call: &mut impl Call) {
+fn check_refusals<A: TestHeap>(rt: &impl Abort, heap: A, name: &str, call: &mut impl Call<A>) {
     for n in 1..MOST {
         heap.refuse(n);
         let taken = call.is_taken(rt, heap, n);
@@ -27,16 +29,16 @@ fn check_refusals(rt: &impl Abort, heap: Heap, name: &str, call: &mut impl Call)
 }
 
 /// A call that is made again after each refusal.
-trait Call {
+trait Call<A: TestHeap> {
     /// Whether the call succeeds; otherwise nothing has changed.
-    fn is_taken(&mut self, rt: &impl Abort, heap: Heap, n: u64) -> bool;
+    fn is_taken(&mut self, rt: &impl Abort, heap: A, n: u64) -> bool;
 }
 
 #[derive(Drop)]
 struct Gathered;
 
-impl Call for Gathered {
-    fn is_taken(&mut self, rt: &impl Abort, heap: Heap, n: u64) -> bool {
+impl<A: TestHeap> Call<A> for Gathered {
+    fn is_taken(&mut self, rt: &impl Abort, heap: A, n: u64) -> bool {
         heap.refuse(0);
         let given = entries(rt, heap, OLD);
         heap.refuse(n);
@@ -45,39 +47,39 @@ impl Call for Gathered {
 }
 
 #[derive(Drop)]
-struct Compared {
-    old: Listing<Heap>,
-    new: Listing<Heap>,
+struct Compared<A: Allocator> {
+    old: Listing<A>,
+    new: Listing<A>,
 }
 
-impl Call for Compared {
-    fn is_taken(&mut self, _rt: &impl Abort, heap: Heap, _n: u64) -> bool {
+impl<A: TestHeap> Call<A> for Compared<A> {
+    fn is_taken(&mut self, _rt: &impl Abort, heap: A, _n: u64) -> bool {
         compare(heap, &self.old, &self.new).is_ok()
     }
 }
 
 #[derive(Drop)]
-struct Listed {
-    folders: TreeFolders<Heap>,
-    roots: Vec<(PathBuf<Heap>, RecursiveMode), Heap>,
+struct Listed<A: Allocator> {
+    folders: TreeFolders<A>,
+    roots: Vec<(PathBuf<A>, RecursiveMode), A>,
 }
 
-impl Call for Listed {
-    fn is_taken(&mut self, _rt: &impl Abort, heap: Heap, _n: u64) -> bool {
+impl<A: TestHeap> Call<A> for Listed<A> {
+    fn is_taken(&mut self, _rt: &impl Abort, heap: A, _n: u64) -> bool {
         list(heap, &mut self.folders, self.roots.as_slice()).is_ok()
     }
 }
 
 #[derive(Drop)]
-struct Polls {
-    folders: TreeFolders<Heap>,
-    roots: Vec<(PathBuf<Heap>, RecursiveMode), Heap>,
-    last: Listing<Heap>,
+struct Polls<A: Allocator> {
+    folders: TreeFolders<A>,
+    roots: Vec<(PathBuf<A>, RecursiveMode), A>,
+    last: Listing<A>,
     notes: Notes,
 }
 
-impl Call for Polls {
-    fn is_taken(&mut self, rt: &impl Abort, heap: Heap, _n: u64) -> bool {
+impl<A: TestHeap> Call<A> for Polls<A> {
+    fn is_taken(&mut self, rt: &impl Abort, heap: A, _n: u64) -> bool {
         let before = self.last.len();
         let taken = poll_round(
             heap,
@@ -96,14 +98,14 @@ impl Call for Polls {
 }
 
 #[derive(Drop)]
-struct Watches {
-    folders: TreeFolders<Heap>,
-    polled: Polled<Heap>,
-    place: PathBuf<Heap>,
+struct Watches<A: Allocator> {
+    folders: TreeFolders<A>,
+    polled: Polled<A>,
+    place: PathBuf<A>,
 }
 
-impl Call for Watches {
-    fn is_taken(&mut self, rt: &impl Abort, _heap: Heap, _n: u64) -> bool {
+impl<A: TestHeap> Call<A> for Watches<A> {
+    fn is_taken(&mut self, rt: &impl Abort, _heap: A, _n: u64) -> bool {
         let taken = self
             .polled
             .watch(&mut self.folders, &self.place, RecursiveMode::Recursive)
@@ -116,40 +118,56 @@ impl Call for Watches {
 
 #[test]
 fn listings_are_made_or_refused(rt: HostRuntime) {
-    let heap = new_heap(&rt);
-    check_refusals(&rt, heap, "from_entries", &mut Gathered);
-    let old = listing(&rt, heap, OLD);
-    let new = listing(&rt, heap, NEW);
-    check_refusals(&rt, heap, "compare", &mut Compared { old, new });
+    refuse_listings::<Heap, _>(&rt);
+}
+
+fn refuse_listings<A: TestHeap, R: Abort + AllocGlobal>(rt: &R) {
+    let heap: A = new_heap(rt);
+    check_refusals(rt, heap, "from_entries", &mut Gathered);
+    let old = listing(rt, heap, OLD);
+    let new = listing(rt, heap, NEW);
+    check_refusals(rt, heap, "compare", &mut Compared { old, new });
 }
 
 #[test]
 fn folders_are_listed_or_refused(rt: HostRuntime) {
-    let heap = new_heap(&rt);
-    let folders = tree(&rt, heap, OLD);
-    let roots = root(&rt, heap, "/");
-    check_refusals(&rt, heap, "list", &mut Listed { folders, roots });
+    refuse_lists::<Heap, _>(&rt);
+}
+
+fn refuse_lists<A: TestHeap, R: Abort + AllocGlobal>(rt: &R) {
+    let heap: A = new_heap(rt);
+    let folders = tree(rt, heap, OLD);
+    let roots = root(rt, heap, "/");
+    check_refusals(rt, heap, "list", &mut Listed { folders, roots });
 }
 
 #[test]
 fn a_refused_round_keeps_the_last_listing(rt: HostRuntime) {
-    let heap = new_heap(&rt);
+    refuse_rounds::<Heap, _>(&rt);
+}
+
+fn refuse_rounds<A: TestHeap, R: Abort + AllocGlobal>(rt: &R) {
+    let heap: A = new_heap(rt);
     let mut call = Polls {
-        folders: tree(&rt, heap, NEW),
-        roots: root(&rt, heap, "/"),
-        last: listing(&rt, heap, OLD),
-        notes: Notes::new(&rt),
+        folders: tree(rt, heap, NEW),
+        roots: root(rt, heap, "/"),
+        last: listing(rt, heap, OLD),
+        notes: Notes::new(rt),
     };
-    check_refusals(&rt, heap, "poll_round", &mut call);
+    check_refusals(rt, heap, "poll_round", &mut call);
 }
 
 #[test]
 fn a_refused_watch_changes_nothing(rt: HostRuntime) {
-    let heap = new_heap(&rt);
+    refuse_watches::<Heap, _>(&rt);
+}
+
+fn refuse_watches<A: TestHeap, R: Abort + AllocGlobal>(rt: &R) {
+    let heap: A = new_heap(rt);
     let mut call = Watches {
-        folders: tree(&rt, heap, OLD),
+        folders: tree(rt, heap, OLD),
         polled: Polled::new(heap),
-        place: path(&rt, heap, "/a"),
+        place: path(rt, heap, "/a"),
     };
-    check_refusals(&rt, heap, "watch", &mut call);
+    check_refusals(rt, heap, "watch", &mut call);
 }

@@ -1,6 +1,7 @@
 //! What asks for memory, and how often.
-use crate::build::{Heap, commands, new_heap, path};
+use crate::build::{commands, new_heap, path};
 use notify_debouncer_full::{DebounceDataInner, NoCache};
+use refusing_allocator::{Heap, RefusingHeap};
 use std::process::Abort;
 
 /// More requests than any test makes.
@@ -8,14 +9,14 @@ const MANY: u64 = 1_000_000;
 
 #[test]
 fn a_path_takes_one_allocation(rt: HostRuntime) {
-    let heap = new_heap(&rt);
+    let heap: Heap = new_heap(&rt);
     check_requests(&rt, heap, "/a/b/c", 1);
     check_requests(&rt, heap, "/a//b/./c/", 1);
     check_requests(&rt, heap, "", 0);
 }
 
 /// Checks the number of requests to parse the text and to copy the path.
-fn check_requests(rt: &impl Abort, heap: Heap, text: &str, wanted: u64) {
+fn check_requests(rt: &impl Abort, heap: impl RefusingHeap, text: &str, wanted: u64) {
     heap.refuse(MANY);
     let read = path(rt, heap, text);
     let to_parse = MANY.saturating_sub(heap.left());
@@ -38,7 +39,7 @@ const SCRIPTS: [&str; 4] = [
 /// A copy of an event would ask for memory for each of its paths.
 #[test]
 fn a_tick_moves_what_it_emits(rt: HostRuntime) {
-    let heap = new_heap(&rt);
+    let heap: Heap = new_heap(&rt);
     let [one, two, one_of_many, two_of_many] = SCRIPTS.map(|script| requests_of_tick(
         &rt, heap, script,
     ));
@@ -46,14 +47,18 @@ fn a_tick_moves_what_it_emits(rt: HostRuntime) {
 }
 
 /// A debouncer that has run the script.
-fn core_after(rt: &impl Abort, heap: Heap, script: &str) -> DebounceDataInner<NoCache, Heap> {
+fn core_after<A: RefusingHeap>(
+    rt: &impl Abort,
+    heap: A,
+    script: &str,
+) -> DebounceDataInner<NoCache, A> {
     let mut core = DebounceDataInner::new(heap, NoCache::new(), 50);
     core.run(commands(rt, heap, script)).expect(rt, "memory");
     core
 }
 
 /// How many requests for memory a tick makes after the script: it emits one event.
-fn requests_of_tick(rt: &impl Abort, heap: Heap, script: &str) -> u64 {
+fn requests_of_tick(rt: &impl Abort, heap: impl RefusingHeap, script: &str) -> u64 {
     heap.refuse(0);
     let mut core = core_after(rt, heap, script);
     heap.refuse(MANY);

@@ -1,5 +1,5 @@
 //! Debouncers that end: how soon, and what they give back then.
-use crate::build::{Heap, Host, Running, new_heap, path, sleep_a_turn, start};
+use crate::build::{Host, Running, new_heap, path, sleep_a_turn, start};
 use crate::memory::Silent;
 use crate::running::wait_for_any;
 use notify_debouncer_full::{
@@ -7,6 +7,7 @@ use notify_debouncer_full::{
     ErrorKind, Feed, NoCache, PathBuf, RecursiveMode, Watcher, new_debouncer_opt,
     new_journaled_debouncer,
 };
+use refusing_allocator::TestHeap;
 use std::alloc::Global;
 use std::process::Abort;
 use std::sync::Arc;
@@ -23,13 +24,15 @@ fn millis_since(rt: &(impl Abort + Clock), start: Instant) -> u128 {
     start.elapsed(rt).expect(rt, "a clock").as_millis()
 }
 
-pub fn what_was_never_emitted_is_in_the_book<T: Watcher<Feed<NoCache, R, Heap>, R, Heap>, R: Host>(
-    rt: R,
-)
+pub fn what_was_never_emitted_is_in_the_book<
+    T: Watcher<Feed<NoCache, R, A>, R, A>,
+    R: Host,
+    A: TestHeap,
+>(rt: R)
     requires takes { (feed : _) → T.takes feed }
 {
-    let heap = new_heap(&rt);
-    let mut debouncer: Running<T, R> = start(rt, heap, long(), Silent);
+    let heap: A = new_heap(&rt);
+    let mut debouncer: Running<T, R, A> = start(rt, heap, long(), Silent);
     debouncer
         .watch(&path(&rt, heap, "/w"), RecursiveMode::Recursive)
         .expect(&rt, "a watch");
@@ -42,10 +45,10 @@ pub fn what_was_never_emitted_is_in_the_book<T: Watcher<Feed<NoCache, R, Heap>, 
 }
 
 /// Checks that the book has these events, which are three, and an error, and nothing was emitted.
-fn check_pending(
+fn check_pending<A: TestHeap>(
     rt: &impl Abort,
-    book: &Book<NoCache, Heap>,
-    seen: &Vec<DebouncedEvent<Heap>, Heap>,
+    book: &Book<NoCache, A>,
+    seen: &Vec<DebouncedEvent<A>, A>,
 ) {
     let rest = book.outlook().expect(rt, "memory");
     assert!(rt; &rest == seen);
@@ -54,7 +57,7 @@ fn check_pending(
 }
 
 /// Whether the core gives the replies of this part of a journal to its commands.
-fn goes_on(core: &mut DebounceDataInner<NoCache, Heap>, part: Vec<Entry<Heap>, Heap>) -> bool {
+fn goes_on<A: TestHeap>(core: &mut DebounceDataInner<NoCache, A>, part: Vec<Entry<A>, A>) -> bool {
     for entry in part {
         let Entry {
             from: _,
@@ -69,14 +72,15 @@ fn goes_on(core: &mut DebounceDataInner<NoCache, Heap>, part: Vec<Entry<Heap>, H
 }
 
 pub fn the_parts_of_a_journal_in_a_row_are_the_journal<
-    T: Watcher<Feed<NoCache, R, Heap>, R, Heap>,
+    T: Watcher<Feed<NoCache, R, A>, R, A>,
     R: Host,
+    A: TestHeap,
 >(rt: R)
     requires takes { (feed : _) → T.takes feed }
 {
-    let heap = new_heap(&rt);
+    let heap: A = new_heap(&rt);
     let place = path(&rt, heap, "/w");
-    let mut debouncer: Running<T, R> = start(rt, heap, long(), Silent);
+    let mut debouncer: Running<T, R, A> = start(rt, heap, long(), Silent);
     debouncer
         .watch(&place, RecursiveMode::Recursive)
         .expect(&rt, "a watch");
@@ -93,34 +97,54 @@ pub fn the_parts_of_a_journal_in_a_row_are_the_journal<
     let (book, missed) = debouncer.finish();
     assert!(rt; !asked && missed == 0);
     assert_eq!(rt; [first.len(), empty.len(), second.len()], [5, 0, 1]);
-    let mut core = DebounceDataInner::new(heap, NoCache::new(), 3_600_000_000_000);
-    assert!(rt; goes_on(&mut core, first));
-    assert!(rt; goes_on(&mut core, second));
-    check_last_part(&rt, core, book);
+    check_parts(&rt, heap, [first, second], book);
 }
 
-/// Checks that the book's journal has five entries, which lead the core to the book's state.
-fn check_last_part(
+/// Checks that these parts of a journal, and then five entries of the book's own, lead a new core to the
+/// book's state.
+fn check_parts<A: TestHeap>(
     rt: &impl Abort,
-    core: DebounceDataInner<NoCache, Heap>,
-    book: Book<NoCache, Heap>,
+    heap: A,
+    parts: [Vec<Entry<A>, A>; 2],
+    book: Book<NoCache, A>,
 ) {
-    let (mut core, mut book) = (core, book);
+    let mut book = book;
+    let mut core = DebounceDataInner::new(heap, NoCache::new(), 3_600_000_000_000);
+    for part in parts {
+        assert!(rt; goes_on(&mut core, part));
+    }
+    check_last_part(rt, &mut core, &mut book);
+    assert!(rt; is_same(rt, &core, &book));
+}
+
+fn check_last_part<A: TestHeap>(
+    rt: &impl Abort,
+    core: &mut DebounceDataInner<NoCache, A>,
+    book: &mut Book<NoCache, A>,
+) {
     let part = book.take_journal();
     assert!(rt; part.len() == 5 && !book.is_journaled());
-    assert!(rt; goes_on(&mut core, part));
-    let reached = core.outlook().expect(rt, "memory");
-    assert!(rt; reached == book.outlook().expect(rt, "memory"));
+    assert!(rt; goes_on(core, part));
+}
+
+/// Whether the same events wait in both.
+fn is_same<A: TestHeap>(
+    rt: &impl Abort,
+    core: &DebounceDataInner<NoCache, A>,
+    book: &Book<NoCache, A>,
+) -> bool {
+    core.outlook().expect(rt, "memory") == book.outlook().expect(rt, "memory")
 }
 
 pub fn a_journal_that_was_taken_is_not_given_whole<
-    T: Watcher<Feed<NoCache, R, Heap>, R, Heap>,
+    T: Watcher<Feed<NoCache, R, A>, R, A>,
     R: Host,
+    A: TestHeap,
 >(rt: R)
     requires takes { (feed : _) → T.takes feed }
 {
-    let heap = new_heap(&rt);
-    let mut debouncer: Running<T, R> = start(rt, heap, long(), Silent);
+    let heap: A = new_heap(&rt);
+    let mut debouncer: Running<T, R, A> = start(rt, heap, long(), Silent);
     debouncer
         .watch(&path(&rt, heap, "/w"), RecursiveMode::Recursive)
         .expect(&rt, "a watch");
@@ -129,19 +153,21 @@ pub fn a_journal_that_was_taken_is_not_given_whole<
     assert_eq!(rt; (taken.len(), journal.len()), (5, 0));
 }
 
-pub fn a_long_tick_does_not_hold_up_a_stop<T: Watcher<Feed<NoCache, R, Heap>, R, Heap>, R: Host>(
-    rt: R,
-)
+pub fn a_long_tick_does_not_hold_up_a_stop<
+    T: Watcher<Feed<NoCache, R, A>, R, A>,
+    R: Host,
+    A: TestHeap,
+>(rt: R)
     requires takes { (feed : _) → T.takes feed }
 {
-    let heap = new_heap(&rt);
+    let heap: A = new_heap(&rt);
     let mut soon = false;
     // A machine that is busy elsewhere may need another try.
     for _ in 0..3 {
         let begun = Instant::now(&rt).expect(&rt, "a clock");
-        let stopped: Running<T, R> = start(rt, heap, long(), Silent);
+        let stopped: Running<T, R, A> = start(rt, heap, long(), Silent);
         stopped.stop();
-        let finished: Running<T, R> = start(rt, heap, long(), Silent);
+        let finished: Running<T, R, A> = start(rt, heap, long(), Silent);
         finished.finish();
         if millis_since(&rt, begun) < 2000 {
             soon = true;
@@ -210,10 +236,10 @@ pub fn a_closure_counts_what_it_cannot_send<T: Watcher<Feed<NoCache, R>, R, Glob
 }
 
 /// Watches the path no longer, without memory. Returns whether memory was what lacked.
-fn is_starved<T: Watcher<Feed<NoCache, R, Heap>, R, Heap>, R: Host>(
-    heap: Heap,
-    debouncer: &mut Running<T, R>,
-    place: &PathBuf<Heap>,
+fn is_starved<T: Watcher<Feed<NoCache, R, A>, R, A>, R: Host, A: TestHeap>(
+    heap: A,
+    debouncer: &mut Running<T, R, A>,
+    place: &PathBuf<A>,
 ) -> bool {
     heap.refuse(u64::MAX);
     let refusal = debouncer.unwatch(place).err().map(|error| error.kind);
@@ -222,13 +248,14 @@ fn is_starved<T: Watcher<Feed<NoCache, R, Heap>, R, Heap>, R: Host>(
 }
 
 pub fn a_root_that_a_refused_unwatch_left_is_removed<
-    T: Watcher<Feed<NoCache, R, Heap>, R, Heap>,
+    T: Watcher<Feed<NoCache, R, A>, R, A>,
     R: Host,
+    A: TestHeap,
 >(rt: R)
     requires takes { (feed : _) → T.takes feed }
 {
-    let heap = new_heap(&rt);
-    let mut debouncer: Running<T, R> = start(rt, heap, long(), Silent);
+    let heap: A = new_heap(&rt);
+    let mut debouncer: Running<T, R, A> = start(rt, heap, long(), Silent);
     let place = path(&rt, heap, "/w");
     debouncer
         .watch(&place, RecursiveMode::Recursive)

@@ -1,15 +1,20 @@
 //! What could not be sent, and turns that were refused.
-use crate::build::{Heap, Host, Outcome, Running, TURNS, channel, new_heap, path, start};
+use crate::build::{Host, Outcome, Running, TURNS, channel, new_heap, path, start};
 use crossbeam_channel::Receiver;
 use notify_debouncer_full::{DebounceEventHandler, Feed, NoCache, RecursiveMode, SendTo, Watcher};
-use std::process::Abort;
+use refusing_allocator::{Heap, TestHeap};
+use std::alloc::Allocator;
 use std::sync::Wait;
 use std::thread;
 use std::time::{Clock, Duration};
 
 #[test]
 fn what_cannot_be_sent_is_counted(rt: HostRuntime) {
-    let heap = new_heap(&rt);
+    check_unsent::<HostRuntime, Heap>(rt);
+}
+
+fn check_unsent<R: Host, A: TestHeap>(rt: R) {
+    let heap: A = new_heap(&rt);
     let (sender, receiver) = crossbeam_channel::unbounded(heap).expect(&rt, "memory");
     let (mut handler, unsent) = SendTo::counted(rt, heap, sender).expect(&rt, "memory");
     heap.refuse(u64::MAX);
@@ -28,7 +33,7 @@ fn what_cannot_be_sent_is_counted(rt: HostRuntime) {
 }
 
 /// Waits for a batch, and answers whether one came.
-fn has_batch(rt: &(impl Wait + Clock), from: &Receiver<Outcome>) -> bool {
+pub fn has_batch(rt: &(impl Wait + Clock), from: &Receiver<Outcome<impl Allocator>>) -> bool {
     for _ in 0..TURNS {
         if let Ok(Ok(_batch)) = from.recv_timeout(rt, Duration::from_millis(1)) {
             return true;
@@ -38,16 +43,17 @@ fn has_batch(rt: &(impl Wait + Clock), from: &Receiver<Outcome>) -> bool {
 }
 
 pub fn a_refused_turn_is_counted_and_loses_nothing<
-    T: Watcher<Feed<NoCache, R, Heap>, R, Heap>,
+    T: Watcher<Feed<NoCache, R, A>, R, A>,
     R: Host,
+    A: TestHeap,
 >(rt: R)
     requires takes { (feed : _) → T.takes feed }
 {
-    let heap = new_heap(&rt);
+    let heap: A = new_heap(&rt);
     let (sender, from) = channel(&rt);
     let handler = SendTo::new(rt, sender);
     // The first tick comes after memory is refused.
-    let mut debouncer: Running<T, R> = start(rt, heap, Duration::from_secs(1), handler);
+    let mut debouncer: Running<T, R, A> = start(rt, heap, Duration::from_secs(1), handler);
     debouncer
         .watch(&path(&rt, heap, "/w"), RecursiveMode::Recursive)
         .expect(&rt, "a watch");

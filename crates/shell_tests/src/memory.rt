@@ -1,9 +1,11 @@
 //! Each request for memory refused in turn, and what a feed notes of an event.
-use crate::build::{Heap, Host, Outcome, Running, commands, new_heap, path, start};
+use crate::build::{Host, Outcome, Running, commands, new_heap, path, start};
 use notify_debouncer_full::{
     Book, Command, Config, DebounceEventHandler, Entry, Error, ErrorKind, Feed, NoCache, PathBuf,
     RecursiveMode, Watcher, command_step, tick_step,
 };
+use refusing_allocator::{Heap, TestHeap};
+use std::alloc::Allocator;
 use std::process::Abort;
 use std::time::Duration;
 
@@ -13,7 +15,7 @@ const WAITING: &str =
     "timeout 50\nevent 0 Create(Any) - /b\nroot Recursive /r\nerror PathNotFound\nerror PathNotFound\nerror PathNotFound\nerror PathNotFound\ntick 0\ntick 0\n";
 
 /// Carries out the commands of [`WAITING`].
-fn fill(rt: &impl Abort, heap: Heap, book: &mut Book<NoCache, Heap>) {
+fn fill<A: TestHeap>(rt: &impl Abort, heap: A, book: &mut Book<NoCache, A>) {
     for command in commands(rt, heap, WAITING) {
         command_step(book, 0, command);
     }
@@ -21,9 +23,9 @@ fn fill(rt: &impl Abort, heap: Heap, book: &mut Book<NoCache, Heap>) {
 
 /// Ticks while the nth request for memory is refused, and then while none is. Answers how many events
 /// and how many errors came of each, and whether that many requests came.
-fn tick_twice(
-    heap: Heap,
-    book: &mut Book<NoCache, Heap>,
+fn tick_twice<A: TestHeap>(
+    heap: A,
+    book: &mut Book<NoCache, A>,
     n: u64,
 ) -> ([usize; 2], [usize; 2], bool) {
     heap.refuse(n);
@@ -35,7 +37,7 @@ fn tick_twice(
 
 /// Refuses the nth request for memory of a tick. Checks what stands after that, and answers whether
 /// that many requests came.
-fn check_tick(rt: &impl Abort, heap: Heap, keeps: bool, n: u64) -> bool {
+fn check_tick(rt: &impl Abort, heap: impl TestHeap, keeps: bool, n: u64) -> bool {
     let mut book = new_book(heap, keeps);
     fill(rt, heap, &mut book);
     let ([given, errors], [rest, later], came) = tick_twice(heap, &mut book, n);
@@ -46,12 +48,12 @@ fn check_tick(rt: &impl Abort, heap: Heap, keeps: bool, n: u64) -> bool {
 }
 
 /// How many events and how many errors a tick gives.
-fn counts_of(book: &mut Book<NoCache, Heap>) -> [usize; 2] {
+fn counts_of(book: &mut Book<NoCache, impl TestHeap>) -> [usize; 2] {
     let (batch, errors) = tick_step(book, 100);
     [batch.map_or(0, |events| events.len()), errors.len()]
 }
 
-fn new_book(heap: Heap, journaled: bool) -> Book<NoCache, Heap> {
+fn new_book<A: TestHeap>(heap: A, journaled: bool) -> Book<NoCache, A> {
     if journaled {
         Book::journaled(heap, NoCache::new(), 50)
     } else {
@@ -61,11 +63,15 @@ fn new_book(heap: Heap, journaled: bool) -> Book<NoCache, Heap> {
 
 #[test]
 fn a_refused_tick_loses_nothing(rt: HostRuntime) {
-    let heap = new_heap(&rt);
+    refuse_ticks::<Heap, _>(&rt);
+}
+
+fn refuse_ticks<A: TestHeap, R: Abort + AllocGlobal>(rt: &R) {
+    let heap: A = new_heap(rt);
     for journaled in [false, true] {
         let mut refused = 0u64;
         for n in 1..100u64 {
-            if !check_tick(&rt, heap, journaled, n) {
+            if !check_tick(rt, heap, journaled, n) {
                 break;
             }
             refused = n;
@@ -78,12 +84,12 @@ fn a_refused_tick_loses_nothing(rt: HostRuntime) {
 #[derive(Drop)]
 pub(crate) struct Silent;
 
-impl DebounceEventHandler<Outcome> for Silent {
+impl<A: Allocator> DebounceEventHandler<Outcome<A>> for Silent {
     ghost ready = { λ _. Unit {0} };
 
     ghost handles = { λ _ _ _. Unit {0} };
 
-    fn handle_event(&mut self, _event: Outcome)
+    fn handle_event(&mut self, _event: Outcome<A>)
         ensures again { Unit {0} }
         ensures handled { Unit {0} }
     {}
@@ -93,10 +99,10 @@ impl DebounceEventHandler<Outcome> for Silent {
 const ROOM: u32 = 20;
 
 /// Whether something is missed if the nth request for memory is refused.
-fn is_missed<T: Watcher<Feed<NoCache, R, Heap>, R, Heap>, R: Host>(
+fn is_missed<T: Watcher<Feed<NoCache, R, A>, R, A>, R: Host, A: TestHeap>(
     rt: &R,
-    debouncer: &mut Running<T, R>,
-    place: &PathBuf<Heap>,
+    debouncer: &mut Running<T, R, A>,
+    place: &PathBuf<A>,
     n: u64,
 ) -> bool {
     let config = Config::default().with_poll_interval(Duration::from_nanos(n));
@@ -113,15 +119,17 @@ fn is_missed<T: Watcher<Feed<NoCache, R, Heap>, R, Heap>, R: Host>(
     false
 }
 
-pub fn each_refused_event_and_error_is_missed<T: Watcher<Feed<NoCache, R, Heap>, R, Heap>, R: Host>(
-    rt: R,
-)
+pub fn each_refused_event_and_error_is_missed<
+    T: Watcher<Feed<NoCache, R, A>, R, A>,
+    R: Host,
+    A: TestHeap,
+>(rt: R)
     requires takes { (feed : _) → T.takes feed }
 {
-    let heap = new_heap(&rt);
+    let heap: A = new_heap(&rt);
     for place in ["/a", "/error"] {
         // The worker sleeps all the while, and asks for no memory.
-        let mut debouncer: Running<T, R> = start(rt, heap, Duration::from_secs(240), Silent);
+        let mut debouncer: Running<T, R, A> = start(rt, heap, Duration::from_secs(240), Silent);
         let place = path(&rt, heap, place);
         assert!(rt; !is_missed(&rt, &mut debouncer, &place, 0));
         let mut missed = 0u64;
@@ -140,15 +148,16 @@ pub fn each_refused_event_and_error_is_missed<T: Watcher<Feed<NoCache, R, Heap>,
 }
 
 pub fn each_refused_copy_of_the_journal_is_reported<
-    T: Watcher<Feed<NoCache, R, Heap>, R, Heap>,
+    T: Watcher<Feed<NoCache, R, A>, R, A>,
     R: Host,
+    A: TestHeap,
 >(rt: R)
     requires takes { (feed : _) → T.takes feed }
 {
-    let heap = new_heap(&rt);
+    let heap: A = new_heap(&rt);
     let mut count = 0u64;
     for n in 1..200u64 {
-        let mut debouncer: Running<T, R> = start(rt, heap, Duration::from_millis(4), Silent);
+        let mut debouncer: Running<T, R, A> = start(rt, heap, Duration::from_millis(4), Silent);
         debouncer
             .watch(&path(&rt, heap, "/a"), RecursiveMode::Recursive)
             .expect(&rt, "memory");
@@ -172,7 +181,7 @@ pub fn each_refused_copy_of_the_journal_is_reported<
 }
 
 /// Whether the first path of each event existed when it was fed.
-fn existing(rt: &(impl Abort + AllocGlobal), journal: &[Entry<Heap>]) -> String {
+fn existing(rt: &(impl Abort + AllocGlobal), journal: &[Entry<impl TestHeap>]) -> String {
     let mut text = String::new(rt.alloc());
     for entry in journal {
         if let Command::Event(_, _, exists) = &entry.command {
@@ -184,13 +193,14 @@ fn existing(rt: &(impl Abort + AllocGlobal), journal: &[Entry<Heap>]) -> String 
 }
 
 pub fn a_feed_sees_whether_the_path_of_a_half_exists<
-    T: Watcher<Feed<NoCache, R, Heap>, R, Heap>,
+    T: Watcher<Feed<NoCache, R, A>, R, A>,
     R: Host,
+    A: TestHeap,
 >(rt: R)
     requires takes { (feed : _) → T.takes feed }
 {
-    let heap = new_heap(&rt);
-    let mut debouncer: Running<T, R> = start(rt, heap, Duration::from_millis(4), Silent);
+    let heap: A = new_heap(&rt);
+    let mut debouncer: Running<T, R, A> = start(rt, heap, Duration::from_millis(4), Silent);
     for place in ["/", "/nothing has this name"] {
         debouncer
             .watch(&path(&rt, heap, place), RecursiveMode::Recursive)

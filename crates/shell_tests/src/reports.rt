@@ -1,11 +1,15 @@
-//! Reports of a folder of the test's own.
-use crate::build::{Host, TURNS, sleep_a_turn};
+//! What is reported of a folder of the test's own.
+use crate::build::{Host, TURNS, channel, path, sleep_a_turn};
+use crate::losses::has_batch;
 use notify_debouncer_full::{
-    Config, DebouncerRuntime, PathBuf, RecommendedReports, RecursiveMode, Reports,
+    Config, DebouncerRuntime, PathBuf, RecommendedReports, RecursiveMode, Reports, SendTo,
+    new_debouncer_with_config,
 };
+use std::alloc::Global;
 use std::fs::Files;
 use std::os::unix::fs::symlink;
 use std::process::Abort;
+use std::rt::Env;
 use std::time::{Clock, Duration};
 use std::{env, fs, process};
 
@@ -69,17 +73,25 @@ fn follow_link(
     (first, told, tells(rt, reports, None))
 }
 
-#[test]
-fn the_path_that_fails_is_told(rt: HostRuntime) {
-    let base = env::temp_dir(&rt).expect(&rt, "a folder for tests");
-    let id = process::id(rt.process());
-    let top = format!(in rt.alloc(); "{}/failed_{id}", base.as_str()).expect(&rt, "memory");
-    make_tree(&rt, top.as_str());
-    check_path(rt, top.as_str());
-    fs::remove_dir_all(&rt, top.as_str()).expect(&rt, "it is there");
+/// The path of a folder of this test alone, in the process of this number.
+fn new_top(rt: &(impl Abort + AllocGlobal + Env), id: u32, name: &str) -> String {
+    let base = env::temp_dir(rt).expect(rt, "a folder for tests");
+    format!(in rt.alloc(); "{}/{name}_{id}", base.as_str()).expect(rt, "memory")
 }
 
-fn check_path<R: Host>(rt: R, top: &str) {
+#[test]
+fn the_path_that_fails_is_told(rt: HostRuntime) {
+    let top = new_top(&rt, process::id(rt.process()), "failed");
+    make_tree(&rt, top.as_str());
+    let (answer, lost) = watch_link(rt, top.as_str());
+    fs::remove_dir_all(&rt, top.as_str()).expect(&rt, "it is there");
+    let ([_, errors], told, told_none) = answer;
+    assert!(rt; errors > 0 && told && told_none);
+    assert_eq!(rt; lost, (0, 0));
+}
+
+/// Returns what [`follow_link`] does, and how many items and calls were lost.
+fn watch_link<R: Host>(rt: R, top: &str) -> (([usize; 2], bool, bool), (u64, u64)) {
     let config = Config::default().with_poll_interval(Duration::from_millis(2));
     let timeout = Duration::from_millis(4);
     let mut reports: RecommendedReports<R> = Reports::start(
@@ -95,6 +107,38 @@ fn check_path<R: Host>(rt: R, top: &str) {
         .expect(&rt, "a watch");
     let answer = follow_link(&rt, top, &reports, &file);
     let last = reports.finish();
-    assert!(rt; answer.0[1] > 0 && answer.1 && answer.2);
-    assert_eq!(rt; (last.missed, last.unsent), (0, 0));
+    (answer, (last.missed, last.unsent))
+}
+
+#[test]
+fn a_config_says_how_often_the_watcher_looks(rt: HostRuntime) {
+    let top = new_top(&rt, process::id(rt.process()), "looked_at");
+    fs::create_dir(&rt, top.as_str()).expect(&rt, "the top");
+    // Without a config it looks each second.
+    let late = sees_a_file(rt, top.as_str(), "/x", Duration::from_secs(3600));
+    let soon = sees_a_file(rt, top.as_str(), "/y", Duration::from_millis(2));
+    fs::remove_dir_all(&rt, top.as_str()).expect(&rt, "it is there");
+    assert_eq!(rt; (late, soon), (false, true));
+}
+
+/// Whether a file that is made in a watched folder is reported within two seconds, if the watcher looks
+/// at it so often.
+fn sees_a_file<R: Host>(rt: R, top: &str, name: &str, interval: Duration) -> bool {
+    let (to, from) = channel::<Global>(&rt);
+    let made = new_debouncer_with_config(
+        rt,
+        rt.alloc(),
+        Duration::from_millis(4),
+        None,
+        SendTo::new(rt, to),
+        Config::default().with_poll_interval(interval),
+    );
+    let mut debouncer = made.expect(&rt, "a debouncer");
+    debouncer
+        .watch(&path(&rt, rt.alloc(), top), RecursiveMode::Recursive)
+        .expect(&rt, "a watch");
+    fs::write(&rt, entry(&rt, top, name).as_str(), "x").expect(&rt, "a file");
+    let seen = has_batch(&rt, &from);
+    debouncer.stop();
+    seen
 }

@@ -1,7 +1,7 @@
 //! Scenes with a debouncer, in a test for each watcher of the tests' own. A scene is a function over every
 //! watcher: what a debouncer asks of a watcher and its thread is proved once for each watcher, here, and
 //! not for each scene.
-use crate::build::{Heap, Host};
+use crate::build::Host;
 use crate::ending::{
     a_closure_counts_what_it_cannot_send, a_journal_that_was_taken_is_not_given_whole,
     a_long_tick_does_not_hold_up_a_stop, a_root_that_a_refused_unwatch_left_is_removed,
@@ -29,37 +29,38 @@ use crate::watching::{
     a_watch_says_what_goes_wrong, what_waits_at_the_end_is_printed,
 };
 use notify_debouncer_full::{Feed, NoCache, Watcher};
+use refusing_allocator::{Heap, TestHeap};
 use std::alloc::Global;
 
 /// A watcher that reports in a thread of its own.
 #[test]
 fn a_watcher_reports_in_its_thread(rt: HostRuntime) {
-    play_replay::<Replay<HostRuntime, Heap>, HostRuntime>(rt);
+    play_replay::<Replay<HostRuntime, Heap>, HostRuntime, Heap>(rt);
 }
 
-fn play_replay<T: Watcher<Feed<NoCache, R, Heap>, R, Heap>, R: Host>(rt: R)
+fn play_replay<T: Watcher<Feed<NoCache, R, A>, R, A>, R: Host, A: TestHeap>(rt: R)
     requires takes { (feed : _) → T.takes feed }
 {
-    a_start_is_refused_at_each_request::<T, R>(rt);
-    handler_holds_first_batch::<T, R>(rt);
-    journal_is_handed_out::<T, R>(rt);
-    a_stop_lets_one_turn_end_at_most::<T, R>(rt);
-    what_waits_at_the_end_is_printed::<T, R>(rt);
+    a_start_is_refused_at_each_request::<T, R, A>(rt);
+    handler_holds_first_batch::<T, R, A>(rt);
+    journal_is_handed_out::<T, R, A>(rt);
+    a_stop_lets_one_turn_end_at_most::<T, R, A>(rt);
+    what_waits_at_the_end_is_printed::<T, R, A>(rt);
 }
 
 /// A watcher that reports at once, in the caller's thread.
 #[test]
 fn a_watcher_reports_at_once(rt: HostRuntime) {
-    play_prompt::<Prompt<HostRuntime, Heap>, HostRuntime>(rt);
+    play_prompt::<Prompt<HostRuntime, Heap>, HostRuntime, Heap>(rt);
 }
 
-fn play_prompt<T: Watcher<Feed<NoCache, R, Heap>, R, Heap>, R: Host>(rt: R)
+fn play_prompt<T: Watcher<Feed<NoCache, R, A>, R, A>, R: Host, A: TestHeap>(rt: R)
     requires takes { (feed : _) → T.takes feed }
 {
-    a_refused_turn_is_counted_and_loses_nothing::<T, R>(rt);
-    what_was_never_emitted_is_in_the_book::<T, R>(rt);
-    the_parts_of_a_journal_in_a_row_are_the_journal::<T, R>(rt);
-    a_journal_that_was_taken_is_not_given_whole::<T, R>(rt);
+    a_refused_turn_is_counted_and_loses_nothing::<T, R, A>(rt);
+    what_was_never_emitted_is_in_the_book::<T, R, A>(rt);
+    the_parts_of_a_journal_in_a_row_are_the_journal::<T, R, A>(rt);
+    a_journal_that_was_taken_is_not_given_whole::<T, R, A>(rt);
 }
 
 /// The same, and the handler is a closure.
@@ -79,43 +80,43 @@ fn play_closures<T: Watcher<Feed<NoCache, R>, R, Global>, R: Host>(rt: R)
 /// A watcher that reports while memory is refused.
 #[test]
 fn a_watcher_reports_without_memory(rt: HostRuntime) {
-    play_starved::<Starved<HostRuntime>, HostRuntime>(rt);
+    play_starved::<Starved<HostRuntime, Heap>, HostRuntime, Heap>(rt);
 }
 
-fn play_starved<T: Watcher<Feed<NoCache, R, Heap>, R, Heap>, R: Host>(rt: R)
+fn play_starved<T: Watcher<Feed<NoCache, R, A>, R, A>, R: Host, A: TestHeap>(rt: R)
     requires takes { (feed : _) → T.takes feed }
 {
-    each_refused_event_and_error_is_missed::<T, R>(rt);
-    each_refused_copy_of_the_journal_is_reported::<T, R>(rt);
-    a_feed_sees_whether_the_path_of_a_half_exists::<T, R>(rt);
-    a_root_that_a_refused_unwatch_left_is_removed::<T, R>(rt);
+    each_refused_event_and_error_is_missed::<T, R, A>(rt);
+    each_refused_copy_of_the_journal_is_reported::<T, R, A>(rt);
+    a_feed_sees_whether_the_path_of_a_half_exists::<T, R, A>(rt);
+    a_root_that_a_refused_unwatch_left_is_removed::<T, R, A>(rt);
 }
 
 /// A watcher that reports nothing, doesn't find `/gone`, and never ends a watch.
 #[test]
 fn a_watcher_refuses(rt: HostRuntime) {
-    play_stubborn::<Stubborn<Heap>, HostRuntime>(rt);
+    play_stubborn::<Stubborn<Heap>, HostRuntime, Heap>(rt);
 }
 
-fn play_stubborn<T: Watcher<Feed<NoCache, R, Heap>, R, Heap>, R: Host>(rt: R)
+fn play_stubborn<T: Watcher<Feed<NoCache, R, A>, R, A>, R: Host, A: TestHeap>(rt: R)
     requires takes { (feed : _) → T.takes feed }
 {
-    a_refused_watch_adds_no_root_and_a_refused_unwatch_drops_none::<T, R>(rt);
-    a_long_tick_does_not_hold_up_a_stop::<T, R>(rt);
-    a_watch_says_what_goes_wrong::<T, R>(rt);
-    a_watch_is_refused_at_each_request::<T, R>(rt);
+    a_refused_watch_adds_no_root_and_a_refused_unwatch_drops_none::<T, R, A>(rt);
+    a_long_tick_does_not_hold_up_a_stop::<T, R, A>(rt);
+    a_watch_says_what_goes_wrong::<T, R, A>(rt);
+    a_watch_is_refused_at_each_request::<T, R, A>(rt);
 }
 
 /// A watcher that can't be made.
 #[test]
 fn a_watcher_is_not_made(rt: HostRuntime) {
-    play_unmade::<Unmade, HostRuntime>(rt);
+    play_unmade::<Unmade, HostRuntime, Heap>(rt);
 }
 
-fn play_unmade<T: Watcher<Feed<NoCache, R, Heap>, R, Heap>, R: Host>(rt: R)
+fn play_unmade<T: Watcher<Feed<NoCache, R, A>, R, A>, R: Host, A: TestHeap>(rt: R)
     requires takes { (feed : _) → T.takes feed }
 {
-    a_tick_rate_above_the_timeout_starts_nothing::<T, R>(rt);
-    a_watcher_that_fails_lets_the_worker_end::<T, R>(rt);
-    a_watch_says_that_a_watcher_was_not_made::<T, R>(rt);
+    a_tick_rate_above_the_timeout_starts_nothing::<T, R, A>(rt);
+    a_watcher_that_fails_lets_the_worker_end::<T, R, A>(rt);
+    a_watch_says_that_a_watcher_was_not_made::<T, R, A>(rt);
 }

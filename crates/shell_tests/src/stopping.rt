@@ -1,11 +1,12 @@
 //! Debouncers that are stopped, and watchers that refuse.
-use crate::build::{Heap, Host, Running, new_heap, path, start};
+use crate::build::{Host, Running, new_heap, path, start};
 use crate::memory::Silent;
 use crate::running::{Holder, Seen, wait_for, wait_for_any};
 use notify_debouncer_full::{
     Config, DebounceDataInner, Entry, Error, ErrorKind, Feed, Moment, NoCache, PathBuf,
     RecursiveMode, Watcher, new_debouncer_opt,
 };
+use refusing_allocator::TestHeap;
 use std::process::Abort;
 use std::sync::Arc;
 use std::sync::atomic::Ordering;
@@ -66,7 +67,11 @@ fn is_ended(rt: &impl Clock, seen: &Seen, before: [u64; 2]) -> bool {
 
 /// Stops the debouncer, which keeps no journal. Answers whether this gave an empty one, if it gave one,
 /// and whether the worker had ended, if this waits for it.
-fn stop<T: Drop, R: Host>(debouncer: Running<T, R>, seen: &Seen, way: Ending) -> bool {
+fn stop<T: Drop, R: Host, A: TestHeap>(
+    debouncer: Running<T, R, A>,
+    seen: &Seen,
+    way: Ending,
+) -> bool {
     let is_well = match way {
         Ending::Join => {
             debouncer.stop();
@@ -86,7 +91,7 @@ fn stop<T: Drop, R: Host>(debouncer: Running<T, R>, seen: &Seen, way: Ending) ->
 }
 
 /// Whether this is what a debouncer gives that keeps no journal.
-fn is_empty(answer: Result<(Moment, Vec<Entry<Heap>, Heap>), Error<Heap>>) -> bool {
+fn is_empty<A: TestHeap>(answer: Result<(Moment, Vec<Entry<A>, A>), Error<A>>) -> bool {
     let Ok((timeout, journal)) = answer else {
         return false;
     };
@@ -102,10 +107,14 @@ fn new_seen(rt: &(impl Abort + AllocGlobal), phase: Phase) -> Arc<Seen> {
     seen
 }
 
-pub fn a_stop_lets_one_turn_end_at_most<T: Watcher<Feed<NoCache, R, Heap>, R, Heap>, R: Host>(rt: R)
+pub fn a_stop_lets_one_turn_end_at_most<
+    T: Watcher<Feed<NoCache, R, A>, R, A>,
+    R: Host,
+    A: TestHeap,
+>(rt: R)
     requires takes { (feed : _) → T.takes feed }
 {
-    let heap = new_heap(&rt);
+    let heap: A = new_heap(&rt);
     for (phase, way) in STOPS {
         let seen = new_seen(&rt, phase);
         let handler = Holder {
@@ -114,7 +123,7 @@ pub fn a_stop_lets_one_turn_end_at_most<T: Watcher<Feed<NoCache, R, Heap>, R, He
         };
         let timeout = Duration::from_millis(40);
         let (rate, config) = (Some(timeout), Config::default());
-        let debouncer: Result<Running<T, R>, Error<Heap>> = new_debouncer_opt(
+        let debouncer: Result<Running<T, R, A>, Error<A>> = new_debouncer_opt(
             rt,
             heap,
             timeout,
@@ -137,7 +146,7 @@ pub fn a_stop_lets_one_turn_end_at_most<T: Watcher<Feed<NoCache, R, Heap>, R, He
 }
 
 /// A core without a cache that has carried out the journal's commands.
-fn replayed(heap: Heap, journal: Vec<Entry<Heap>, Heap>) -> DebounceDataInner<NoCache, Heap> {
+fn replayed<A: TestHeap>(heap: A, journal: Vec<Entry<A>, A>) -> DebounceDataInner<NoCache, A> {
     let mut core = DebounceDataInner::new(heap, NoCache::new(), 0);
     for entry in journal {
         core.step(entry.command);
@@ -146,7 +155,7 @@ fn replayed(heap: Heap, journal: Vec<Entry<Heap>, Heap>) -> DebounceDataInner<No
 }
 
 /// Why a call was refused, if it was.
-fn word_of(answer: Result<(), Error<Heap>>) -> &'static str {
+fn word_of(answer: Result<(), Error<impl TestHeap>>) -> &'static str {
     match answer {
         Ok(()) => "",
         Err(error) => match error.kind {
@@ -159,10 +168,10 @@ fn word_of(answer: Result<(), Error<Heap>>) -> &'static str {
 }
 
 /// Watches a path, and returns why it was refused, if it was. There is no memory for `/starved`.
-fn refusal_of<T: Watcher<Feed<NoCache, R, Heap>, R, Heap>, R: Host>(
+fn refusal_of<T: Watcher<Feed<NoCache, R, A>, R, A>, R: Host, A: TestHeap>(
     rt: &R,
-    heap: Heap,
-    debouncer: &mut Running<T, R>,
+    heap: A,
+    debouncer: &mut Running<T, R, A>,
     place: &str,
 ) -> &'static str {
     let place = path(rt, heap, place);
@@ -174,10 +183,10 @@ fn refusal_of<T: Watcher<Feed<NoCache, R, Heap>, R, Heap>, R: Host>(
 }
 
 /// Which of these paths are watched with what is below them, as the journal tells.
-fn roots_in(
+fn roots_in<A: TestHeap>(
     rt: &impl Abort,
-    heap: Heap,
-    journal: Vec<Entry<Heap>, Heap>,
+    heap: A,
+    journal: Vec<Entry<A>, A>,
     places: [&str; 3],
 ) -> [bool; 3] {
     let core = replayed(heap, journal);
@@ -189,18 +198,19 @@ fn roots_in(
     ]
 }
 
-fn is_root(core: &DebounceDataInner<NoCache, Heap>, place: &PathBuf<Heap>) -> bool {
+fn is_root<A: TestHeap>(core: &DebounceDataInner<NoCache, A>, place: &PathBuf<A>) -> bool {
     core.recursive_mode(place) == RecursiveMode::Recursive
 }
 
 pub fn a_refused_watch_adds_no_root_and_a_refused_unwatch_drops_none<
-    T: Watcher<Feed<NoCache, R, Heap>, R, Heap>,
+    T: Watcher<Feed<NoCache, R, A>, R, A>,
     R: Host,
+    A: TestHeap,
 >(rt: R)
     requires takes { (feed : _) → T.takes feed }
 {
-    let heap = new_heap(&rt);
-    let mut debouncer: Running<T, R> = start(rt, heap, Duration::from_millis(4), Silent);
+    let heap: A = new_heap(&rt);
+    let mut debouncer: Running<T, R, A> = start(rt, heap, Duration::from_millis(4), Silent);
     let places = ["/gone", "/starved", "/w"];
     let gone = refusal_of(&rt, heap, &mut debouncer, "/gone");
     let starved = refusal_of(&rt, heap, &mut debouncer, "/starved");

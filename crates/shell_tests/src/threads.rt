@@ -1,15 +1,15 @@
 //! Scripts in threads.
-use crate::build::{CREATED, Heap, TURNS, commands, new_heap, sleep_a_turn};
+use crate::build::{CREATED, Host, TURNS, commands, new_heap, sleep_a_turn};
 use crate::watching::Full;
 use mirror_threads::threads_run;
 use notify_debouncer_full::{Entry, Error, ErrorKind, Meet, NoMeet, Reply, run_threads};
+use refusing_allocator::{Heap, TestHeap};
 use std::alloc::AllocError;
 use std::io;
 use std::io::Read;
 use std::process::Abort;
 use std::sync::Wait;
 use std::sync::atomic::{AtomicBool, AtomicU64, Ordering};
-use std::thread::Threads;
 
 /// Raises its script's flag before the script's first step, and waits for the other's.
 #[derive(Drop)]
@@ -105,16 +105,20 @@ fn add_entry(text: &mut String, entry: &Entry) -> Result<(), AllocError> {
 
 #[test]
 fn a_run_is_refused_at_each_request(rt: HostRuntime) {
-    let heap = new_heap(&rt);
+    refuse_runs::<HostRuntime, Heap>(&rt);
+}
+
+fn refuse_runs<R: Host, A: TestHeap>(rt: &R) {
+    let heap: A = new_heap(rt);
     let mut refused = 0u64;
     for n in 1..200u64 {
         heap.refuse(0);
         let mut scripts = Vec::new(heap);
         scripts
-            .push(commands(&rt, heap, CREATED))
-            .expect(&rt, "memory");
+            .push(commands(rt, heap, CREATED))
+            .expect(rt, "memory");
         heap.refuse(n);
-        let answer = run_threads(&rt, heap, 50, scripts, &NoMeet);
+        let answer = run_threads(rt, heap, 50, scripts, &NoMeet);
         let came = heap.left() == 0;
         let refusal = answer.err();
         if !came {
@@ -133,10 +137,10 @@ const REFUSED: &str = "mirror: out of memory\n";
 
 /// Runs the script as `mirror --threads` does, while the nth request for memory is refused. Answers
 /// the status, and what was written to standard output and to standard error.
-fn run_refused<T: Threads + Wait + Sync + AllocGlobal>(
-    rt: &T,
-    heap: Heap,
-    names: &[String<Heap>],
+fn run_refused<R: Host, A: TestHeap>(
+    rt: &R,
+    heap: A,
+    names: &[String<A>],
     n: u64,
 ) -> (u8, Vec<u8>, Vec<u8>) {
     let mut readers = [CREATED.as_bytes()];
@@ -148,11 +152,15 @@ fn run_refused<T: Threads + Wait + Sync + AllocGlobal>(
 
 #[test]
 fn threads_say_that_memory_is_out(rt: HostRuntime) {
-    let heap: Heap = new_heap(&rt);
-    let names = vec![in heap; String::new(heap)].expect(&rt, "memory");
+    refuse_prints::<HostRuntime, Heap>(&rt);
+}
+
+fn refuse_prints<R: Host, A: TestHeap>(rt: &R) {
+    let heap: A = new_heap(rt);
+    let names = vec![in heap; String::new(heap)].expect(rt, "memory");
     let mut refused = 0u64;
     for n in 1..300u64 {
-        let (status, out, err) = run_refused(&rt, heap, names.as_slice(), n);
+        let (status, out, err) = run_refused(rt, heap, names.as_slice(), n);
         // A reader may do with less memory than it asks for at first.
         let whole = (status, out.as_slice(), err.as_slice())
             == (0, SAME.as_bytes(), b"".as_slice());

@@ -1,7 +1,8 @@
 //! The program's form that watches a folder, over watchers of the tests' own.
-use crate::build::{Heap, Host, new_heap};
+use crate::build::{Host, new_heap};
 use notify_debouncer_full::{Feed, NoCache, Watcher};
 use notify_mirror::watch_run_over;
+use refusing_allocator::TestHeap;
 use std::io;
 use std::io::Write;
 use std::process::Abort;
@@ -21,23 +22,23 @@ impl Write for Full {
 }
 
 /// Watches for one tick. Returns the status and what was written to standard error.
-fn watch<T: Watcher<Feed<NoCache, R, Heap>, R, Heap>, R: Host, O: Write>(
+fn watch<T: Watcher<Feed<NoCache, R, A>, R, A>, R: Host, A: TestHeap, O: Write>(
     rt: R,
-    heap: Heap,
+    heap: A,
     folder: &str,
     out: &mut O,
 ) -> (u8, Vec<u8>)
     requires takes { (feed : _) → T.takes feed }
 {
     let mut err = Vec::new(rt.alloc());
-    let status = watch_run_over::<T, R, Heap, O, _>(rt, heap, folder, 1, out, &mut err);
+    let status = watch_run_over::<T, R, A, O, _>(rt, heap, folder, 1, out, &mut err);
     (status, err)
 }
 
 const OUT_OF_MEMORY: &str = "mirror: out of memory\n";
 
 /// Checks what a watch of this folder ends with, if it prints nothing.
-fn ends_with<T: Watcher<Feed<NoCache, R, Heap>, R, Heap>, R: Host>(
+fn ends_with<T: Watcher<Feed<NoCache, R, A>, R, A>, R: Host, A: TestHeap>(
     rt: R,
     folder: &str,
     status: u8,
@@ -46,25 +47,28 @@ fn ends_with<T: Watcher<Feed<NoCache, R, Heap>, R, Heap>, R: Host>(
     requires takes { (feed : _) → T.takes feed }
 {
     let mut out = Vec::new(rt.alloc());
-    let (seen, said) = watch::<T, R, _>(rt, new_heap(&rt), folder, &mut out);
+    let (seen, said) = watch::<T, R, A, _>(rt, new_heap(&rt), folder, &mut out);
     check(&rt, seen, said.as_slice(), status, line);
     assert_eq!(rt; out.len(), 0);
 }
 
 pub fn a_watch_says_that_a_watcher_was_not_made<
-    T: Watcher<Feed<NoCache, R, Heap>, R, Heap>,
+    T: Watcher<Feed<NoCache, R, A>, R, A>,
     R: Host,
+    A: TestHeap,
 >(rt: R)
     requires takes { (feed : _) → T.takes feed }
 {
-    ends_with::<T, R>(rt, "/w", 8, "mirror: cannot start a thread\n");
+    ends_with::<T, R, A>(rt, "/w", 8, "mirror: cannot start a thread\n");
 }
 
-pub fn a_watch_says_what_goes_wrong<T: Watcher<Feed<NoCache, R, Heap>, R, Heap>, R: Host>(rt: R)
+pub fn a_watch_says_what_goes_wrong<T: Watcher<Feed<NoCache, R, A>, R, A>, R: Host, A: TestHeap>(
+    rt: R,
+)
     requires takes { (feed : _) → T.takes feed }
 {
-    ends_with::<T, R>(rt, "/gone", 5, "mirror: cannot watch /gone\n");
-    let (full, line) = watch::<T, R, _>(rt, new_heap(&rt), "/w", &mut Full);
+    ends_with::<T, R, A>(rt, "/gone", 5, "mirror: cannot watch /gone\n");
+    let (full, line) = watch::<T, R, A, _>(rt, new_heap(&rt), "/w", &mut Full);
     check(&rt, full, line.as_slice(), 6, "");
 }
 
@@ -73,17 +77,19 @@ fn check(rt: &impl Abort, status: u8, line: &[u8], wanted: u8, wanted_line: &str
     assert!(rt; line == wanted_line.as_bytes(), "{wanted}");
 }
 
-pub fn a_watch_is_refused_at_each_request<T: Watcher<Feed<NoCache, R, Heap>, R, Heap>, R: Host>(
-    rt: R,
-)
+pub fn a_watch_is_refused_at_each_request<
+    T: Watcher<Feed<NoCache, R, A>, R, A>,
+    R: Host,
+    A: TestHeap,
+>(rt: R)
     requires takes { (feed : _) → T.takes feed }
 {
-    let heap = new_heap(&rt);
+    let heap: A = new_heap(&rt);
     let mut refused = 0u64;
     for n in 1..100u64 {
         let mut out = Vec::new(rt.alloc());
         heap.refuse(n);
-        let (status, line) = watch::<T, R, _>(rt, heap, "/w", &mut out);
+        let (status, line) = watch::<T, R, A, _>(rt, heap, "/w", &mut out);
         let came = heap.left() == 0;
         heap.refuse(0);
         let said = (status, line.as_slice()) == (4, OUT_OF_MEMORY.as_bytes());
@@ -97,11 +103,15 @@ pub fn a_watch_is_refused_at_each_request<T: Watcher<Feed<NoCache, R, Heap>, R, 
     assert!(rt; 5 < refused && refused < 99, "{refused}");
 }
 
-pub fn what_waits_at_the_end_is_printed<T: Watcher<Feed<NoCache, R, Heap>, R, Heap>, R: Host>(rt: R)
+pub fn what_waits_at_the_end_is_printed<
+    T: Watcher<Feed<NoCache, R, A>, R, A>,
+    R: Host,
+    A: TestHeap,
+>(rt: R)
     requires takes { (feed : _) → T.takes feed }
 {
     let mut out = Vec::new(rt.alloc());
-    let (status, _) = watch::<T, R, _>(rt, new_heap(&rt), "/w", &mut out);
+    let (status, _) = watch::<T, R, A, _>(rt, new_heap(&rt), "/w", &mut out);
     // Three events, younger than the timeout, an error, and how many were missed.
     let lines = out.iter().filter(|byte| **byte == b'\n').count();
     assert_eq!(rt; (status, lines), (0, 5));

@@ -1,12 +1,12 @@
 //! Calls that no command makes: copies, a path's text, and the order of events that the caller lists. One
 //! request for memory after the other is refused.
-use crate::subject::Heap;
 use crate::sweep::{Ending, MOST};
 use mirror_script::read_script;
 use notify_debouncer_full::{
     Command, DebouncedEvent, Error, ErrorKind, Event, EventKind, PathBuf, sort_events,
 };
 use notify_mirror::PathSet;
+use refusing_allocator::RefusingHeap;
 use std::alloc::AllocError;
 
 /// A call that asks for memory.
@@ -57,7 +57,7 @@ impl Call {
     }
 
     /// Whether each request of the call is refused in turn, says so, and the call succeeds if none is.
-    pub fn is_refused(self, heap: Heap<'_>) -> Result<bool, AllocError> {
+    pub fn is_refused(self, heap: impl RefusingHeap) -> Result<bool, AllocError> {
         for n in 1..MOST {
             match self.attempt(heap, n)? {
                 Ending::Refused => {}
@@ -69,7 +69,7 @@ impl Call {
     }
 
     /// Makes the call while its nth request is refused.
-    fn attempt(self, heap: Heap<'_>, n: u64) -> Result<Ending, AllocError> {
+    fn attempt(self, heap: impl RefusingHeap, n: u64) -> Result<Ending, AllocError> {
         let Ok(script) = read_script(heap, &mut SCRIPT.as_bytes()) else {
             return Err(AllocError);
         };
@@ -81,10 +81,10 @@ impl Call {
     }
 
     /// Makes the call on the command's event, or on a part of it.
-    fn attempt_on<'h>(
+    fn attempt_on<A: RefusingHeap>(
         self,
-        heap: Heap<'h>,
-        command: &Command<Heap<'h>>,
+        heap: A,
+        command: &Command<A>,
         n: u64,
     ) -> Result<Ending, AllocError> {
         let Command::Event(event, _, _) = command else {
@@ -116,7 +116,7 @@ impl Call {
 }
 
 /// What came of a call that had this answer.
-fn ending_of<'h, T: Drop>(heap: Heap<'h>, answer: Result<T, Error<Heap<'h>>>) -> Ending {
+fn ending_of<A: RefusingHeap, T: Drop>(heap: A, answer: Result<T, Error<A>>) -> Ending {
     let came = heap.left() == 0;
     heap.refuse(0);
     match answer {
@@ -126,39 +126,39 @@ fn ending_of<'h, T: Drop>(heap: Heap<'h>, answer: Result<T, Error<Heap<'h>>>) ->
 }
 
 /// Whether the error says that memory is out.
-pub fn is_out_of_memory<'h>(error: &Error<Heap<'h>>) -> bool {
+pub fn is_out_of_memory<A: RefusingHeap>(error: &Error<A>) -> bool {
     error.kind == ErrorKind::Memory && error.paths.is_empty()
 }
 
 /// The answer of a call, for which there is memory.
-fn had<'h, T: Drop>(answer: Result<T, Error<Heap<'h>>>) -> Result<T, AllocError> {
+fn had<A: RefusingHeap, T: Drop>(answer: Result<T, Error<A>>) -> Result<T, AllocError> {
     match answer {
         Ok(value) => Ok(value),
         Err(_) => Err(AllocError),
     }
 }
 
-fn copy_event<'h>(heap: Heap<'h>, path: PathBuf<Heap<'h>>, n: u64) -> Result<Ending, AllocError> {
+fn copy_event<A: RefusingHeap>(heap: A, path: PathBuf<A>, n: u64) -> Result<Ending, AllocError> {
     let event = had(Event::new(heap, EventKind::Any).add_path(path))?;
     let event = DebouncedEvent::new(event, 3);
     heap.refuse(n);
     Ok(ending_of(heap, event.try_clone()))
 }
 
-fn copy_error<'h>(heap: Heap<'h>, path: PathBuf<Heap<'h>>, n: u64) -> Result<Ending, AllocError> {
+fn copy_error<A: RefusingHeap>(heap: A, path: PathBuf<A>, n: u64) -> Result<Ending, AllocError> {
     let error = had(Error::new(heap, ErrorKind::PathNotFound).add_path(path))?;
     heap.refuse(n);
     Ok(ending_of(heap, error.try_clone()))
 }
 
-fn copy_set<'h>(heap: Heap<'h>, path: PathBuf<Heap<'h>>, n: u64) -> Result<Ending, AllocError> {
+fn copy_set<A: RefusingHeap>(heap: A, path: PathBuf<A>, n: u64) -> Result<Ending, AllocError> {
     let mut set = PathSet::new(heap);
     had(set.insert(path))?;
     heap.refuse(n);
     Ok(ending_of(heap, set.try_clone()))
 }
 
-fn sort<'h>(heap: Heap<'h>, commands: &[Command<Heap<'h>>], n: u64) -> Result<Ending, AllocError> {
+fn sort<A: RefusingHeap>(heap: A, commands: &[Command<A>], n: u64) -> Result<Ending, AllocError> {
     let mut events = Vec::new(heap);
     for command in commands {
         if let Command::Event(event, now, _) = command {
@@ -176,7 +176,7 @@ fn sort<'h>(heap: Heap<'h>, commands: &[Command<Heap<'h>>], n: u64) -> Result<En
 }
 
 /// Whether the event without paths comes first, then those at `/a` in their order, and then `/b`.
-fn are_grouped<'h>(events: &[DebouncedEvent<Heap<'h>>]) -> bool {
+fn are_grouped<A: RefusingHeap>(events: &[DebouncedEvent<A>]) -> bool {
     match events {
         [none, first, second, last] => {
             let times = [none.time(), first.time(), second.time(), last.time()];

@@ -18,12 +18,11 @@ mod sweep;
 
 use calls::CALLS;
 use case::Case;
-use refusing_allocator::Refusing;
+use refusing_allocator::{Refusing, RefusingHeap};
 use std::alloc::Global;
 use std::io::Write;
 use std::process::ExitCode;
 use std::{env, fs, io};
-use subject::Heap;
 
 /// The name and the script of a section of a document: its first line, and its first fenced block.
 fn story_of(section: &str) -> Option<(&str, &str)> {
@@ -36,7 +35,7 @@ fn story_of(section: &str) -> Option<(&str, &str)> {
 /// Checks the case that the section holds, if it holds one, and then its script with each request
 /// refused in turn. Prints a line, and returns whether all was as it should be.
 fn check_section<O: Write, E: Write>(
-    heap: Heap<'_>,
+    heap: impl RefusingHeap,
     alloc: Global,
     section: &str,
     out: &mut O,
@@ -60,7 +59,7 @@ fn check_section<O: Write, E: Write>(
 
 /// Checks the sections of a document in turn, and returns whether all was as it should be.
 fn check_sections<O: Write, E: Write>(
-    heap: Heap<'_>,
+    heap: impl RefusingHeap,
     alloc: Global,
     document: &str,
     out: &mut O,
@@ -75,7 +74,7 @@ fn check_sections<O: Write, E: Write>(
 }
 
 /// Refuses each request of the calls that are no commands, and returns whether each said so.
-fn check_calls<O: Write>(heap: Heap<'_>, out: &mut O) -> io::Result<bool> {
+fn check_calls<O: Write>(heap: impl RefusingHeap, out: &mut O) -> io::Result<bool> {
     let mut all_met = true;
     for call in CALLS {
         let met = call.is_refused(heap)?;

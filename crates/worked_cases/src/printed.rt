@@ -1,9 +1,9 @@
 //! A script that is run and printed, while one request for memory, read, write or flush after the other
 //! goes wrong.
 use crate::devices::{Narrow, PIECE, Torn};
-use crate::subject::Heap;
 use crate::sweep::MOST;
 use notify_mirror::{check_run, script_run};
+use refusing_allocator::RefusingHeap;
 use std::alloc::{AllocError, Global};
 
 /// How a script is run.
@@ -39,7 +39,7 @@ impl Trouble {
 /// Writes down which call of a run of the script, in each form, isn't told if it goes wrong: each call
 /// is tried in turn.
 pub fn note(
-    heap: Heap<'_>,
+    heap: impl RefusingHeap,
     alloc: Global,
     script: &str,
     note: &mut String,
@@ -58,7 +58,7 @@ pub fn note(
 /// Which such call isn't told, up to the first run that makes fewer; that one has to print the whole.
 fn untold(
     form: Form,
-    heap: Heap<'_>,
+    heap: impl RefusingHeap,
     alloc: Global,
     script: &str,
     trouble: Trouble,
@@ -89,7 +89,7 @@ impl Printed {
     /// Runs the script with this memory, while the nth call of a kind goes wrong, or none if n is 0.
     fn of(
         form: Form,
-        heap: Heap<'_>,
+        heap: impl RefusingHeap,
         alloc: Global,
         script: &str,
         trouble: Trouble,

@@ -1,51 +1,68 @@
 //! What carries out commands with memory that can be refused, and shows what can be seen of it.
+use crate::numbers::Numbers;
 use notify_debouncer_full::{
-    Book, Command, DebounceDataInner, Error, Event, FileIdCache, NoCache, Reply, command_step,
-    feed_step, root_step, unroot_step,
+    Book, Command, DebounceDataInner, Error, Event, FileIdCache, FileIdMap, NoCache, Reply,
+    command_step, feed_step, root_step, unroot_step,
 };
-use refusing_allocator::Refusing;
-use std::alloc::{AllocError, Global};
-
-/// The memory of which one request is refused.
-pub type Heap<'h> = &'h Refusing<Global>;
+use refusing_allocator::RefusingHeap;
+use std::alloc::AllocError;
 
 /// What carries out commands.
-pub trait Subject<'h> {
-    /// Carries out a command.
-    fn step(&mut self, command: Command<Heap<'h>>) -> Reply<Heap<'h>>;
-
-    /// Writes what can be seen of it, and the modes of these commands' paths. What takes no memory is asked
-    /// while each request is refused.
-    fn show(
-        &self,
-        heap: Heap<'h>,
-        commands: &[Command<Heap<'h>>],
-        text: &mut String,
-    ) -> Result<(), AllocError>;
+#[derive(Drop)]
+pub enum Subject<A: RefusingHeap> {
+    /// A core without a cache.
+    Core(DebounceDataInner<NoCache, A>),
+    /// A core with a cache of file numbers.
+    Cached(DebounceDataInner<FileIdMap<Numbers<A>, A>, A>),
+    /// A book, which carries out all commands by one call.
+    Book(Book<NoCache, A>),
+    /// A book, which carries out each command by the call that a feed or a watcher makes.
+    Calls(Book<NoCache, A>),
 }
 
-impl<'h, C: FileIdCache<Heap<'h>>> Subject<'h> for DebounceDataInner<C, Heap<'h>> {
-    fn step(&mut self, command: Command<Heap<'h>>) -> Reply<Heap<'h>> {
-        self.step(command)
+impl<A: RefusingHeap> Subject<A> {
+    /// Carries out a command.
+    pub fn step(&mut self, command: Command<A>) -> Reply<A> {
+        match self {
+            Subject::Core(core) => core.step(command),
+            Subject::Cached(core) => core.step(command),
+            Subject::Book(book) => command_step(book, 0, command),
+            Subject::Calls(book) => call(book, command),
+        }
     }
 
-    fn show(
+    /// Writes what can be seen of it, and the modes of these commands' paths.
+    pub fn show(
         &self,
-        heap: Heap<'h>,
-        commands: &[Command<Heap<'h>>],
+        heap: A,
+        commands: &[Command<A>],
         text: &mut String,
     ) -> Result<(), AllocError> {
-        heap.refuse(u64::MAX);
-        show_counts(self, text)?;
-        show_modes(self, commands, text)?;
-        heap.refuse(0);
-        writeln!(text, "{:?}", self.outlook())
+        match self {
+            Subject::Core(core) => show_core(core, heap, commands, text),
+            Subject::Cached(core) => show_core(core, heap, commands, text),
+            Subject::Book(book) | Subject::Calls(book) => writeln!(text, "{:?}", book.journal()),
+        }
     }
+}
+
+/// Writes what can be seen of a core. What takes no memory is asked while each request is refused.
+fn show_core<C: FileIdCache<A>, A: RefusingHeap>(
+    core: &DebounceDataInner<C, A>,
+    heap: A,
+    commands: &[Command<A>],
+    text: &mut String,
+) -> Result<(), AllocError> {
+    heap.refuse(u64::MAX);
+    show_counts(core, text)?;
+    show_modes(core, commands, text)?;
+    heap.refuse(0);
+    writeln!(text, "{:?}", core.outlook())
 }
 
 /// Writes the counts, the latest moment, the cache's answer and the errors.
-fn show_counts<'h, C>(
-    core: &DebounceDataInner<C, Heap<'h>>,
+fn show_counts<C, A: RefusingHeap>(
+    core: &DebounceDataInner<C, A>,
     text: &mut String,
 ) -> Result<(), AllocError> {
     let counts = [core.waiting(), core.taken(), core.given(), core.visited()];
@@ -59,9 +76,9 @@ fn show_counts<'h, C>(
 }
 
 /// Writes the mode of each path that the commands name.
-fn show_modes<'h, C>(
-    core: &DebounceDataInner<C, Heap<'h>>,
-    commands: &[Command<Heap<'h>>],
+fn show_modes<C, A: RefusingHeap>(
+    core: &DebounceDataInner<C, A>,
+    commands: &[Command<A>],
     text: &mut String,
 ) -> Result<(), AllocError> {
     for command in commands {
@@ -77,35 +94,8 @@ fn show_modes<'h, C>(
     Ok(())
 }
 
-/// A book, which carries out commands by the one call for all, or each by the call that a feed or a
-/// watcher makes.
-#[derive(Drop)]
-pub struct Held<'h> {
-    pub book: Book<NoCache, Heap<'h>>,
-    pub by_calls: bool,
-}
-
-impl<'h> Subject<'h> for Held<'h> {
-    fn step(&mut self, command: Command<Heap<'h>>) -> Reply<Heap<'h>> {
-        if self.by_calls {
-            call(&mut self.book, command)
-        } else {
-            command_step(&mut self.book, 0, command)
-        }
-    }
-
-    fn show(
-        &self,
-        _heap: Heap<'h>,
-        _commands: &[Command<Heap<'h>>],
-        text: &mut String,
-    ) -> Result<(), AllocError> {
-        writeln!(text, "{:?}", self.book.journal())
-    }
-}
-
 /// Carries out the command by the call that a feed or a watcher makes, if there is one for it alone.
-fn call<'h>(book: &mut Book<NoCache, Heap<'h>>, command: Command<Heap<'h>>) -> Reply<Heap<'h>> {
+fn call<A: RefusingHeap>(book: &mut Book<NoCache, A>, command: Command<A>) -> Reply<A> {
     match command {
         Command::Event(event, now, exists) => {
             reply_of(feed_step(book, Ok(event), now, exists), Reply::Taken(None))
@@ -118,7 +108,7 @@ fn call<'h>(book: &mut Book<NoCache, Heap<'h>>, command: Command<Heap<'h>>) -> R
 }
 
 /// The reply to a command that has this one if it is accepted.
-fn reply_of<'h>(answer: Result<(), Error<Heap<'h>>>, accepted: Reply<Heap<'h>>) -> Reply<Heap<'h>> {
+fn reply_of<A: RefusingHeap>(answer: Result<(), Error<A>>, accepted: Reply<A>) -> Reply<A> {
     match answer {
         Ok(()) => accepted,
         Err(error) => Reply::Refused(error),

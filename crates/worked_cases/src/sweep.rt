@@ -2,9 +2,10 @@
 //! other is refused.
 use crate::calls::is_out_of_memory;
 use crate::numbers::Numbers;
-use crate::subject::{Heap, Held, Subject};
+use crate::subject::Subject;
 use mirror_script::{Counts, Fault, Script, read_script};
 use notify_debouncer_full::{Book, Command, DebounceDataInner, FileIdMap, Moment, NoCache, Reply};
+use refusing_allocator::RefusingHeap;
 use std::alloc::{AllocError, Global};
 
 /// More requests than a command makes.
@@ -60,7 +61,7 @@ impl Ending {
 
 /// The script with commands at its end that give the errors and emit all that waits. It is empty if
 /// the text is no script.
-pub fn script_of<'h>(heap: Heap<'h>, text: &str) -> Result<Option<Script<Heap<'h>>>, AllocError> {
+pub fn script_of<A: RefusingHeap>(heap: A, text: &str) -> Result<Option<Script<A>>, AllocError> {
     match read_script(heap, &mut text.as_bytes()) {
         Ok(mut script) => {
             script.commands.push(Command::Errors)?;
@@ -76,7 +77,7 @@ pub fn script_of<'h>(heap: Heap<'h>, text: &str) -> Result<Option<Script<Heap<'h
 /// core without a cache for no memory, or where a refused command leaves a trace. Returns false if the
 /// text is no script.
 pub fn note(
-    heap: Heap<'_>,
+    heap: impl RefusingHeap,
     alloc: Global,
     text: &str,
     note: &mut String,
@@ -90,11 +91,11 @@ pub fn note(
     Ok(true)
 }
 
-fn note_way<'h>(
+fn note_way<A: RefusingHeap>(
     way: Way,
-    heap: Heap<'h>,
+    heap: A,
     alloc: Global,
-    script: &Script<Heap<'h>>,
+    script: &Script<A>,
     note: &mut String,
 ) -> Result<(), AllocError> {
     for place in 0..script.commands.len() {
@@ -119,18 +120,18 @@ fn note_free(place: usize, note: &mut String) -> Result<(), AllocError> {
 
 /// How many requests the command at this place makes, each of which is refused in turn. It is empty if
 /// what is seen after a refusal isn't what is seen of one that never saw the refused command.
-fn count_refused<'h>(
+fn count_refused<A: RefusingHeap>(
     way: Way,
-    heap: Heap<'h>,
+    heap: A,
     alloc: Global,
-    script: &Script<Heap<'h>>,
+    script: &Script<A>,
     place: usize,
 ) -> Result<Option<u64>, AllocError> {
     let mut wanted = String::new(alloc);
-    way.tell(heap, script, place, 0, &mut wanted)?;
+    tell(way, heap, script, place, 0, &mut wanted)?;
     for n in 1..MOST {
         let mut seen = String::new(alloc);
-        match way.tell(heap, script, place, n, &mut seen)? {
+        match tell(way, heap, script, place, n, &mut seen)? {
             Ending::Refused if seen == wanted => {}
             Ending::Accepted => return Ok(Some(n.saturating_sub(1))),
             _ => return Ok(None),
@@ -140,88 +141,57 @@ fn count_refused<'h>(
 }
 
 impl Way {
-    /// Carries out the story in this way, as [`tell`] does.
-    fn tell<'h>(
-        self,
-        heap: Heap<'h>,
-        script: &Script<Heap<'h>>,
-        place: usize,
-        n: u64,
-        text: &mut String,
-    ) -> Result<Ending, AllocError> {
-        // what is made takes no memory
-        heap.refuse(u64::MAX);
+    /// What carries out a story in this way. A core without a cache goes on from the script's counts.
+    fn start<A: RefusingHeap>(self, heap: A, script: &Script<A>) -> Subject<A> {
+        let timeout = script.timeout;
+        let cache = NoCache::new();
         match self {
-            Way::Core => tell_core(heap, script, place, n, text),
-            Way::Cached => tell_cached(heap, script, place, n, text),
-            _ => tell_book(self, heap, script, place, n, text),
+            Way::Core => {
+                let Counts { taken, given } = script.counts;
+                let core = DebounceDataInner::with_counts(heap, cache, timeout, taken, given);
+                Subject::Core(core)
+            }
+            Way::Cached => {
+                let numbers = FileIdMap::new(heap, Numbers::new(heap));
+                Subject::Cached(DebounceDataInner::new(heap, numbers, timeout))
+            }
+            Way::Book => Subject::Book(Book::new(heap, cache, timeout)),
+            Way::Journal => Subject::Book(Book::journaled(heap, cache, timeout)),
+            Way::Calls => Subject::Calls(Book::new(heap, cache, timeout)),
+            Way::JournalCalls => Subject::Calls(Book::journaled(heap, cache, timeout)),
         }
     }
 }
 
-fn tell_book<'h>(
+/// Carries out the story in this way, as [`follow`] does.
+fn tell<A: RefusingHeap>(
     way: Way,
-    heap: Heap<'h>,
-    script: &Script<Heap<'h>>,
+    heap: A,
+    script: &Script<A>,
     place: usize,
     n: u64,
     text: &mut String,
 ) -> Result<Ending, AllocError> {
-    let book = if way == Way::Journal || way == Way::JournalCalls {
-        Book::journaled(heap, NoCache::new(), script.timeout)
-    } else {
-        Book::new(heap, NoCache::new(), script.timeout)
-    };
-    let by_calls = way == Way::Calls || way == Way::JournalCalls;
-    tell(heap, &mut Held { book, by_calls }, script, place, n, text)
-}
-
-/// A core without a cache goes on from the script's counts.
-fn tell_core<'h>(
-    heap: Heap<'h>,
-    script: &Script<Heap<'h>>,
-    place: usize,
-    n: u64,
-    text: &mut String,
-) -> Result<Ending, AllocError> {
-    let Counts { taken, given } = script.counts;
-    let mut core = DebounceDataInner::with_counts(
-        heap,
-        NoCache::new(),
-        script.timeout,
-        taken,
-        given,
-    );
-    tell(heap, &mut core, script, place, n, text)
-}
-
-fn tell_cached<'h>(
-    heap: Heap<'h>,
-    script: &Script<Heap<'h>>,
-    place: usize,
-    n: u64,
-    text: &mut String,
-) -> Result<Ending, AllocError> {
-    let cache = FileIdMap::new(heap, Numbers::new(heap));
-    let mut core = DebounceDataInner::new(heap, cache, script.timeout);
-    tell(heap, &mut core, script, place, n, text)
+    // what is made takes no memory
+    heap.refuse(u64::MAX);
+    let mut subject = way.start(heap, script);
+    heap.refuse(0);
+    let commands = script.commands.as_slice();
+    follow(heap, &mut subject, commands, place, n, text)
 }
 
 /// Carries out the commands, and writes the replies. Before the one at this place it is tried while its
 /// nth request for memory is refused, or not at all if n is 0; then, and at the end, what can be seen
 /// is written too.
-fn tell<'h, S: Subject<'h>>(
-    heap: Heap<'h>,
-    subject: &mut S,
-    script: &Script<Heap<'h>>,
+fn follow<A: RefusingHeap>(
+    heap: A,
+    subject: &mut Subject<A>,
+    commands: &[Command<A>],
     place: usize,
     n: u64,
     text: &mut String,
 ) -> Result<Ending, AllocError> {
-    heap.refuse(0);
-    let commands = script.commands.as_slice();
-    let place = place.min(commands.len());
-    let (before, after) = commands.split_at(place);
+    let (before, after) = commands.split_at(place.min(commands.len()));
     carry_out(subject, before, text)?;
     let ending = attempt(heap, subject, after, n)?;
     subject.show(heap, after, text)?;
@@ -231,9 +201,9 @@ fn tell<'h, S: Subject<'h>>(
 }
 
 /// Carries out the commands, and writes the replies.
-fn carry_out<'h, S: Subject<'h>>(
-    subject: &mut S,
-    commands: &[Command<Heap<'h>>],
+fn carry_out<A: RefusingHeap>(
+    subject: &mut Subject<A>,
+    commands: &[Command<A>],
     text: &mut String,
 ) -> Result<(), AllocError> {
     for command in commands {
@@ -242,9 +212,9 @@ fn carry_out<'h, S: Subject<'h>>(
     Ok(())
 }
 
-fn step<'h, S: Subject<'h>>(
-    subject: &mut S,
-    command: Command<Heap<'h>>,
+fn step<A: RefusingHeap>(
+    subject: &mut Subject<A>,
+    command: Command<A>,
     text: &mut String,
 ) -> Result<(), AllocError> {
     let reply = subject.step(command);
@@ -252,10 +222,10 @@ fn step<'h, S: Subject<'h>>(
 }
 
 /// Tries the first of the commands while its nth request is refused.
-fn attempt<'h, S: Subject<'h>>(
-    heap: Heap<'h>,
-    subject: &mut S,
-    commands: &[Command<Heap<'h>>],
+fn attempt<A: RefusingHeap>(
+    heap: A,
+    subject: &mut Subject<A>,
+    commands: &[Command<A>],
     n: u64,
 ) -> Result<Ending, AllocError> {
     match commands {
@@ -272,7 +242,7 @@ fn attempt<'h, S: Subject<'h>>(
 }
 
 /// Whether the reply says that memory is out.
-fn is_refused<'h>(reply: &Reply<Heap<'h>>) -> bool {
+fn is_refused<A: RefusingHeap>(reply: &Reply<A>) -> bool {
     match reply {
         Reply::Refused(error) => is_out_of_memory(error),
         _ => false,
