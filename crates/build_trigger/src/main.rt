@@ -15,8 +15,8 @@ use std::time::Duration;
 use trigger_lines::Trigger;
 use watch_loop::follow_folder;
 use watch_program::{
-    Fault, Pace, command, end, folder_of, matches_of, number, number_of, option, pace_of, place_of,
-    words_of, write_missed,
+    Fault, Pace, command, folder_of, number, number_of, option, pace_of, run_with_words,
+    write_missed,
 };
 
 /// The program's name.
@@ -29,8 +29,8 @@ const ABOUT: &str = "Prints a line for each burst of changes below a folder.";
 const QUIET: u64 = 500;
 
 /// The command line.
-fn command_line<'a>(alloc: Global) -> Result<Command<'a>, AllocError> {
-    let line = command(alloc, NAME, ABOUT, "DIR")?;
+fn command_line<'a>(alloc: Global, name: &'a str) -> Result<Command<'a>, AllocError> {
+    let line = command(alloc, name, ABOUT, "DIR")?;
     let line = line.arg(option(alloc, "ignore", "RE").help(
         "leave out events with such paths alone",
     ))?;
@@ -72,14 +72,8 @@ fn run<R: DebouncerRuntime + AllocGlobal, O: Write + Drop, E: Write + Drop>(
 }
 
 fn main(rt: HostRuntime) -> ExitCode {
-    let given = match words_of(&rt) {
-        Ok(given) => given,
-        Err(fault) => return ExitCode::from(end(Err(fault), NAME, "", &mut rt.stderr())),
-    };
-    let matches = match matches_of(&rt, command_line(rt.alloc()), given.as_slice()) {
-        Ok(matches) => matches,
-        Err(status) => return ExitCode::from(status),
-    };
-    let run = run(rt, &matches, rt.stdout(), rt.stderr());
-    ExitCode::from(end(run, NAME, place_of(&matches), &mut rt.stderr()))
+    let status = run_with_words(&rt, NAME, command_line, &mut rt.stderr(), |matches| {
+        run(rt, matches, rt.stdout(), rt.stderr())
+    });
+    ExitCode::from(status)
 }

@@ -13,7 +13,7 @@ use std::alloc::Global;
 use std::io::Write;
 use std::process::ExitCode;
 use watch_loop::follow_folder;
-use watch_program::{Fault, end, folder_of, matches_of, pace_of, place_of, words_of, write_missed};
+use watch_program::{Fault, folder_of, pace_of, run_with_words, write_missed};
 use words::{NAME, command_line, form_of, patterns_of};
 
 /// Watches the folder, and prints of it what passes the patterns.
@@ -40,14 +40,8 @@ fn run<R: DebouncerRuntime + AllocGlobal, O: Write + Drop, E: Write + Drop>(
 }
 
 fn main(rt: HostRuntime) -> ExitCode {
-    let given = match words_of(&rt) {
-        Ok(given) => given,
-        Err(fault) => return ExitCode::from(end(Err(fault), NAME, "", &mut rt.stderr())),
-    };
-    let matches = match matches_of(&rt, command_line(rt.alloc()), given.as_slice()) {
-        Ok(matches) => matches,
-        Err(status) => return ExitCode::from(status),
-    };
-    let run = run(rt, &matches, rt.stdout(), rt.stderr());
-    ExitCode::from(end(run, NAME, place_of(&matches), &mut rt.stderr()))
+    let status = run_with_words(&rt, NAME, command_line, &mut rt.stderr(), |matches| {
+        run(rt, matches, rt.stdout(), rt.stderr())
+    });
+    ExitCode::from(status)
 }

@@ -11,8 +11,8 @@ use watch_program::{Fault, command, flag, option};
 pub(crate) const NAME: &str = "change_journal";
 
 /// The command line.
-pub(crate) fn command_line<'a>(alloc: Global) -> Result<Command<'a>, AllocError> {
-    let line = command(alloc, NAME, "Prints the changes below a folder.", "DIR")?;
+pub(crate) fn command_line<'a>(alloc: Global, name: &'a str) -> Result<Command<'a>, AllocError> {
+    let line = command(alloc, name, "Prints the changes below a folder.", "DIR")?;
     let line = line.arg(flag(alloc, "json").long("json").help("print JSON objects"))?;
     with_patterns(alloc, line.arg(zero(alloc)?)?)
 }

@@ -4,23 +4,26 @@
 
 mod follower;
 
-use clap::ArgMatches;
+use clap::{ArgMatches, Command};
 use config_state::{Place, Reloader};
 use follower::Follower;
 use notify_debouncer_full::{DebouncerRuntime, PathBuf, RecursiveMode};
-use std::alloc::Global;
+use std::alloc::{AllocError, Global};
 use std::io::Write;
 use std::process::ExitCode;
 use watch_loop::follow_folder;
-use watch_program::{
-    Fault, Pace, command, end, matches_of, pace_of, place_of, words_of, write_missed,
-};
+use watch_program::{Fault, Pace, command, pace_of, place_of, run_with_words, write_missed};
 
 /// The program's name.
 const NAME: &str = "config_reloader";
 
 /// What the program does, for its help.
 const ABOUT: &str = "Reads a TOML file when it changes.";
+
+/// The command line.
+fn command_line<'a>(alloc: Global, name: &'a str) -> Result<Command<'a>, AllocError> {
+    command(alloc, name, ABOUT, "FILE")
+}
 
 /// Reads the file, and then whenever its folder's reports may be about it. If events were missed, it is
 /// read anew at the end.
@@ -57,15 +60,8 @@ fn run<R: DebouncerRuntime + AllocGlobal, O: Write + Drop, E: Write + Drop>(
 }
 
 fn main(rt: HostRuntime) -> ExitCode {
-    let given = match words_of(&rt) {
-        Ok(given) => given,
-        Err(fault) => return ExitCode::from(end(Err(fault), NAME, "", &mut rt.stderr())),
-    };
-    let command = command(rt.alloc(), NAME, ABOUT, "FILE");
-    let matches = match matches_of(&rt, command, given.as_slice()) {
-        Ok(matches) => matches,
-        Err(status) => return ExitCode::from(status),
-    };
-    let run = run(rt, &matches, rt.stdout(), rt.stderr());
-    ExitCode::from(end(run, NAME, place_of(&matches), &mut rt.stderr()))
+    let status = run_with_words(&rt, NAME, command_line, &mut rt.stderr(), |matches| {
+        run(rt, matches, rt.stdout(), rt.stderr())
+    });
+    ExitCode::from(status)
 }

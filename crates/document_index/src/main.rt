@@ -13,9 +13,7 @@ use std::alloc::{AllocError, Global};
 use std::io::Write;
 use std::process::ExitCode;
 use watch_loop::FolderReports;
-use watch_program::{
-    Fault, command, end, folder_of, matches_of, option, pace_of, place_of, words_of,
-};
+use watch_program::{Fault, command, folder_of, option, pace_of, run_with_words};
 
 /// The program's name.
 const NAME: &str = "document_index";
@@ -24,8 +22,8 @@ const NAME: &str = "document_index";
 const ABOUT: &str = "Says which files below a folder have a word.";
 
 /// The command line.
-fn command_line<'a>(alloc: Global) -> Result<Command<'a>, AllocError> {
-    let line = command(alloc, NAME, ABOUT, "DIR")?;
+fn command_line<'a>(alloc: Global, name: &'a str) -> Result<Command<'a>, AllocError> {
+    let line = command(alloc, name, ABOUT, "DIR")?;
     line.arg(option(alloc, "query", "WORD").help("print the files that have the word, and end"))
 }
 
@@ -96,14 +94,8 @@ fn run<R: DebouncerRuntime + AllocGlobal + Input, O: Write + Drop>(
 }
 
 fn main(rt: HostRuntime) -> ExitCode {
-    let given = match words_of(&rt) {
-        Ok(given) => given,
-        Err(fault) => return ExitCode::from(end(Err(fault), NAME, "", &mut rt.stderr())),
-    };
-    let matches = match matches_of(&rt, command_line(rt.alloc()), given.as_slice()) {
-        Ok(matches) => matches,
-        Err(status) => return ExitCode::from(status),
-    };
-    let run = run(rt, &matches, rt.stdout());
-    ExitCode::from(end(run, NAME, place_of(&matches), &mut rt.stderr()))
+    let status = run_with_words(&rt, NAME, command_line, &mut rt.stderr(), |matches| {
+        run(rt, matches, rt.stdout())
+    });
+    ExitCode::from(status)
 }

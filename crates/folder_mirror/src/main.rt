@@ -15,16 +15,14 @@ use std::fs;
 use std::io::Write;
 use std::process::ExitCode;
 use watch_loop::follow_folder;
-use watch_program::{
-    Fault, Pace, command, end, folder_of, matches_of, pace_of, place_of, words_of,
-};
+use watch_program::{Fault, Pace, command, folder_of, pace_of, place_of, run_with_words};
 
 /// The program's name.
 const NAME: &str = "folder_mirror";
 
 /// The command line.
-fn command_line<'a>(alloc: Global) -> Result<Command<'a>, AllocError> {
-    let line = command(alloc, NAME, "Keeps the folder TO a copy of FROM.", "FROM")?;
+fn command_line<'a>(alloc: Global, name: &'a str) -> Result<Command<'a>, AllocError> {
+    let line = command(alloc, name, "Keeps the folder TO a copy of FROM.", "FROM")?;
     line.arg(Arg::new(alloc, "to").value_name("TO").required(true))
 }
 
@@ -76,14 +74,8 @@ fn run<R: DebouncerRuntime + AllocGlobal, O: Write + Drop, E: Write + Drop>(
 }
 
 fn main(rt: HostRuntime) -> ExitCode {
-    let given = match words_of(&rt) {
-        Ok(given) => given,
-        Err(fault) => return ExitCode::from(end(Err(fault), NAME, "", &mut rt.stderr())),
-    };
-    let matches = match matches_of(&rt, command_line(rt.alloc()), given.as_slice()) {
-        Ok(matches) => matches,
-        Err(status) => return ExitCode::from(status),
-    };
-    let run = run(rt, &matches, rt.stdout(), rt.stderr());
-    ExitCode::from(end(run, NAME, place_of(&matches), &mut rt.stderr()))
+    let status = run_with_words(&rt, NAME, command_line, &mut rt.stderr(), |matches| {
+        run(rt, matches, rt.stdout(), rt.stderr())
+    });
+    ExitCode::from(status)
 }

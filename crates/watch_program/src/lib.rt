@@ -1,15 +1,15 @@
 //! What programs that watch a folder share: the words of their command lines, the faults by which they
 //! end, and lines that are written at once. It knows nothing of a debouncer's threads.
 //!
-//! A program adds its own words to [`command`], reads its words by [`words_of`] and [`matches_of`], takes
-//! a [`Pace`] by [`pace_of`], and ends by [`end`]. A line is gathered in a `Vec<u8>`, its fields by
-//! [`push_field`], and written by [`write_now`].
+//! A program adds its own words to [`command`], and is run by [`run_with_words`]. It takes a [`Pace`] by
+//! [`pace_of`]. A line is gathered in a `Vec<u8>`, its fields by [`push_field`], and written by
+//! [`write_now`].
 //!
 //! ```text
-//! let matches = match matches_of(&rt, command(rt.alloc(), NAME, ABOUT, "DIR"), words.as_slice()) {
-//!     Ok(matches) => matches,
-//!     Err(status) => return ExitCode::from(status),
-//! };
+//! let status = run_with_words(&rt, NAME, command_line, &mut rt.stderr(), |matches| {
+//!     run(rt, matches, rt.stdout())
+//! });
+//! ExitCode::from(status)
 //! ```
 #![tactic(auto)]
 
@@ -18,6 +18,7 @@ mod fault;
 mod field;
 mod output;
 mod pace;
+mod program;
 mod words;
 
 pub use ends::{end, write_errors, write_missed};
@@ -25,6 +26,7 @@ pub use fault::Fault;
 pub use field::push_field;
 pub use output::write_now;
 pub use pace::{Pace, pace_of};
+pub use program::run_with_words;
 pub use words::{
     command, flag, folder_of, matches_of, number, number_of, option, place_of, words_of,
 };
