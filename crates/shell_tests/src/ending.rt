@@ -97,7 +97,7 @@ pub fn the_parts_of_a_journal_in_a_row_are_the_journal<
     let (book, missed) = debouncer.finish();
     assert!(rt; !asked && missed == 0);
     assert_eq!(rt; [first.len(), empty.len(), second.len()], [5, 0, 1]);
-    check_parts(&rt, heap, [first, second], book);
+    check_parts(&rt, heap, first, second, book);
 }
 
 /// Checks that these parts of a journal, and then five entries of the book's own, lead a new core to the
@@ -105,14 +105,14 @@ pub fn the_parts_of_a_journal_in_a_row_are_the_journal<
 fn check_parts<A: TestHeap>(
     rt: &impl Abort,
     heap: A,
-    parts: [Vec<Entry<A>, A>; 2],
+    first: Vec<Entry<A>, A>,
+    second: Vec<Entry<A>, A>,
     book: Book<NoCache, A>,
 ) {
     let mut book = book;
     let mut core = DebounceDataInner::new(heap, NoCache::new(), 3_600_000_000_000);
-    for part in parts {
-        assert!(rt; goes_on(&mut core, part));
-    }
+    assert!(rt; goes_on(&mut core, first));
+    assert!(rt; goes_on(&mut core, second));
     check_last_part(rt, &mut core, &mut book);
     assert!(rt; is_same(rt, &core, &book));
 }

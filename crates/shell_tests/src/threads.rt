@@ -157,7 +157,8 @@ fn threads_say_that_memory_is_out(rt: HostRuntime) {
 
 fn refuse_prints<R: Host, A: TestHeap>(rt: &R) {
     let heap: A = new_heap(rt);
-    let names = vec![in heap; String::new(heap)].expect(rt, "memory");
+    let mut names = Vec::new(heap);
+    names.push(String::new(heap)).expect(rt, "memory");
     let mut refused = 0u64;
     for n in 1..300u64 {
         let (status, out, err) = run_refused(rt, heap, names.as_slice(), n);
