@@ -9,7 +9,6 @@ use clap::ArgMatches;
 use journal_lines::{Journal, PathFilter};
 use notify_debouncer_full::{DebouncerRuntime, RecursiveMode};
 use printer::Printer;
-use std::alloc::Global;
 use std::io::Write;
 use std::process::ExitCode;
 use watch_loop::follow_folder;
