@@ -20,7 +20,7 @@ use watch_program::{Fault, write_errors};
 #[derive(Drop)]
 pub(crate) struct Bursts<'p, O: Drop, E: Drop> {
     pub(crate) alloc: Global,
-    pub(crate) folder: PathBuf,
+    pub(crate) folder: &'p PathBuf,
     /// How long nothing is reported after a burst.
     pub(crate) quiet: Duration,
     pub(crate) filter: PathFilter<'p>,
@@ -53,12 +53,12 @@ impl<O: Write + Drop, E: Write + Drop> Bursts<'_, O, E> {
     /// Writes the line of what waits, if anything does.
     pub(crate) fn write(&mut self) -> Result<(), Fault>
         ensures written { OnOk result (Appends (O.contents self.old.out) (O.contents self.new.out)
-            (written_of self.old.folder self.old.trigger)) }
+            (written_of self.old.folder.now self.old.trigger)) }
         ensures begun { OnErr result (WritesFront (O.contents self.old.out)
-            (written_of self.old.folder self.old.trigger) (O.contents self.new.out)) }
+            (written_of self.old.folder.now self.old.trigger) (O.contents self.new.out)) }
         ensures taken { self.new.trigger ≡ [] }
     {
-        write_line(self.alloc, &mut self.trigger, &self.folder, &mut self.out)
+        write_line(self.alloc, &mut self.trigger, self.folder, &mut self.out)
     }
 }
 

@@ -6,7 +6,7 @@ mod bursts;
 
 use bursts::Bursts;
 use clap::{ArgMatches, Command};
-use journal_lines::Patterns;
+use journal_lines::{PathFilter, Patterns};
 use notify_debouncer_full::{DebouncerRuntime, RecursiveMode};
 use std::alloc::{AllocError, Global};
 use std::io::Write;
@@ -25,7 +25,7 @@ const NAME: &str = "build_trigger";
 /// What the program does, for its help.
 const ABOUT: &str = "Prints a line for each burst of changes below a folder.";
 
-/// How long nothing is reported behind a burst, in milliseconds, if no word says it.
+/// How long nothing is reported after a burst, in milliseconds, if no word says it.
 const QUIET: u64 = 500;
 
 /// The command line.
@@ -43,8 +43,8 @@ fn watch<R: DebouncerRuntime + AllocGlobal, O: Write + Drop, E: Write + Drop>(
     pace: Pace,
     bursts: &mut Bursts<'_, O, E>,
 ) -> Result<(), Fault> {
-    let folder = bursts.folder.clone()?;
-    let missed = follow_folder(rt, &folder, RecursiveMode::Recursive, pace, bursts)?;
+    let folder = bursts.folder;
+    let missed = follow_folder(rt, folder, RecursiveMode::Recursive, pace, bursts)?;
     write_missed(missed, NAME, &mut bursts.err);
     // What came last has no pause after it.
     bursts.write()
@@ -58,12 +58,14 @@ fn run<R: DebouncerRuntime + AllocGlobal, O: Write + Drop, E: Write + Drop>(
     err: E,
 ) -> Result<(), Fault> {
     let alloc = rt.alloc();
+    let folder = folder_of(alloc, matches)?;
     let patterns = Patterns::parse(alloc, None, matches.get_str("ignore"))?;
+    let filter: PathFilter<'_> = patterns.filter(alloc)?;
     let mut bursts = Bursts {
         alloc,
-        folder: folder_of(alloc, matches)?,
+        folder: &folder,
         quiet: Duration::from_millis(number_of(matches, "quiet", QUIET)),
-        filter: patterns.filter(alloc)?,
+        filter,
         trigger: Trigger::new(alloc),
         out,
         err,

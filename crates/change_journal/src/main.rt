@@ -6,14 +6,14 @@ mod printer;
 mod words;
 
 use clap::ArgMatches;
-use journal_lines::{Journal, PathFilter};
+use journal_lines::{Journal, PathFilter, Patterns};
 use notify_debouncer_full::{DebouncerRuntime, RecursiveMode};
 use printer::Printer;
 use std::io::Write;
 use std::process::ExitCode;
 use watch_loop::follow_folder;
 use watch_program::{Fault, folder_of, pace_of, run_with_words, write_missed};
-use words::{NAME, command_line, form_of, patterns_of};
+use words::{NAME, command_line, form_of};
 
 /// Watches the folder, and prints of it what passes the patterns.
 fn run<R: DebouncerRuntime + AllocGlobal, O: Write + Drop, E: Write + Drop>(
@@ -22,7 +22,8 @@ fn run<R: DebouncerRuntime + AllocGlobal, O: Write + Drop, E: Write + Drop>(
     out: O,
     err: E,
 ) -> Result<(), Fault> {
-    let patterns = patterns_of(rt.alloc(), matches)?;
+    let (include, exclude) = (matches.get_str("include"), matches.get_str("exclude"));
+    let patterns = Patterns::parse(rt.alloc(), include, exclude)?;
     let filter: PathFilter<'_> = patterns.filter(rt.alloc())?;
     let mut printer = Printer {
         alloc: rt.alloc(),

@@ -1,11 +1,8 @@
 //! The words of the program.
-ghost use Rattle.std.specs.Prelude.{◌≡◌, ◌⊎◌, IfErr};
-ghost use Rattle.watch_program.specs.declared.fault.Fault.TheVariants.{NotPattern, Memory};
-
 use clap::{Arg, ArgMatches, Command};
-use journal_lines::{Form, Patterns};
+use journal_lines::Form;
 use std::alloc::{AllocError, Global};
-use watch_program::{Fault, command, flag, option};
+use watch_program::{command, flag, option};
 
 /// The program's name.
 pub(crate) const NAME: &str = "change_journal";
@@ -19,8 +16,11 @@ pub(crate) fn command_line<'a>(alloc: Global, name: &'a str) -> Result<Command<'
 
 /// The word that asks for paths.
 fn zero<'a>(alloc: Global) -> Result<Arg<'a>, AllocError> {
-    let zero = flag(alloc, "zero").short('0').conflicts_with("json")?;
-    Ok(zero.help("print paths, each with a zero byte after it"))
+    let help = "print paths, each with a zero byte after it";
+    flag(alloc, "zero")
+        .short('0')
+        .help(help)
+        .conflicts_with("json")
 }
 
 /// The command line, with the words that choose events.
@@ -39,15 +39,4 @@ pub(crate) fn form_of(matches: &ArgMatches<'_>) -> Form {
     } else {
         Form::Plain
     }
-}
-
-/// The patterns that the words give.
-pub(crate) fn patterns_of(alloc: Global, matches: &ArgMatches<'_>) -> Result<Patterns, Fault>
-    ensures err { IfErr result (λ e. (e ≡ NotPattern) ⊎ (e ≡ Memory)) }
-{
-    Patterns::parse(
-        alloc,
-        matches.get_str("include"),
-        matches.get_str("exclude"),
-    )
 }
