@@ -1,9 +1,12 @@
-//! Calls that no command makes: copies, a path's text, and the order of events that the caller lists. One
-//! request for memory after the other is refused.
+//! Calls that no command makes: copies, a path's text, the order of events that the caller lists, and a
+//! scan for file numbers. One request for memory after the other is refused.
+use crate::numbers::{Numbers, numbers_in};
+use crate::sorted::events_of;
 use crate::sweep::{Ending, MOST};
 use mirror_script::read_script;
 use notify_debouncer_full::{
-    Command, DebouncedEvent, Error, ErrorKind, Event, EventKind, PathBuf, sort_events,
+    Command, DebouncedEvent, Error, ErrorKind, Event, EventKind, FileIdCache, FileIdMap, PathBuf,
+    RecursiveMode, sort_events,
 };
 use notify_mirror::PathSet;
 use refusing_allocator::RefusingHeap;
@@ -20,9 +23,10 @@ pub enum Call {
     CopyError,
     CopySet,
     SortEvents,
+    ScanFolders,
 }
 
-pub const CALLS: [Call; 8] = [
+pub const CALLS: [Call; 9] = [
     Call::ToText,
     Call::CopyPath,
     Call::CopyAttributes,
@@ -31,6 +35,7 @@ pub const CALLS: [Call; 8] = [
     Call::CopyError,
     Call::CopySet,
     Call::SortEvents,
+    Call::ScanFolders,
 ];
 
 /// A script with the event that is copied, and then those that are put in order.
@@ -53,6 +58,7 @@ impl Call {
             Call::CopyError => "Error::try_clone",
             Call::CopySet => "PathSet::try_clone",
             Call::SortEvents => "sort_events",
+            Call::ScanFolders => "FileIdMap::add_path",
         }
     }
 
@@ -110,6 +116,7 @@ impl Call {
             (Call::CopyDebouncedEvent, Some(path)) => copy_event(heap, path.clone()?, n),
             (Call::CopyError, Some(path)) => copy_error(heap, path.clone()?, n),
             (Call::CopySet, Some(path)) => copy_set(heap, path.clone()?, n),
+            (Call::ScanFolders, Some(path)) => scan_folders(heap, path, n),
             _ => Ok(Ending::Wrong),
         }
     }
@@ -159,29 +166,51 @@ fn copy_set<A: RefusingHeap>(heap: A, path: PathBuf<A>, n: u64) -> Result<Ending
 }
 
 fn sort<A: RefusingHeap>(heap: A, commands: &[Command<A>], n: u64) -> Result<Ending, AllocError> {
-    let mut events = Vec::new(heap);
-    for command in commands {
-        if let Command::Event(event, now, _) = command {
-            events.push(DebouncedEvent::new(event.clone()?, *now))?;
-        }
-    }
+    let events = events_of(heap, commands)?;
     heap.refuse(n);
-    let sorted = sort_events(heap, events);
-    let ordered = match &sorted {
-        Ok(events) => are_grouped(events.as_slice()),
-        Err(_) => true,
-    };
-    let ending = ending_of(heap, sorted);
-    Ok(if ordered { ending } else { Ending::Wrong })
+    Ok(ending_of(heap, sort_events(heap, events)))
 }
 
-/// Whether the event without paths comes first, then those at `/a` in their order, and then `/b`.
-fn are_grouped<A: RefusingHeap>(events: &[DebouncedEvent<A>]) -> bool {
-    match events {
-        [none, first, second, last] => {
-            let times = [none.time(), first.time(), second.time(), last.time()];
-            none.first_path().is_none() && times == [2, 2, 1, 2]
-        }
-        _ => false,
+/// Folders that are scanned one after the other: so many that the map grows more than once.
+const FOLDERS: [&str; 8] = ["a", "b", "c", "d", "e", "f", "g", "h"];
+
+/// Scans each folder in the path twice, and before each time while the nth request is refused.
+fn scan_folders<A: RefusingHeap>(heap: A, path: &PathBuf<A>, n: u64) -> Result<Ending, AllocError> {
+    let mut map = FileIdMap::new(heap, Numbers::new(heap));
+    let mut ending = Ending::Accepted;
+    for name in FOLDERS {
+        let Some(folder) = path.child(name)? else {
+            return Ok(Ending::Wrong);
+        };
+        ending = ending.and(scan_twice(heap, &mut map, &folder, n)?);
     }
+    Ok(ending)
+}
+
+fn scan_twice<A: RefusingHeap>(
+    heap: A,
+    map: &mut FileIdMap<Numbers<A>, A>,
+    folder: &PathBuf<A>,
+    n: u64,
+) -> Result<Ending, AllocError> {
+    let first = scan(heap, map, folder, n)?;
+    had(map.add_path(folder, RecursiveMode::Recursive))?;
+    let second = scan(heap, map, folder, n)?;
+    Ok(first.and(second))
+}
+
+/// Scans the folder while the nth request is refused. A refused scan has to leave what the map held, and
+/// one that is accepted gives each entry another number.
+fn scan<A: RefusingHeap>(
+    heap: A,
+    map: &mut FileIdMap<Numbers<A>, A>,
+    folder: &PathBuf<A>,
+    n: u64,
+) -> Result<Ending, AllocError> {
+    let before = numbers_in(heap, map, folder)?;
+    heap.refuse(n);
+    let ending = ending_of(heap, map.add_path(folder, RecursiveMode::Recursive));
+    let is_kept = numbers_in(heap, map, folder)? == before;
+    let met = is_kept == (ending == Ending::Refused);
+    Ok(if met { ending } else { Ending::Wrong })
 }

@@ -1,25 +1,28 @@
 //! One case of the document, and its run.
 ghost use Rattle.std.specs.Prelude.{◌≡◌, ◌↔◌, IsTrue};
 
+use crate::seen::show_run;
 use notify_mirror::{check_run, script_run};
 use std::alloc::Global;
 use std::io;
 use std::io::Write;
 
-/// A case: its name, the script, what the script is to print, and the two lines that `--check` is to
-/// add. Without these lines the script isn't checked.
+/// A case: its name, the script, what the script is to print, the two lines that `--check` is to add, and
+/// what a core is to show. Without these lines the script isn't checked, or no core shows it.
 #[derive(Clone, Copy)]
 pub struct Case<'a> {
     name: &'a str,
     script: &'a str,
     prints: &'a str,
     checks: &'a str,
+    shows: &'a str,
 }
 
 impl<'a> Case<'a> {
     /// Returns the case that a section of the document holds. Its first line is the name; the script
-    /// and what it prints are two fenced blocks with the word `prints` between them, and the lines of
-    /// `--check` a third one. A section with other blocks has no script to run.
+    /// and what it prints are two fenced blocks with the word `prints` between them; the lines of
+    /// `--check`, and what a core shows, are further ones. A section with other blocks has no script to
+    /// run.
     pub fn read(section: &'a str) -> Option<Case<'a>> {
         let (name, text) = section.split_once('\n')?;
         let (_before, text) = text.split_once("```\n")?;
@@ -29,13 +32,25 @@ impl<'a> Case<'a> {
             name,
             script,
             prints,
-            checks: read_checks(text).unwrap_or(""),
+            checks: read_block(text, "with `--check` also").unwrap_or(""),
+            shows: read_block(text, "a core shows").unwrap_or(""),
         })
     }
 
-    /// Runs the script, and returns true if it prints what it should; or prints the case's name and both
-    /// texts, and returns false.
+    /// Runs the script, and returns true if it prints what it should and a core shows what it should; or
+    /// prints the case's name and both texts, and returns false.
     pub fn check<O: Write, E: Write>(
+        self,
+        alloc: Global,
+        out: &mut O,
+        err: &mut E,
+    ) -> io::Result<bool> {
+        let printed = self.check_printed(alloc, out, err)?;
+        let shown = self.check_shown(alloc, out)?;
+        Ok(printed && shown)
+    }
+
+    fn check_printed<O: Write, E: Write>(
         self,
         alloc: Global,
         out: &mut O,
@@ -51,6 +66,15 @@ impl<'a> Case<'a> {
         let mut wanted = String::from_str(alloc, self.prints)?;
         wanted.push_str(self.checks)?;
         self.report(status, wanted.as_str(), printed.as_slice(), out)
+    }
+
+    fn check_shown<O: Write>(self, alloc: Global, out: &mut O) -> io::Result<bool> {
+        if self.shows.is_empty() {
+            return Ok(true);
+        }
+        let mut shown = String::new(alloc);
+        show_run(alloc, self.script, &mut shown)?;
+        self.report(0, self.shows, shown.as_bytes(), out)
     }
 
     fn report<O: Write>(
@@ -78,9 +102,10 @@ fn is_met(status: u8, wanted: &str, printed: &[u8]) -> bool
     status == 0 && printed == wanted.as_bytes()
 }
 
-/// The block of `--check` in what follows a case's output.
-fn read_checks(text: &str) -> Option<&str> {
-    let (_before, text) = text.split_once("with `--check` also\n\n```\n")?;
-    let (checks, _after) = text.split_once("```\n")?;
-    Some(checks)
+/// The block after these words in what follows a case's output.
+fn read_block<'a>(text: &'a str, words: &str) -> Option<&'a str> {
+    let (_before, text) = text.split_once(words)?;
+    let text = text.strip_prefix("\n\n```\n")?;
+    let (block, _after) = text.split_once("```\n")?;
+    Some(block)
 }

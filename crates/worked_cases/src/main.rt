@@ -1,6 +1,6 @@
-//! The program `worked_cases`: it runs each script of some documents, and says which of them print what
-//! their document says; and it runs each again and again, while one request for memory, read, write or
-//! flush after the other goes wrong. `worked_cases DOCUMENT..`.
+//! The program `worked_cases`: it runs each script of some documents, and says which of them print and show
+//! what their document says; and it runs each again and again, while one request for memory, read, write
+//! or flush after the other goes wrong. `worked_cases DOCUMENT..`.
 //!
 //! For each script it prints `ok` and which of its commands, counted from 1, ask a debouncer without a
 //! cache for no memory; to each script it adds `errors` and a `tick` at the greatest moment. Otherwise it
@@ -13,12 +13,15 @@ mod case;
 mod devices;
 mod numbers;
 mod printed;
+mod seen;
+mod sorted;
 mod subject;
 mod sweep;
 
 use calls::CALLS;
 use case::Case;
 use refusing_allocator::{Refusing, RefusingHeap};
+use sorted::SortedCase;
 use std::alloc::Global;
 use std::io::Write;
 use std::process::ExitCode;
@@ -32,8 +35,11 @@ fn story_of(section: &str) -> Option<(&str, &str)> {
     Some((name, script))
 }
 
+/// What a section says whose script is too long to be run again for each of its requests.
+const ONCE: &str = "This script is run once";
+
 /// Checks the case that the section holds, if it holds one, and then its script with each request
-/// refused in turn. Prints a line, and returns whether all was as it should be.
+/// refused in turn, unless it is run once. Prints a line, and returns whether all was as it should be.
 fn check_section<O: Write, E: Write>(
     heap: impl RefusingHeap,
     alloc: Global,
@@ -48,6 +54,15 @@ fn check_section<O: Write, E: Write>(
         if !case.check(alloc, out, err)? {
             return Ok(false);
         }
+    }
+    if let Some(case) = SortedCase::read(section) {
+        if !case.check(alloc, out)? {
+            return Ok(false);
+        }
+    }
+    if section.contains(ONCE) {
+        writeln!(out, "{name} ok")?;
+        return Ok(true);
     }
     let mut note = String::new(alloc);
     if sweep::note(heap, alloc, script, &mut note)? {

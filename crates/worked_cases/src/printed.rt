@@ -2,6 +2,7 @@
 //! goes wrong.
 use crate::devices::{Narrow, PIECE, Torn};
 use crate::sweep::MOST;
+use mirror_script::read_script;
 use notify_mirror::{check_run, script_run};
 use refusing_allocator::RefusingHeap;
 use std::alloc::{AllocError, Global};
@@ -69,11 +70,24 @@ fn untold(
         if !printed.came && 1 < n && printed.is_same(whole) {
             return None;
         }
-        if !printed.tells(trouble, n, whole) {
+        let spared = trouble == Trouble::Memory
+            && printed.is_same(whole)
+            && is_read_without(heap, script, n);
+        if !spared && !printed.tells(trouble, n, whole) {
             return Some(n);
         }
     }
     Some(MOST)
+}
+
+/// Whether the script is read whole although the nth request for memory is refused. Std collects a line's
+/// fields, and does with less room than it asks for at first. A run reads before it does anything else.
+fn is_read_without(heap: impl RefusingHeap, script: &str, n: u64) -> bool {
+    heap.refuse(n);
+    let read = read_script(heap, &mut script.as_bytes());
+    let came = heap.left() == 0;
+    heap.refuse(0);
+    came && read.is_ok()
 }
 
 /// What a run wrote, its exit status, and whether the call came that was to go wrong.
@@ -139,7 +153,7 @@ impl Printed {
     fn tells(&self, trouble: Trouble, n: u64, whole: &Printed) -> bool {
         match trouble {
             Trouble::Memory => {
-                self.goes_on(whole)
+                self.goes_on()
                     || self.ends(4, "mirror: out of memory\n")
                         && whole.out().starts_with(self.out())
             }
@@ -154,13 +168,12 @@ impl Printed {
         }
     }
 
-    /// Whether the run went on to its end after a refusal: of one command, which it says, or of room that
-    /// std asks for, and can do without.
-    fn goes_on(&self, whole: &Printed) -> bool {
+    /// Whether the run went on to its end after one command was refused, and says so.
+    fn goes_on(&self) -> bool {
         let refused = match str::from_utf8(self.out()) {
             Ok(text) => text.split("refused Memory\n").count() == 2,
             Err(_) => false,
         };
-        self.is_same(whole) || refused && self.ends(0, "")
+        refused && self.ends(0, "")
     }
 }

@@ -41,7 +41,10 @@ impl<A: RefusingHeap> Subject<A> {
         match self {
             Subject::Core(core) => show_core(core, heap, commands, text),
             Subject::Cached(core) => show_core(core, heap, commands, text),
-            Subject::Book(book) | Subject::Calls(book) => writeln!(text, "{:?}", book.journal()),
+            Subject::Book(book) | Subject::Calls(book) => {
+                show_core(book.core(), heap, commands, text)?;
+                writeln!(text, "{:?}", book.journal())
+            }
         }
     }
 }

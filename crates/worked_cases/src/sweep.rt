@@ -57,6 +57,15 @@ impl Ending {
             _ => Ending::Wrong,
         }
     }
+
+    /// Returns the ending of two calls, of which each had its own.
+    pub fn and(self, other: Ending) -> Ending {
+        match (self, other) {
+            (Ending::Wrong, _) | (_, Ending::Wrong) => Ending::Wrong,
+            (Ending::Accepted, Ending::Accepted) => Ending::Accepted,
+            _ => Ending::Refused,
+        }
+    }
 }
 
 /// The script with commands at its end that give the errors and emit all that waits. It is empty if
