@@ -30,11 +30,27 @@ links() {
 
 # Paths from the top, also with stars, but of what is built; names of files; names in backticks that have an underscore.
 names() {
-    grep -oE '(crates|docs|scripts|\.ci)/[A-Za-z0-9_.*/-]*[A-Za-z0-9_*]' "$1" | grep -v /out/ | sort -u | while read -r path; do
+    grep -oE '(crates|docs|scripts|\.ci)/[A-Za-z0-9_.*/-]*[A-Za-z0-9_*]' "$1" | grep -vE '/out(/|$)' | sort -u | while read -r path; do
         compgen -G "$path" >/dev/null || echo "no file: $path"
     done
     grep -oE '\b[A-Za-z_]+\.(rt|antt|edit)\b' "$1" | sort -u | comm -23 - "$room/names"
     grep -oE '`[a-z0-9]+(_[a-z0-9]+)+`' "$1" | tr -d '`' | sort -u | comm -23 - "$room/words"
+}
+
+# What a page says is in a file, is defined there: "`word` in FILE", "FILE: `word`", and "`word` there" later in
+# the line. An import doesn't count. FILE may also be a crate's folder.
+pointers() {
+    local words='(`[A-Za-z_0-9:-]+`(, | and )?)+' file='[A-Za-z0-9_./-]+\.(antt|rt)|crates/[a-z_]+' at='' line='' here
+    grep -noE "$words (in ($file)|there)|($file)( of [a-z_]+)?: $words|$file" "$1" | while IFS=: read -r line pointer; do
+        [ "$line" = "$at" ] || { at=$line && here=; }
+        [[ $pointer == *' there' ]] || here=$(grep -oE "$file" <<<"$pointer" | head -n 1)
+        [[ -n $here && $pointer == *'`'* ]] || continue
+        grep -E "(^|/)$here(/|\$)" "$room/files" | grep '\.rt$\|\.antt$' | xargs cat | grep -vE '^ *(pub |ghost )?use ' >"$room/here"
+        grep -oE '[A-Za-z_0-9-]+`' <<<"$pointer" | tr -d '`' | while read -r word; do
+            grep -qE "\b(pub|fn|struct|enum|trait|type|record|abbrev|ghost|ensures|requires|const)( [a-z0-9]+)* $word\b" "$room/here" ||
+                echo "$here lacks $word"
+        done
+    done
 }
 
 # Each block of code or of a proof, and each script with its output, stands in a crate. A whole program of a
@@ -79,7 +95,7 @@ widths() {
 }
 
 for page in README.md docs/*.md docs/examples/*.md; do
-    for kind in links names blocks; do check "$page: $kind" $kind "$page"; done
+    for kind in links names pointers blocks; do check "$page: $kind" $kind "$page"; done
 done
 check 'what scripts/lemma_map writes' cmp docs/LEMMAS.md <(scripts/lemma_map)
 check 'what scripts/calling writes' cmp docs/CALLING.md <(scripts/calling)

@@ -15,6 +15,20 @@ written() {
     done
 }
 
+# written_again NAME: one more line than before has the path, within a minute.
+before=0
+written_again() {
+    for _ in $(seq 600); do
+        if [ "$(grep -cF -- "$1" out)" -gt $before ]; then
+            sleep 0.3
+            before=$(grep -cF -- "$1" out)
+            return
+        fi
+        sleep 0.1
+    done
+    return 1
+}
+
 # The events in the lines are as many as each line says: here each names one path.
 are_counted() {
     awk -F '\t' '$1 != NF - 1 { exit 1 }' out
@@ -48,6 +62,25 @@ report 'build_trigger: each event is in one line' "$(cmp -s paths wanted && are_
 # The second burst began when the line of the first was written, so no line has events of both.
 report 'build_trigger: no line is written before its burst' \
     "$(grep -F './a2/a3' out | head -n 1 | grep -qv './b' && [ "$(grep -cF './b' out)" -ge 1 ] && echo yes)"
+
+# An edit that keeps the length, in place or by a move over the file, gets a line: 20 of 20.
+mkdir same && echo 0 >same/f
+"$trigger" same --quiet 50 --timeout 20 --interval 10 --ticks 100000 >out 2>err &
+running=$!
+told=0
+: >same/begin
+for _ in $(seq 60); do
+    echo more >>same/begin
+    sleep 1
+    [ ! -s out ] || break
+done
+for n in $(seq 10); do
+    sed -i "s/.*/$((n % 10))/" same/f && written_again ./f && told=$((told + 1))
+    echo "$(((n + 5) % 10))" >next && mv next same/f && written_again ./f && told=$((told + 1))
+done
+kill $running
+wait $running 2>/dev/null
+report 'build_trigger: edits that keep the length' "$([ $told = 20 ] && [ ! -s err ] && echo yes)"
 
 # What waits when the ticks are over is written: no event gets as old as this timeout. A slow machine may
 # look too late, so this is tried three times at most.

@@ -26,6 +26,9 @@ running=$!
 well=yes
 printf 'loaded\n  name = "a"\n  port = 80\n' >wanted
 answered || well=no
+replace 'port = 81\nname = "a"\n'
+printf 'loaded\n  name = "a"\n  port = 81\n' >>wanted
+answered || well=no
 replace 'port = \n'
 cat >>wanted <<'END'
 kept

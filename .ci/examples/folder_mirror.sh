@@ -43,6 +43,7 @@ report 'folder_mirror: a copy at first' $well
 well=yes
 echo begin >from/begin && is_copy || well=no
 echo 'another text' >from/a && is_copy || well=no
+echo 'a third text' >from/a && is_copy && echo 'no fifth one' >next && mv next from/a && is_copy || well=no
 mkdir -p from/new/deep && echo deep >from/new/deep/c && is_copy || well=no
 mv from/new from/moved && is_copy || well=no
 rm -r from/lib && echo 'no folder' >from/lib && is_copy || well=no

@@ -2,13 +2,14 @@
 use Rattle.std.specs.Prelude.{◌≡◌, ℕ, true, List, [], ◌∷◌, map}
 use Rattle.std.specs.List.{AllByRecursion}
 use Rattle.file_id_cache.specs.declared.cache.NoCache.{NoCache}
-use Rattle.notify_types.specs.Event.{EventValue}
+use Rattle.notify_types.specs.Event.{EventValue, Timed}
 use Rattle.debounce_model.specs.Cache.{no_numbers}
 use Rattle.debounce_model.specs.Command.{CommandValue, EventCommand, ReplyValue}
 use Rattle.debounce_model.specs.PathsLaw.{emitted}
 use Rattle.debounce_model.specs.Play.{Paths, accepted, events_of, play}
 use Rattle.debounce_model.specs.Run.{Run}
-use Rattle.debounce_model.specs.State.{Core, waiting}
+use Rattle.debounce_model.specs.State.{Core, State, waiting}
+use Rattle.debounce_model.specs.Tick.{IsOutlook}
 use Rattle.debounce_model.specs.WellFormed.{IsWellFormed}
 use Rattle.folder_listing.specs.Listing.{ListingValue, IsListing}
 use Rattle.derived_laws.specs.Listings.{changes_through, last_of}
@@ -22,6 +23,11 @@ abbrev pub TakesAll : Core NoCache → List EventValue → ℕ → Core NoCache 
 TakesAll s events now t =
     (replies : List ReplyValue) × Run no_numbers s (commands_at events now) replies t
     × (accepted (commands_at events now) replies ≡ events) × (emitted replies ≡ [])
+
+-- these are the paths that a reader has who had some, once it has also played what is pending
+abbrev pub ReadsTheRest : State → Paths → Paths → Type 0
+ReadsTheRest state reader paths =
+    (outlook : List Timed) × IsOutlook state outlook × (paths ≡ play reader (events_of outlook))
 
 -- a debouncer, the last listing that it was told of, and what a reader has who played its batches
 pub record Followed : Type 0 where

@@ -2,7 +2,13 @@
 ghost use Rattle.std.specs.Prelude.{◌≡◌, ◌⊎◌, [], IfErr, IfOk, OnOk};
 ghost use Rattle.std.specs.Map.{keys_of};
 ghost use Rattle.notify_paths.specs.Errors.{out_of_memory, FullKind};
-ghost use Rattle.calls_by_hand.specs.Followed.{TakesAll};
+ghost use Rattle.debounce_model.specs.Cache.{no_numbers};
+ghost use Rattle.debounce_model.specs.Command.{TickCommand, BatchReply};
+ghost use Rattle.debounce_model.specs.Play.{events_of, play};
+ghost use Rattle.debounce_model.specs.Run.{Step};
+ghost use Rattle.debounce_model.specs.State.{empty_state};
+ghost use Rattle.folder_listing.specs.Changes.{changes};
+ghost use Rattle.calls_by_hand.specs.Followed.{ReadsTheRest, TakesAll};
 
 use debounce_core::data::DebounceDataInner;
 use derived_laws::listings::law_of_listings;
@@ -39,6 +45,7 @@ impl<A: Allocator> Model for Follower<A> {
 impl<A: Allocator + Copy> Follower<A> {
     /// Begins with nothing. An event is emitted once it is as old as the timeout, in nanoseconds.
     pub fn new(alloc: A, timeout: Moment) -> Follower<A>
+        ensures core { result.core.state ≡ empty_state timeout }
         ensures last { result.last ≡ [] }
         ensures reader { result.reader ≡ [] }
     {
@@ -57,6 +64,8 @@ impl<A: Allocator + Copy> Follower<A> {
     /// used up: what it took of the changes is no listing.
     pub fn see(self, next: Listing<A>, now: Moment) -> Result<Follower<A>, Error<A>>
         ensures ok { IfOk result (λ follower. follower.last ≡ next) }
+        ensures core { IfOk result (λ follower.
+            TakesAll self.core (changes self.last next) now follower.core) }
         ensures reader { IfOk result (λ follower. follower.reader ≡ self.reader) }
         ensures err { IfErr result (λ e. (e ≡ out_of_memory)
             ⊎ (e ≡ record { kind = FullKind; paths = [] })) }
@@ -79,6 +88,10 @@ impl<A: Allocator + Copy> Follower<A> {
 
     /// Emits what is expired at this moment, which the reader plays.
     pub fn tick(self, now: Moment) -> Result<(Follower<A>, Vec<DebouncedEvent<A>, A>), Error<A>>
+        ensures batch { IfOk result (λ r.
+            Step no_numbers self.core (TickCommand now) (BatchReply r.1.items) r.0.core) }
+        ensures reader { IfOk result (λ r. r.0.reader
+            ≡ play self.reader (events_of r.1.items)) }
         ensures last { IfOk result (λ r. r.0.last ≡ self.last) }
         ensures err { IfErr result (λ e. e ≡ out_of_memory) }
     {
@@ -102,6 +115,7 @@ impl<A: Allocator + Copy> Follower<A> {
     /// Returns the paths that the reader has once it has also played what is pending: exactly those of
     /// the last listing.
     pub fn paths(&self) -> Result<PathSet<A>, Error<A>>
+        ensures read { IfOk result (ReadsTheRest self.now.core.state self.now.reader) }
         ensures ok { IfOk result (λ paths. paths ≡ keys_of self.now.last) }
         ensures err { IfErr result (λ e. e ≡ out_of_memory) }
     {

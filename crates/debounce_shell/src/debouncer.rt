@@ -282,6 +282,42 @@ impl<
     {
         T::kind()
     }
+
+    /// Stops the watcher and the debouncer's thread, waits until both have ended, and returns the book
+    /// and how many events and errors were missed in all. A turn that has begun is finished, as by
+    /// `stop`. The watcher looks once more before it ends, so that what changed before this call is
+    /// reported too, and what it reports until it has ended goes to the book.
+    ///
+    /// In the book is what was never emitted: its `outlook` is what waits, in the order of a batch, and
+    /// `core().pending_errors()` are the errors. A reader that applies each batch and then that outlook
+    /// has applied all that the watcher reported, but for what was missed. The journal comes out by
+    /// `into_journal`, and is not copied; the last part of one that was taken in parts, by `take_journal`.
+    ///
+    /// It waits until each [`Feed`] was dropped: for ever, if a watcher keeps one after its own drop.
+    pub fn finish(self) -> (Book<C, A>, u64)
+        ensures legal { IfSome result.0.journal (λ es. IsLegal es result.0.core.state) }
+        ensures part { IfSome result.0.part (λ es. IsPart es result.0.core.state) }
+    {
+        self.shared.set_stop();
+        let Self {
+            mut watcher,
+            shared,
+            worker,
+        } = self;
+        watcher.look_last();
+        drop(watcher);
+        worker.join(&shared.rt);
+        let Shared {
+            rt,
+            alloc: _,
+            book,
+            signals,
+        } = shared;
+        let book = wait_for_last(&rt, book).into_inner();
+        // The proof reads here that the journal is legal, or the part of it.
+        let _ = book.is_journaled();
+        (book, signals.missed.load(Ordering::SeqCst))
+    }
 }
 
 impl<T: Drop, C: Drop, R: Threads + Wait + Clock + Drop, A: Allocator + Copy> Debouncer<
@@ -331,40 +367,6 @@ impl<T: Drop, C: Drop, R: Threads + Wait + Clock + Drop, A: Allocator + Copy> De
     {
         let mut book = self.shared.book.lock(&self.shared.rt);
         book.take_journal()
-    }
-
-    /// Stops the watcher and the debouncer's thread, waits until both have ended, and returns the book
-    /// and how many events and errors were missed in all. A turn that has begun is finished, as by
-    /// `stop`, and what the watcher reports until it has ended goes to the book.
-    ///
-    /// In the book is what was never emitted: its `outlook` is what waits, in the order of a batch, and
-    /// `core().pending_errors()` are the errors. A reader that applies each batch and then that outlook
-    /// has applied all that the watcher reported, but for what was missed. The journal comes out by
-    /// `into_journal`, and is not copied; the last part of one that was taken in parts, by `take_journal`.
-    ///
-    /// It waits until each [`Feed`] was dropped: for ever, if a watcher keeps one after its own drop.
-    pub fn finish(self) -> (Book<C, A>, u64)
-        ensures legal { IfSome result.0.journal (λ es. IsLegal es result.0.core.state) }
-        ensures part { IfSome result.0.part (λ es. IsPart es result.0.core.state) }
-    {
-        self.shared.set_stop();
-        let Self {
-            watcher,
-            shared,
-            worker,
-        } = self;
-        drop(watcher);
-        worker.join(&shared.rt);
-        let Shared {
-            rt,
-            alloc: _,
-            book,
-            signals,
-        } = shared;
-        let book = wait_for_last(&rt, book).into_inner();
-        // The proof reads here that the journal is legal, or the part of it.
-        let _ = book.is_journaled();
-        (book, signals.missed.load(Ordering::SeqCst))
     }
 
     /// Stops the watcher and the debouncer's thread, and waits until that thread has ended. A turn that

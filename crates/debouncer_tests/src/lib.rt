@@ -20,8 +20,6 @@ mod memory;
 #[cfg(test)]
 mod readme;
 #[cfg(test)]
-mod roots;
-#[cfg(test)]
 mod rounds;
 #[cfg(test)]
 mod running;

@@ -2,7 +2,9 @@
 use crate::build::{new_heap, path};
 use crate::trees::{Notes, entries, listing, root, tree};
 use fake_folders::tree::TreeFolders;
-use notify_debouncer_full::{Listing, PathBuf, Polled, RecursiveMode, compare, list, poll_round};
+use notify_debouncer_full::{
+    Error, ErrorKind, Listing, PathBuf, Polled, RecursiveMode, compare, list, poll_round,
+};
 use refusing_allocator::{Heap, TestHeap};
 use std::alloc::Allocator;
 use std::process::Abort;
@@ -14,13 +16,16 @@ const NEW: &str = "/ folder, /a file 1, /b file 3, /d folder, /d/y file 1";
 /// How many of the first requests are refused one by one, at most.
 const MOST: u64 = 200;
 
-/// Refuses request after request of the call, until it succeeds, and checks that each refusal is one.
+/// Refuses request after request of the call, until it makes fewer, and checks that it says so just then.
 fn check_refusals<A: TestHeap>(rt: &impl Abort, heap: A, name: &str, call: &mut impl Call<A>) {
     for n in 1..MOST {
         heap.refuse(n);
-        let taken = call.is_taken(rt, heap, n);
+        let answer = call.answer(rt, heap, n);
+        let came = heap.left() == 0;
         heap.refuse(0);
-        if taken {
+        let wanted = if came { Answer::Memory } else { Answer::Done };
+        assert_eq!(rt; answer, wanted, "{name}, request {n}");
+        if !came {
             assert!(rt; 1 < n, "{name} asks for no memory");
             return;
         }
@@ -28,21 +33,47 @@ fn check_refusals<A: TestHeap>(rt: &impl Abort, heap: A, name: &str, call: &mut 
     panic!(rt; "{name} is refused again and again");
 }
 
+/// What a call answers.
+#[derive(Clone, Copy, Debug, PartialEq)]
+enum Answer {
+    Done,
+    /// Memory is out.
+    Memory,
+    OtherError,
+}
+
+impl Answer {
+    fn of<A: Allocator, T: Drop>(answer: Result<T, Error<A>>) -> Answer {
+        match answer {
+            Ok(_) => Answer::Done,
+            Err(error) => Answer::of_error(&error),
+        }
+    }
+
+    fn of_error<A: Allocator>(error: &Error<A>) -> Answer {
+        if error.kind == ErrorKind::Memory {
+            Answer::Memory
+        } else {
+            Answer::OtherError
+        }
+    }
+}
+
 /// A call that is made again after each refusal.
 trait Call<A: TestHeap> {
-    /// Whether the call succeeds; otherwise nothing has changed.
-    fn is_taken(&mut self, rt: &impl Abort, heap: A, n: u64) -> bool;
+    /// What the call answers; unless it is done, nothing has changed.
+    fn answer(&mut self, rt: &impl Abort, heap: A, n: u64) -> Answer;
 }
 
 #[derive(Drop)]
 struct Gathered;
 
 impl<A: TestHeap> Call<A> for Gathered {
-    fn is_taken(&mut self, rt: &impl Abort, heap: A, n: u64) -> bool {
+    fn answer(&mut self, rt: &impl Abort, heap: A, n: u64) -> Answer {
         heap.refuse(0);
         let given = entries(rt, heap, OLD);
         heap.refuse(n);
-        Listing::from_entries(heap, given).is_ok()
+        Answer::of(Listing::from_entries(heap, given))
     }
 }
 
@@ -53,8 +84,8 @@ struct Compared<A: Allocator> {
 }
 
 impl<A: TestHeap> Call<A> for Compared<A> {
-    fn is_taken(&mut self, _rt: &impl Abort, heap: A, _n: u64) -> bool {
-        compare(heap, &self.old, &self.new).is_ok()
+    fn answer(&mut self, _rt: &impl Abort, heap: A, _n: u64) -> Answer {
+        Answer::of(compare(heap, &self.old, &self.new))
     }
 }
 
@@ -65,8 +96,8 @@ struct Listed<A: Allocator> {
 }
 
 impl<A: TestHeap> Call<A> for Listed<A> {
-    fn is_taken(&mut self, _rt: &impl Abort, heap: A, _n: u64) -> bool {
-        list(heap, &mut self.folders, self.roots.as_slice()).is_ok()
+    fn answer(&mut self, _rt: &impl Abort, heap: A, _n: u64) -> Answer {
+        Answer::of(list(heap, &mut self.folders, self.roots.as_slice()))
     }
 }
 
@@ -79,7 +110,7 @@ struct Polls<A: Allocator> {
 }
 
 impl<A: TestHeap> Call<A> for Polls<A> {
-    fn is_taken(&mut self, rt: &impl Abort, heap: A, _n: u64) -> bool {
+    fn answer(&mut self, rt: &impl Abort, heap: A, _n: u64) -> Answer {
         let before = self.last.len();
         let taken = poll_round(
             heap,
@@ -89,11 +120,12 @@ impl<A: TestHeap> Call<A> for Polls<A> {
             &mut self.notes,
         );
         let notes = self.notes.take();
-        assert!(rt;
-            taken || (notes.as_str() == "error Memory" && self.last.len() == before),
-            "{notes}"
-        );
-        taken
+        assert!(rt; taken || self.last.len() == before);
+        match (taken, notes.as_str()) {
+            (true, _) => Answer::Done,
+            (false, "error Memory") => Answer::Memory,
+            (false, _) => Answer::OtherError,
+        }
     }
 }
 
@@ -105,14 +137,14 @@ struct Watches<A: Allocator> {
 }
 
 impl<A: TestHeap> Call<A> for Watches<A> {
-    fn is_taken(&mut self, rt: &impl Abort, _heap: A, _n: u64) -> bool {
-        let taken = self
-            .polled
-            .watch(&mut self.folders, &self.place, RecursiveMode::Recursive)
-            .is_ok();
+    fn answer(&mut self, rt: &impl Abort, _heap: A, _n: u64) -> Answer {
+        let answer = Answer::of(
+            self.polled
+                .watch(&mut self.folders, &self.place, RecursiveMode::Recursive),
+        );
         let kept = (self.polled.roots().len(), self.polled.last().len());
-        assert!(rt; taken || kept == (0, 0));
-        taken
+        assert!(rt; answer == Answer::Done || kept == (0, 0));
+        answer
     }
 }
 

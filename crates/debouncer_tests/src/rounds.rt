@@ -151,6 +151,53 @@ now / folder, /c file 2, /d folder, /d/f file 2
 round Modify(Data(Any)) /d/f",
 ];
 
+/// The same of a watcher that begins with nothing: `show` or `show_flat` and a path that is watched from then
+/// on; `hide` and a path that isn't any longer.
+const STORIES_FROM_NOTHING: [&str; 3] = [
+    // A file goes, and is there again when a second root is watched that shows it too.
+    "now / folder, /d folder, /d/p file 1
+show /d
+round Create(Folder) /, Create(Folder) /d, Create(File) /d/p
+now / folder, /d folder
+round Remove(File) /d/p
+now / folder, /d folder, /d/p file 1
+show /
+round Create(File) /d/p
+hide /
+round nothing
+hide /d
+round Remove(Folder) /",
+    // A root is watched again, in the other mode.
+    "now / folder, /d folder, /d/e folder, /d/e/f file 1
+show_flat /d
+round Create(Folder) /, Create(Folder) /d, Create(Folder) /d/e
+show /d
+round Create(File) /d/e/f
+show_flat /d
+round Remove(File) /d/e/f",
+    // What no round saw was never there.
+    "now / folder, /d folder
+show /
+hide /
+round nothing",
+];
+
+/// Makes a round, and checks what it reports.
+fn check_round(rt: &(impl Abort + AllocGlobal), polled: &mut Polled, text: &str, wanted: &str) {
+    let mut notes = Notes::new(rt);
+    polled.round(&mut tree(rt, rt.alloc(), text), &mut notes);
+    let wanted = if wanted == "nothing" { "" } else { wanted };
+    assert_eq!(rt; notes.take().as_str(), wanted, "{text}");
+}
+
+/// The mode that a word of a scene asks for.
+fn mode_of(word: &str) -> RecursiveMode {
+    match word {
+        "deep" | "show" => RecursiveMode::Recursive,
+        _ => RecursiveMode::NonRecursive,
+    }
+}
+
 /// Carries out a line of a scene in folders that hold these entries.
 fn carry_out(
     rt: &(impl Abort + AllocGlobal),
@@ -159,28 +206,18 @@ fn carry_out(
     word: &str,
     rest: &str,
 ) {
-    let mut folders = tree(rt, rt.alloc(), text);
-    match word {
-        "round" => {
-            let mut notes = Notes::new(rt);
-            polled.round(&mut folders, &mut notes);
-            let wanted = if rest == "nothing" { "" } else { rest };
-            assert_eq!(rt; notes.take().as_str(), wanted, "{text}");
-        }
-        "unwatch" => {
-            polled.unwatch(&path(rt, rt.alloc(), rest)).expect(rt, rest);
-        }
-        _ => {
-            let mode = if word == "deep" {
-                RecursiveMode::Recursive
-            } else {
-                RecursiveMode::NonRecursive
-            };
-            polled
-                .watch(&mut folders, &path(rt, rt.alloc(), rest), mode)
-                .expect(rt, rest);
-        }
+    if word == "round" {
+        return check_round(rt, polled, text, rest);
     }
+    let place = path(rt, rt.alloc(), rest);
+    let mut folders = tree(rt, rt.alloc(), text);
+    let answer = match word {
+        "unwatch" => polled.unwatch(&place),
+        "hide" => polled.unwatch_reported(&place),
+        "show" | "show_flat" => polled.watch_reported(&mut folders, &place, mode_of(word)),
+        _ => polled.watch(&mut folders, &place, mode_of(word)),
+    };
+    answer.expect(rt, rest);
 }
 
 /// Plays a scene: its first line is what stands in the folders, and the others happen then.
@@ -194,14 +231,24 @@ fn play_scene(rt: &(impl Abort + AllocGlobal), polled: &mut Polled, scene: &str)
     }
 }
 
-#[test]
-fn roots_overlap_and_change_their_modes(rt: HostRuntime) {
-    for story in STORIES {
+/// Plays each story, with a watcher of its own.
+fn play(rt: &(impl Abort + AllocGlobal), stories: &[&str]) {
+    for story in stories {
         let mut polled = Polled::new(rt.alloc());
         for scene in story.split("now ") {
             if !scene.is_empty() {
-                play_scene(&rt, &mut polled, scene);
+                play_scene(rt, &mut polled, scene);
             }
         }
     }
+}
+
+#[test]
+fn roots_overlap_and_change_their_modes(rt: HostRuntime) {
+    play(&rt, &STORIES);
+}
+
+#[test]
+fn roots_are_reported_from_nothing(rt: HostRuntime) {
+    play(&rt, &STORIES_FROM_NOTHING);
 }

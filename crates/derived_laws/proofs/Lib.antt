@@ -1,1 +1,2 @@
 mod ListingLemmas
+mod ReportLemmas

@@ -21,7 +21,7 @@ use Rattle.folder_listing.specs.declared.entry.EntryKind.{EntryKind}
 use Rattle.folder_listing.specs.declared.entry.EntryKind.TheVariants.{File, Folder, Other}
 use Rattle.folder_listing.specs.declared.entry.Found.{Found}
 use Rattle.folder_listing.specs.Listing.{ListingValue, entry_at, is_nonempty, IsListing}
-use Rattle.folder_listing.specs.Changes.{is_of_kind, has_other_length, is_kept, gone, lies_in, lies_below, staying, removed, created, resized, removal_of, creation_of, event_at, removal, creation, resize, changes, LeadsTo}
+use Rattle.folder_listing.specs.Changes.{is_of_kind, is_rewritten, is_kept, gone, lies_in, lies_below, staying, removed, created, rewritten, removal_of, creation_of, event_at, removal, creation, rewrite, changes, LeadsTo}
 use Rattle.folder_listing.proofs.PrefixLemmas.{prefix-trans, below_behind, not_below_itself, not_below_behind}
 use Rattle.folder_listing.proofs.PairLemmas.{AreAbove, above-trans, turned, turned_less, at_itself}
 use Rattle.folder_listing.proofs.WalkLemmas.{keys_of-filter, has-filter, has_entry-some}
@@ -539,15 +539,15 @@ module _ (stay : Paths) where
           rw (first, played) more
 
 -- another length adds and takes no path
-play-resizes : (paths : Paths) (es : ListingValue) → play paths (map resize es) ≡ paths
-play-resizes paths [] = refl
-play-resizes paths (e ∷ es) = play-resizes paths es
+play-rewrites : (paths : Paths) (es : ListingValue) → play paths (map rewrite es) ≡ paths
+play-rewrites paths [] = refl
+play-rewrites paths (e ∷ es) = play-rewrites paths es
 
 -- other lengths are honest
-honest-resizes : (paths : Paths) (es : ListingValue) → AllByRecursion (λ e. is_nonempty e.0 ≡ true) es →
-    are_honest paths (map resize es) ≡ true
-honest-resizes paths [] n = refl
-honest-resizes paths (e ∷ es) n = rw (honest-event paths (resize e).kind e.0 n.0) (honest-resizes paths es n.1)
+honest-rewrites : (paths : Paths) (es : ListingValue) → AllByRecursion (λ e. is_nonempty e.0 ≡ true) es →
+    are_honest paths (map rewrite es) ≡ true
+honest-rewrites paths [] n = refl
+honest-rewrites paths (e ∷ es) n = rw (honest-event paths (rewrite e).kind e.0 n.0) (honest-rewrites paths es n.1)
 
 -- nothing stands in front of the first entry
 front-none : (ns : ListingValue) → AllByRecursion (λ e. AreFront e.0 []) ns
@@ -597,19 +597,19 @@ module _ (old new : ListingValue) where
       let added : play (keys_of (staying old new)) (map creation (created old new)) ≡ keys_of new =
       ap (λ ps. play ps (map creation (created old new))) among_new
       ∙ play-creations (keys_of (staying old new)) [] new (front-none new) n.ordered in
-      let third : are_honest (keys_of new) (map resize (resized old new)) ≡ true =
-      honest-resizes (keys_of new) (resized old new)
-      (each-filter (λ e. is_nonempty e.0 ≡ true) (λ e. has_other_length e.1.length (entry_at new e.0))
+      let third : are_honest (keys_of new) (map rewrite (rewritten old new)) ≡ true =
+      honest-rewrites (keys_of new) (rewritten old new)
+      (each-filter (λ e. is_nonempty e.0 ≡ true) (λ e. is_rewritten e.1 (entry_at new e.0))
       (staying old new) (each-filter (λ e. is_nonempty e.0 ≡ true) (λ e. not (lies_in (gone old new) e.0))
       old named)) in
       record {
         closed = o.closed;
         honest = honest-append (keys_of old) (map removal (removed old new)) (map creation (created old new)
-            ++ map resize (resized old new)) first
+            ++ map rewrite (rewritten old new)) first
             (rw left (honest-append (keys_of (staying old new)) (map creation (created old new))
-            (map resize (resized old new)) second (rw added third)));
+            (map rewrite (rewritten old new)) second (rw added third)));
         played = play-append (keys_of old) (map removal (removed old new)) (map creation (created old new)
-            ++ map resize (resized old new))
+            ++ map rewrite (rewritten old new))
             ∙ rw left (play-append (keys_of (staying old new)) (map creation (created old new))
-            (map resize (resized old new)) ∙ rw added (play-resizes (keys_of new) (resized old new)));
+            (map rewrite (rewritten old new)) ∙ rw added (play-rewrites (keys_of new) (rewritten old new)));
       }

@@ -1,5 +1,5 @@
 -- Paths whose nearest folders are all there have all their folders. The calls that make listings cite these.
-use Rattle.std.proofs.Common.{◌≡◌, ℕ, zero, suc, ◌+◌, ◌-◌, ◌≤◌, arith, Bool, true, false, ◌&&◌, ◌||◌, List, [], ◌∷◌, ◌++◌, take, length, length-append, refl, ap, sym, ◌∙◌, Some, true≢false}
+use Rattle.std.proofs.Common.{None, ◌≡◌, ℕ, zero, suc, ◌+◌, ◌-◌, ◌≤◌, arith, Bool, true, false, ◌&&◌, ◌||◌, List, [], ◌∷◌, ◌++◌, take, length, length-append, refl, ap, sym, ◌∙◌, Some, true≢false}
 use Rattle.std.specs.List.{list_all}
 use Rattle.std.specs.List.Sorted.{IsStrictlySortedBy}
 use Rattle.std.specs.Map.{keys_of}
@@ -153,6 +153,6 @@ pub found_last : (es : ListingValue) (entries : List (PathValue × EntryKind × 
     entry_at (put_all es entries) path ≡ last_or (entry_at es path) entries path
 found_last es [] path = refl
 found_last es (x ∷ xs) path =
-    found_last (insert_entry path_cmp es x.0 (record { kind = x.1; length = x.2 })) xs path
-    ∙ ap (λ o. last_or o xs path) (entry_at-insert es x.0 path (record { kind = x.1; length = x.2 })
+    found_last (insert_entry path_cmp es x.0 (record { kind = x.1; length = x.2; modified = None })) xs path
+    ∙ ap (λ o. last_or o xs path) (entry_at-insert es x.0 path (record { kind = x.1; length = x.2; modified = None })
     (is_at (path_cmp path) x.0) refl)

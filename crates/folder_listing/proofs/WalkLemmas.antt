@@ -1,6 +1,6 @@
 -- The walk over two listings side by side finds what changed.
 use Rattle.std.proofs.Common.{◌≡◌, Bool, true, false, not, ◌&&◌, ◌||◌, cond, List, [], ◌∷◌, ◌++◌, map, refl, ap, sym, subst, ◌∙◌, Some, None}
-use Rattle.std.specs.Prelude.{Option, filter, if◌then◌else◌, is_some, IfSome, ◌==◌}
+use Rattle.std.specs.Prelude.{Option, filter, if◌then◌else◌, is_some, IfSome}
 use Rattle.std.specs.declared.cmp.Ordering.TheVariants.{Less}
 use Rattle.std.specs.List.{AllByRecursion, list_any}
 use Rattle.std.specs.List.Sorted.{IsStrictlySortedBy}
@@ -14,9 +14,9 @@ use Rattle.notify_paths.specs.PathLaws.{path_eq_decides, path_matches_eq}
 use Rattle.notify_paths.proofs.Prefixes.{prefix_itself, and_false, and_true}
 use Rattle.debounce_model.specs.Play.{has_path}
 use Rattle.folder_listing.specs.declared.entry.Found.{Found}
-use Rattle.folder_listing.specs.declared.pairs.Change.TheVariants.{Removed, Created, Replaced, Resized, Same}
+use Rattle.folder_listing.specs.declared.pairs.Change.TheVariants.{Removed, Created, Replaced, Rewritten, Same}
 use Rattle.folder_listing.specs.Listing.{ListingValue, entry_at, has_entry, is_same_kind}
-use Rattle.folder_listing.specs.Changes.{is_of_kind, has_other_length, is_kept, gone, lies_in, lies_below, staying, removed, created, resized, removal, creation, resize}
+use Rattle.folder_listing.specs.Changes.{is_of_kind, is_same_state, is_rewritten, is_kept, gone, lies_in, lies_below, staying, removed, created, rewritten, removal, creation, rewrite}
 use Rattle.folder_listing.specs.Pairs.{PairValue, PartsValue, paired, is_under, change_at, change_of, goes, top_after, no_parts, joined, parts_of, walk}
 use Rattle.folder_listing.proofs.PrefixLemmas.{prefix-trans, run_ends, no_prefix_behind, below_behind, not_below_itself, not_below_behind}
 use Rattle.folder_listing.proofs.PairLemmas.{AreAbove, IsAbove, Ascend, ascend-paired, entry_cons, olds_of, news_of, olds_of-paired, news_of-paired, above-side, entry_at-side}
@@ -43,9 +43,9 @@ goes-change_at u None (Some a) = sym (and_false (not u))
 goes-change_at true (Some b) None = refl
 goes-change_at false (Some b) None = refl
 goes-change_at true (Some b) (Some a) = refl
-goes-change_at false (Some b) (Some a) = by (is_same_kind b.kind a.kind) (b.length == a.length)
+goes-change_at false (Some b) (Some a) = by (is_same_kind b.kind a.kind) (is_same_state b a)
   where
-    by : (s n : Bool) → goes (if not s then Replaced b.kind a.kind else (if not n then Resized else Same))
+    by : (s n : Bool) → goes (if not s then Replaced b.kind a.kind else (if not n then Rewritten else Same))
         ≡ not s
     by true true = refl
     by true false = refl
@@ -216,11 +216,11 @@ head_removed S path u (Some b) None es h = by u (h b)
         ≡ (parts_of (if v then Same else Removed b.kind) path).removed ++ map removal (filter S es)
     by true q = rw q refl
     by false q = rw q refl
-head_removed S path u (Some b) (Some a) es h = by u (is_same_kind b.kind a.kind) (b.length == a.length) (h b)
+head_removed S path u (Some b) (Some a) es h = by u (is_same_kind b.kind a.kind) (is_same_state b a) (h b)
   where
     by : (v s n : Bool) → S (path, b) ≡ not v → map removal (filter S (if not s then (path, b) ∷ es else es))
         ≡ (parts_of (if v then Created a.kind
-        else (if not s then Replaced b.kind a.kind else (if not n then Resized else Same))) path).removed
+        else (if not s then Replaced b.kind a.kind else (if not n then Rewritten else Same))) path).removed
         ++ map removal (filter S es)
     by true true n q = refl
     by true false n q = rw q refl
@@ -241,40 +241,40 @@ head_created S path u (Some b) None es h = by u
         ++ map creation (filter S es)
     by true = refl
     by false = refl
-head_created S path u (Some b) (Some a) es h = by u (is_same_kind b.kind a.kind) (b.length == a.length) (h a)
+head_created S path u (Some b) (Some a) es h = by u (is_same_kind b.kind a.kind) (is_same_state b a) (h a)
   where
     by : (v s n : Bool) → S (path, a) ≡ not (not (v || not s) && true) →
         map creation (filter S ((path, a) ∷ es))
         ≡ (parts_of (if v then Created a.kind
-        else (if not s then Replaced b.kind a.kind else (if not n then Resized else Same))) path).created
+        else (if not s then Replaced b.kind a.kind else (if not n then Rewritten else Same))) path).created
         ++ map creation (filter S es)
     by true s n q = rw q refl
     by false true true q = rw q refl
     by false true false q = rw q refl
     by false false n q = rw q refl
 
--- the other length of a pair's new entry
-head_resized : (S T : PathValue × Found → Bool) (path : PathValue) (u : Bool) (b a : Option Found)
+-- what was rewritten of a pair's entries
+head_rewritten : (S T : PathValue × Found → Bool) (path : PathValue) (u : Bool) (b a : Option Found)
     (es : ListingValue) → ((f : Found) → S (path, f) ≡ not (u || is_gone b a)) →
-    ((f : Found) → T (path, f) ≡ has_other_length f.length a) →
-    map resize (filter T (filter S (entry_cons path b es))) ≡ (parts_of (change_at u b a) path).resized
-    ++ map resize (filter T (filter S es))
-head_resized S T path u None None es h k = refl
-head_resized S T path u None (Some a) es h k = refl
-head_resized S T path u (Some b) None es h k = by u (h b)
+    ((f : Found) → T (path, f) ≡ is_rewritten f a) →
+    map rewrite (filter T (filter S (entry_cons path b es))) ≡ (parts_of (change_at u b a) path).rewritten
+    ++ map rewrite (filter T (filter S es))
+head_rewritten S T path u None None es h k = refl
+head_rewritten S T path u None (Some a) es h k = refl
+head_rewritten S T path u (Some b) None es h k = by u (h b)
   where
-    by : (v : Bool) → S (path, b) ≡ not (v || true) → map resize (filter T (filter S ((path, b) ∷ es)))
-        ≡ (parts_of (if v then Same else Removed b.kind) path).resized ++ map resize (filter T (filter S es))
+    by : (v : Bool) → S (path, b) ≡ not (v || true) → map rewrite (filter T (filter S ((path, b) ∷ es)))
+        ≡ (parts_of (if v then Same else Removed b.kind) path).rewritten ++ map rewrite (filter T (filter S es))
     by true q = rw q refl
     by false q = rw q refl
-head_resized S T path u (Some b) (Some a) es h k =
-    by u (is_same_kind b.kind a.kind) (b.length == a.length) (h b) (k b)
+head_rewritten S T path u (Some b) (Some a) es h k =
+    by u (is_same_kind b.kind a.kind) (is_same_state b a) (h b) (k b)
   where
     by : (v s n : Bool) → S (path, b) ≡ not (v || not s) → T (path, b) ≡ not n →
-        map resize (filter T (filter S ((path, b) ∷ es)))
+        map rewrite (filter T (filter S ((path, b) ∷ es)))
         ≡ (parts_of (if v then Created a.kind
-        else (if not s then Replaced b.kind a.kind else (if not n then Resized else Same))) path).resized
-        ++ map resize (filter T (filter S es))
+        else (if not s then Replaced b.kind a.kind else (if not n then Rewritten else Same))) path).rewritten
+        ++ map rewrite (filter T (filter S es))
     by true s n q r = rw q refl
     by false true true q r = rw (q, r) refl
     by false true false q r = rw (q, r) refl
@@ -309,7 +309,7 @@ parts_between old new = record {
   removed = map removal (removed old new);
   created =
       map creation (created old new);
-  resized = map resize (resized old new);
+  rewritten = map rewrite (rewritten old new);
 }
 
 module _ (old new : ListingValue) where
@@ -321,10 +321,10 @@ module _ (old new : ListingValue) where
   abbrev creations_of : List PairValue → ListingValue
   creations_of ps = filter (λ e. not (has_entry (staying old new) e.0)) (news_of ps)
 
-  -- .. the other lengths
-  abbrev resizes_of : List PairValue → ListingValue
-  resizes_of ps =
-      filter (λ e. has_other_length e.1.length (entry_at new e.0))
+  -- .. what was rewritten
+  abbrev rewrites_of : List PairValue → ListingValue
+  rewrites_of ps =
+      filter (λ e. is_rewritten e.1 (entry_at new e.0))
       (filter (λ e. not (lies_in (gone old new) e.0)) (olds_of ps))
 
   -- the walk finds what changed at the pairs that are left
@@ -333,7 +333,7 @@ module _ (old new : ListingValue) where
         removed = map removal (removals_of ps);
         created =
             map creation (creations_of ps);
-        resized = map resize (resizes_of ps);
+        rewritten = map rewrite (rewrites_of ps);
       }
   walk_finds top [] h = refl
   walk_finds top (p ∷ ps) h =
@@ -364,10 +364,10 @@ module _ (old new : ListingValue) where
       ++ map creation (creations_of ps) =
       head_created (λ e. not (has_entry (staying old new) e.0)) p.path u p.before p.after
       (news_of ps) (λ f. ap not stays) in
-      let third : map resize (resizes_of (p ∷ ps)) ≡ (parts_of (change_of top p) p.path).resized
-      ++ map resize (resizes_of ps) =
-      head_resized (λ e. not (lies_in (gone old new) e.0)) (λ e. has_other_length e.1.length (entry_at new e.0))
-      p.path u p.before p.after (olds_of ps) (λ f. ap not in_it) (λ f. ap (has_other_length f.length)
+      let third : map rewrite (rewrites_of (p ∷ ps)) ≡ (parts_of (change_of top p) p.path).rewritten
+      ++ map rewrite (rewrites_of ps) =
+      head_rewritten (λ e. not (lies_in (gone old new) e.0)) (λ e. is_rewritten e.1 (entry_at new e.0))
+      p.path u p.before p.after (olds_of ps) (λ f. ap not in_it) (λ f. ap (is_rewritten f)
       fact) in
       rw (walk_finds (top_after top p) ps (go_on old new top p ps h), first, second, third) refl
 
@@ -404,4 +404,4 @@ module _ (old new : ListingValue) where
 
 -- behind the last pair nothing is added
 pub joined-none : (parts : PartsValue) → joined parts no_parts ≡ parts
-joined-none parts = rw (append-nil parts.removed, append-nil parts.created, append-nil parts.resized) refl
+joined-none parts = rw (append-nil parts.removed, append-nil parts.created, append-nil parts.rewritten) refl

@@ -1,5 +1,5 @@
 -- What changed between two listings, as events.
-use Rattle.std.specs.Prelude.{◌≡◌, ℕ, Bool, true, false, not, ◌==◌, List, [], ◌∷◌, ◌++◌, map, filter, Option, None, Some}
+use Rattle.std.specs.Prelude.{◌≡◌, ℕ, Bool, true, false, not, ◌&&◌, ◌==◌, List, [], ◌∷◌, ◌++◌, map, filter, Option, None, Some}
 use Rattle.std.specs.List.{list_any}
 use Rattle.notify_types.specs.Event.{EventValue, no_attributes}
 use Rattle.notify_paths.specs.Path.{PathValue, is_prefix, is_below}
@@ -21,10 +21,21 @@ abbrev pub is_of_kind : EntryKind → Option Found → Bool
 is_of_kind kind None = false
 is_of_kind kind (Some found) = is_same_kind kind found.kind
 
--- something is there, and its length is another
-abbrev pub has_other_length : ℕ → Option Found → Bool
-has_other_length length None = false
-has_other_length length (Some found) = not (length == found.length)
+-- the two times are the same, or neither is known
+abbrev pub is_same_time : Option ℕ → Option ℕ → Bool
+is_same_time None None = true
+is_same_time None (Some after) = false
+is_same_time (Some before) None = false
+is_same_time (Some before) (Some after) = before == after
+
+-- the two have the same length and the same modified time
+abbrev pub is_same_state : Found → Found → Bool
+is_same_state before after = (before.length == after.length) && is_same_time before.modified after.modified
+
+-- something is there, and its length or its modified time is another
+abbrev pub is_rewritten : Found → Option Found → Bool
+is_rewritten before None = false
+is_rewritten before (Some after) = not (is_same_state before after)
 
 -- the new listing has the path of the entry, with its kind
 abbrev pub is_kept : ListingValue → PathValue × Found → Bool
@@ -54,9 +65,9 @@ removed old new = filter (λ e. not (lies_below (gone old new) e.0)) (gone old n
 abbrev pub created : ListingValue → ListingValue → ListingValue
 created old new = filter (λ e. not (has_entry (staying old new) e.0)) new
 
--- the entries that stay and whose length is another now
-abbrev pub resized : ListingValue → ListingValue → ListingValue
-resized old new = filter (λ e. has_other_length e.1.length (entry_at new e.0)) (staying old new)
+-- the entries that stay and whose length or modified time is another now
+abbrev pub rewritten : ListingValue → ListingValue → ListingValue
+rewritten old new = filter (λ e. is_rewritten e.1 (entry_at new e.0)) (staying old new)
 
 -- the kind of event that tells of a removal
 abbrev pub removal_of : EntryKind → EventKind
@@ -70,9 +81,9 @@ creation_of File = kind.Create create.File
 creation_of Folder = kind.Create create.Folder
 creation_of Other = kind.Create create.Other
 
--- the kind of event that tells of another length
-abbrev pub resizing : EventKind
-resizing = kind.Modify (modify.Data change.Any)
+-- the kind of event that tells of another length or modified time
+abbrev pub rewriting : EventKind
+rewriting = kind.Modify (modify.Data change.Any)
 
 -- an event of this kind at the path, and nothing else
 abbrev pub event_at : EventKind → PathValue → EventValue
@@ -86,14 +97,14 @@ removal entry = event_at (removal_of entry.1.kind) entry.0
 abbrev pub creation : PathValue × Found → EventValue
 creation entry = event_at (creation_of entry.1.kind) entry.0
 
--- the event that tells of the entry's other length
-abbrev pub resize : PathValue × Found → EventValue
-resize entry = event_at resizing entry.0
+-- the event that tells that the entry was rewritten
+abbrev pub rewrite : PathValue × Found → EventValue
+rewrite entry = event_at rewriting entry.0
 
--- all changes: removals, creations and other lengths, each in the order of their paths
+-- all changes: removals, creations and what was rewritten, each in the order of their paths
 abbrev pub changes : ListingValue → ListingValue → List EventValue
 changes old new = map removal (removed old new)
-    ++ (map creation (created old new) ++ map resize (resized old new))
+    ++ (map creation (created old new) ++ map rewrite (rewritten old new))
 
 -- from the old paths on the events are honest, and played on them they leave the new paths
 pub record LeadsTo (old new : Paths) (events : List EventValue) : Type 0 where

@@ -35,11 +35,15 @@ abbrev pub is_nonempty : PathValue → Bool
 is_nonempty [] = false
 is_nonempty (part ∷ parts) = true
 
+-- what stands there, of which no modified time is known
+abbrev pub untimed : EntryKind → ℕ → Found
+untimed kind length = record { kind = kind; length = length; modified = None }
+
 -- the entries are put in one after the other, so that a later one of a path wins
 abbrev pub put_all : ListingValue → List (PathValue × EntryKind × ℕ) → ListingValue
 put_all listing [] = listing
 put_all listing (entry ∷ entries) =
-    put_all (insert_entry path_cmp listing entry.0 (record { kind = entry.1; length = entry.2 })) entries
+    put_all (insert_entry path_cmp listing entry.0 (untimed entry.1 entry.2)) entries
 
 -- no path is empty, and the folders of each are there
 abbrev pub is_listing : ListingValue → Bool
@@ -53,7 +57,7 @@ listing_of entries = if is_listing (put_all [] entries) then Some (put_all [] en
 abbrev pub last_or : Option Found → List (PathValue × EntryKind × ℕ) → PathValue → Option Found
 last_or known [] path = known
 last_or known (entry ∷ entries) path =
-    last_or (if is_at (path_cmp path) entry.0 then Some (record { kind = entry.1; length = entry.2 })
+    last_or (if is_at (path_cmp path) entry.0 then Some (untimed entry.1 entry.2)
     else known) entries path
 
 -- at each path there is what its last entry says, and nothing if it has none

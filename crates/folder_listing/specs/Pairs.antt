@@ -1,13 +1,13 @@
 -- Two listings side by side, as their comparison walks over them. The clauses of functions inside this crate cite this.
-use Rattle.std.specs.Prelude.{Bool, true, false, not, ◌==◌, List, [], ◌∷◌, ◌++◌, map, Option, None, Some, if◌then◌else◌}
+use Rattle.std.specs.Prelude.{Bool, true, false, not, List, [], ◌∷◌, ◌++◌, map, Option, None, Some, if◌then◌else◌}
 use Rattle.std.specs.Ordering.{match_ordering}
 use Rattle.notify_types.specs.Event.{EventValue}
 use Rattle.notify_paths.specs.Path.{PathValue, path_cmp, is_prefix}
 use Rattle.folder_listing.specs.declared.entry.Found.{Found}
 use Rattle.folder_listing.specs.declared.pairs.Change.{Change}
-use Rattle.folder_listing.specs.declared.pairs.Change.TheVariants.{Removed, Created, Replaced, Resized, Same}
+use Rattle.folder_listing.specs.declared.pairs.Change.TheVariants.{Removed, Created, Replaced, Rewritten, Same}
 use Rattle.folder_listing.specs.Listing.{ListingValue, is_same_kind}
-use Rattle.folder_listing.specs.Changes.{event_at, removal_of, creation_of, resizing}
+use Rattle.folder_listing.specs.Changes.{event_at, is_same_state, removal_of, creation_of, rewriting}
 
 -- a path, and what stands there before and after
 pub record PairValue : Type 0 where
@@ -54,7 +54,7 @@ abbrev pub change_both : Bool → Found → Found → Change
 change_both under b a =
     if under then Created a.kind
     else (if not (is_same_kind b.kind a.kind) then Replaced b.kind a.kind
-    else (if not (b.length == a.length) then Resized else Same))
+    else (if not (is_same_state b a) then Rewritten else Same))
 
 -- what happened, below a path that went or not
 abbrev pub change_at : Bool → Option Found → Option Found → Change
@@ -68,26 +68,26 @@ abbrev pub goes : Change → Bool
 goes (Removed k) = true
 goes (Replaced k j) = true
 goes (Created k) = false
-goes Resized = false
+goes Rewritten = false
 goes Same = false
 
 -- the events so far, in three parts
 pub record PartsValue : Type 0 where
   pub removed : List EventValue
   pub created : List EventValue
-  pub resized : List EventValue
+  pub rewritten : List EventValue
 
 -- no events
 abbrev pub no_parts : PartsValue
-no_parts = record { removed = []; created = []; resized = [] }
+no_parts = record { removed = []; created = []; rewritten = [] }
 
 -- some events, and then others
 abbrev pub joined : PartsValue → PartsValue → PartsValue
 joined a b = record {
   removed = a.removed ++ b.removed;
   created = a.created ++ b.created;
-  resized =
-      a.resized ++ b.resized;
+  rewritten =
+      a.rewritten ++ b.rewritten;
 }
 
 -- the events of one change
@@ -98,9 +98,9 @@ parts_of (Replaced j k) path = record {
   removed = event_at (removal_of j) path ∷ [];
   created =
       event_at (creation_of k) path ∷ [];
-  resized = [];
+  rewritten = [];
 }
-parts_of Resized path = record no_parts { resized = event_at resizing path ∷ [] }
+parts_of Rewritten path = record no_parts { rewritten = event_at rewriting path ∷ [] }
 parts_of Same path = no_parts
 
 -- what happened at a pair

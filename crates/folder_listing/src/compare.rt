@@ -22,7 +22,7 @@ use std::marker::Model;
 struct Parts<A: Allocator> {
     removed: Vec<Event<A>, A>,
     created: Vec<Event<A>, A>,
-    resized: Vec<Event<A>, A>,
+    rewritten: Vec<Event<A>, A>,
 }
 
 impl<A: Allocator> Model for Parts<A> {
@@ -33,7 +33,7 @@ impl<A: Allocator> Model for Parts<A> {
     ghost view = { λ a. record {
       removed = a.removed.items;
       created = a.created.items;
-      resized = a.resized.items;
+      rewritten = a.rewritten.items;
     } };
 }
 
@@ -44,7 +44,7 @@ impl<A: Allocator + Copy> Parts<A> {
         Parts {
             removed: Vec::new(alloc),
             created: Vec::new(alloc),
-            resized: Vec::new(alloc),
+            rewritten: Vec::new(alloc),
         }
     }
 
@@ -59,25 +59,25 @@ impl<A: Allocator + Copy> Parts<A> {
                 push_event(&mut self.removed, old.removal(), path)?;
                 push_event(&mut self.created, new.creation(), path)
             }
-            Change::Resized => {
+            Change::Rewritten => {
                 let kind = EventKind::Modify(ModifyKind::Data(DataChange::Any));
-                push_event(&mut self.resized, kind, path)
+                push_event(&mut self.rewritten, kind, path)
             }
             Change::Same => Ok(()),
         }
     }
 
-    /// Returns all events: removals, creations and other lengths.
+    /// Returns all events: removals, creations and what was rewritten.
     fn into_events(self) -> Result<Vec<Event<A>, A>, AllocError>
         ensures { IfOk result (λ events. events.items ≡ self.removed
-            ++ (self.created ++ self.resized)) }
+            ++ (self.created ++ self.rewritten)) }
     {
         let Parts {
             mut removed,
             mut created,
-            mut resized,
+            mut rewritten,
         } = self;
-        created.append(&mut resized)?;
+        created.append(&mut rewritten)?;
         removed.append(&mut created)?;
         Ok(removed)
     }
@@ -99,8 +99,9 @@ fn push_event<A: Allocator + Copy>(
 }
 
 /// Returns what changed from the old listing to the new one: the removals, then the creations, then
-/// the files with another length, each in the order of their paths. What lay below a removed path
-/// has no removal of its own. Each entry of both is looked at once.
+/// what has another length or modified time, each in the order of their paths. What lay below a removed
+/// path has no removal of its own. Between listings without times the lengths alone decide. Each entry
+/// of both is looked at once.
 pub fn compare<A: Allocator + Copy>(
     alloc: A,
     old: &Listing<A>,

@@ -1,6 +1,6 @@
 //! What stands at a path.
 ghost use Rattle.std.specs.Prelude.{◌≡◌};
-ghost use Rattle.folder_listing.specs.Changes.{removal_of, creation_of};
+ghost use Rattle.folder_listing.specs.Changes.{removal_of, creation_of, is_same_state, is_same_time};
 ghost use Rattle.folder_listing.specs.Listing.{is_same_kind};
 ghost use Rattle.folder_listing.specs.declared.entry.EntryKind.TheVariants.{File, Folder};
 
@@ -70,4 +70,27 @@ pub struct Found {
     pub kind: EntryKind,
     /// 0 for all but a file, if a listing was read from folders.
     pub length: u64,
+    /// When it was modified last, in nanoseconds since 1970. `None` for a folder, whose time follows its
+    /// entries, and if nobody asked for it or it isn't known.
+    pub modified: Option<u64>,
+}
+
+impl Found {
+    /// Whether the two have the same length and the same modified time.
+    pub fn is_same_state(self, after: Found) -> bool
+        ensures { result ≡ is_same_state self after }
+    {
+        self.length == after.length && is_same_time(self.modified, after.modified)
+    }
+}
+
+/// Whether the two times are the same, or neither is known.
+fn is_same_time(before: Option<u64>, after: Option<u64>) -> bool
+    ensures { result ≡ is_same_time before after }
+{
+    match (before, after) {
+        (None, None) => true,
+        (Some(before), Some(after)) => before == after,
+        _ => false,
+    }
 }

@@ -49,8 +49,8 @@ impl<A: Allocator + Copy> Listing<A> {
     }
 
     /// Returns the listing of these entries: paths, what kind of thing stands there, and its length
-    /// in bytes. Of two entries of one path the later one counts. It is `None` if one of the paths is
-    /// empty, or if a folder above one is missing.
+    /// in bytes; no modified time is known. Of two entries of one path the later one counts. It is `None`
+    /// if one of the paths is empty, or if a folder above one is missing.
     pub fn from_entries(
         alloc: A,
         entries: Vec<(PathBuf<A>, EntryKind, u64), A>,
@@ -183,7 +183,12 @@ fn gather<A: Allocator + Copy>(
 {
     let mut map = BTreeMap::new(alloc);
     for (path, kind, length) in entries {
-        map.insert(path, Found { kind, length })?;
+        let found = Found {
+            kind,
+            length,
+            modified: None,
+        };
+        map.insert(path, found)?;
     }
     Ok(map)
 }

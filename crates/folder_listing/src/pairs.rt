@@ -18,7 +18,8 @@ pub(crate) enum Change {
     Created(EntryKind),
     /// There is another kind of thing now.
     Replaced(EntryKind, EntryKind),
-    Resized,
+    /// Its length or its modified time is another now.
+    Rewritten,
     /// Nothing, or nothing that is told by itself.
     Same,
 }
@@ -45,7 +46,7 @@ pub(crate) fn change_at(under: bool, before: Option<Found>, after: Option<Found>
         (Some(before), Some(after)) if !before.kind.is_same(after.kind) => {
             Change::Replaced(before.kind, after.kind)
         }
-        (Some(before), Some(after)) if before.length != after.length => Change::Resized,
+        (Some(before), Some(after)) if !before.is_same_state(after) => Change::Rewritten,
         (Some(_), Some(_)) => Change::Same,
     }
 }

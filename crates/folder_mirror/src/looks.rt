@@ -6,10 +6,11 @@ use notify_debouncer_full::{
 };
 use std::collections::BTreeMap;
 use std::fs::Files;
+use std::time::Clock;
 use watch_program::Fault;
 
 /// What stands at the first path of each event.
-pub(crate) fn standing_at<R: Files + AllocGlobal + Copy + Drop>(
+pub(crate) fn standing_at<R: Files + Clock + AllocGlobal + Copy + Drop>(
     rt: R,
     batch: &[DebouncedEvent],
 ) -> Result<BTreeMap<PathBuf, Standing>, Fault> {
@@ -26,7 +27,7 @@ pub(crate) fn standing_at<R: Files + AllocGlobal + Copy + Drop>(
 }
 
 /// What stands at the path, if it is copied. Links aren't followed.
-fn look_at<R: Files + AllocGlobal + Copy + Drop>(
+fn look_at<R: Files + Clock + AllocGlobal + Copy + Drop>(
     rt: R,
     path: &PathBuf,
 ) -> Result<Option<Standing>, Fault> {
@@ -41,7 +42,7 @@ fn look_at<R: Files + AllocGlobal + Copy + Drop>(
 }
 
 /// A batch that names all that stands in the folder, and what the copy has beside that.
-pub(crate) fn all_of<R: Files + AllocGlobal + Copy + Drop>(
+pub(crate) fn all_of<R: Files + Clock + AllocGlobal + Copy + Drop>(
     rt: R,
     from: &PathBuf,
     to: &PathBuf,
@@ -54,7 +55,7 @@ pub(crate) fn all_of<R: Files + AllocGlobal + Copy + Drop>(
 }
 
 /// What stands at the folder and below it.
-fn listing_of<R: Files + AllocGlobal + Copy + Drop>(
+fn listing_of<R: Files + Clock + AllocGlobal + Copy + Drop>(
     rt: R,
     folder: &PathBuf,
 ) -> Result<Listing, Fault> {

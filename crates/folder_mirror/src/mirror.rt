@@ -7,7 +7,7 @@ use batch_plan::planning::plan;
 use notify_debouncer_full::{DebounceEventResult, DebouncedEvent, PathBuf};
 use std::fs::Files;
 use std::io::Write;
-use std::time::Duration;
+use std::time::{Clock, Duration};
 use std::{io, mem};
 use watch_loop::TakesReports;
 use watch_program::{Fault, push_field, write_missed, write_now};
@@ -26,7 +26,11 @@ pub(crate) struct Mirror<R: Drop, O: Drop, E: Drop> {
     err: E,
 }
 
-impl<R: Files + AllocGlobal + Copy + Drop, O: Write + Drop, E: Write + Drop> Mirror<R, O, E> {
+impl<R: Files + Clock + AllocGlobal + Copy + Drop, O: Write + Drop, E: Write + Drop> Mirror<
+    R,
+    O,
+    E,
+> {
     /// Returns the mirror of the copy. It says on `out` what it does, and on `err` what failed.
     pub(crate) fn new(rt: R, copy: FolderCopy<R>, out: O, err: E) -> Mirror<R, O, E> {
         Mirror {
@@ -108,7 +112,7 @@ impl<R: Files + AllocGlobal + Copy + Drop, O: Write + Drop, E: Write + Drop> Mir
     }
 }
 
-impl<R: Files + AllocGlobal + Copy + Drop, O: Write + Drop, E: Write + Drop> TakesReports
+impl<R: Files + Clock + AllocGlobal + Copy + Drop, O: Write + Drop, E: Write + Drop> TakesReports
     for Mirror<R, O, E> {
     /// Makes the copy. The watch came first: what changes after this look is reported.
     fn begin(&mut self) -> Result<(), Fault> {

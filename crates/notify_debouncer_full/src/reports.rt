@@ -116,6 +116,27 @@ impl<
     {
         self.debouncer.unwatch(path)
     }
+
+    /// Stops the watcher and the debouncer as `Debouncer::finish` does, waits until both have ended, and
+    /// returns all that was not asked for: first what is in the channel, and then what was never
+    /// emitted. Nothing is lost but what was counted as missed or unsent.
+    pub fn finish(self) -> LastReports<A>
+        ensures legal { IfSome result.book.journal (λ es. IsLegal es result.book.core.state) }
+    {
+        let Reports {
+            rt: _,
+            debouncer,
+            queue,
+            unsent,
+        } = self;
+        let (book, missed) = debouncer.finish();
+        LastReports {
+            queue,
+            book,
+            missed,
+            unsent: unsent.count(),
+        }
+    }
 }
 
 impl<
@@ -175,27 +196,6 @@ impl<T: Drop, R: DebouncerRuntime, A: DebouncerAllocator> Reports<T, R, A> {
         ensures { result.now ≡ self.now.debouncer }
     {
         &self.debouncer
-    }
-
-    /// Stops the watcher and the debouncer as `Debouncer::finish` does, waits until both have ended, and
-    /// returns all that was not asked for: first what is in the channel, and then what was never
-    /// emitted. Nothing is lost but what was counted as missed or unsent.
-    pub fn finish(self) -> LastReports<A>
-        ensures legal { IfSome result.book.journal (λ es. IsLegal es result.book.core.state) }
-    {
-        let Reports {
-            rt: _,
-            debouncer,
-            queue,
-            unsent,
-        } = self;
-        let (book, missed) = debouncer.finish();
-        LastReports {
-            queue,
-            book,
-            missed,
-            unsent: unsent.count(),
-        }
     }
 }
 

@@ -4,7 +4,8 @@ use Rattle.std.specs.List.{list_any}
 use Rattle.notify_paths.specs.Errors.{ErrorValue, ErrorKindValue, GenericKind, IoKind, PathNotFoundKind, WatchNotFoundKind, FullKind, MemoryKind}
 use Rattle.notify_paths.specs.Path.{PathValue, path_eq}
 use Rattle.notify_types.specs.declared.event.RecursiveMode.{RecursiveMode}
-use Rattle.folder_listing.specs.Listing.{ListingValue, has_entry}
+use Rattle.notify_types.specs.declared.event.RecursiveMode.TheVariants.{NonRecursive}
+use Rattle.folder_listing.specs.Listing.{ListingValue, has_entry, is_nonempty}
 use Rattle.folder_listing.specs.MergedListings.{IsMerged}
 use Rattle.folder_listing.specs.Near.{seen}
 use Rattle.poll_rounds.specs.Folders.{IsTree, shown, IsRefusal}
@@ -31,28 +32,38 @@ with_root roots root = other_roots roots root.0 ++ root ∷ []
 abbrev pub kept_by : List (PathValue × RecursiveMode) → ListingValue → PolledValue
 kept_by roots entries = record { roots = roots; last = seen entries roots }
 
--- the root is watched: the last listing is completed by the root's first one, which has its path, and of this is kept
--- what the roots show
+-- the root, which isn't empty, is watched: the last listing is completed by the root's first one, which has its path,
+-- and of this is kept what the roots show
 abbrev pub Watches : PolledValue → PathValue × RecursiveMode → ListingValue → PolledValue → Type 0
 Watches old root first new =
-    (has_entry first root.0 ≡ true)
+    (is_nonempty root.0 ≡ true) × (has_entry first root.0 ≡ true)
     × ((merged : ListingValue) × IsMerged old.last first merged
     × (new ≡ kept_by (with_root old.roots root) merged))
+
+-- the root, which isn't empty, is watched from the next round on: the last listing stays
+abbrev pub WatchesNext : PolledValue → PathValue × RecursiveMode → PolledValue → Type 0
+WatchesNext old root new =
+    (is_nonempty root.0 ≡ true) × (new ≡ record old { roots = with_root old.roots root })
 
 -- folders that tell their tree show this listing at the root
 abbrev pub ShowsFirst : Option ListingValue → PathValue × RecursiveMode → ListingValue → Type 0
 ShowsFirst told root first = IfSome told (λ tree. IsTree tree → first ≡ shown tree (root ∷ []))
 
--- the root is watched, and this is what it shows of the last listing then
+-- the root is watched, and this is what it shows of the last listing then, itself included
 abbrev pub Lists : Option ListingValue → PolledValue → PathValue × RecursiveMode → ListingValue → PolledValue
     → Type 0
 Lists told old root listed new =
     ((first : ListingValue) × ShowsFirst told root first × Watches old root first new)
-    × (listed ≡ seen new.last (root ∷ []))
+    × (listed ≡ seen new.last (root ∷ [])) × (has_entry listed root.0 ≡ true)
 
 -- nothing stands at the root's path, if the folders tell their tree
 abbrev pub LacksRoot : Option ListingValue → PathValue × RecursiveMode → Type 0
 LacksRoot told root = IfSome told (λ tree. IsTree tree → has_entry (shown tree (root ∷ [])) root.0 ≡ false)
+
+-- something stands at the path, if the folders tell their tree
+abbrev pub IsThere : Option ListingValue → PathValue → Type 0
+IsThere told path = IfSome told (λ tree. IsTree tree →
+    has_entry (shown tree ((path, NonRecursive) ∷ [])) path ≡ true)
 
 -- a path to be watched isn't there
 abbrev pub path_not_found : ErrorValue
@@ -84,7 +95,18 @@ IsWatchError e = (e ≡ path_not_found) ⊎ (IsFailure e.kind × (e.paths ≡ []
 abbrev pub IsUnwatchError : ErrorValue → Type 0
 IsUnwatchError e = e ≡ watch_not_found
 
--- a watcher over real folders, which watched some roots, watches this one too and lists it, or says why not
+-- a watcher over real folders, which watched some roots, watches this one too, at once or from the next round on, or
+-- says why not. Both states stand under a lock, and no clause can name them: of the answer this says that a path which
+-- is agreed to isn't empty
+abbrev pub WatchesOrRefuses : PathValue × RecursiveMode → Result (Unit {0}) ErrorValue → Type 0
+WatchesOrRefuses root (Ok done) =
+    (old : PolledValue) × (new : PolledValue)
+    × (((first : ListingValue) × ShowsFirst None root first × Watches old root first new)
+    ⊎ WatchesNext old root new)
+WatchesOrRefuses root (Err e) = IsWatchError e
+
+-- .. and lists it, or says why not: of the answer this says that it has the root, and nothing beside what the root
+-- shows
 abbrev pub ListsOrRefuses : PathValue × RecursiveMode → Result ListingValue ErrorValue → Type 0
 ListsOrRefuses root (Ok listed) = (old : PolledValue) × (new : PolledValue) × Lists None old root listed new
 ListsOrRefuses root (Err e) = IsWatchError e

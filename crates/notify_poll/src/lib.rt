@@ -4,4 +4,5 @@
 pub mod noting;
 pub mod polled;
 pub mod real;
+mod times;
 pub mod watcher;

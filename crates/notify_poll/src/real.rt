@@ -1,14 +1,18 @@
 //! The real file system.
-ghost use Rattle.std.specs.Prelude.{◌≡◌, ◌≤◌, None, IfErr};
+ghost use Rattle.std.specs.Prelude.{◌≡◌, ◌≤◌, None, true, IfErr, IfOk, IfSome};
+ghost use Rattle.folder_listing.specs.Listing.{is_same_kind};
+ghost use Rattle.folder_listing.specs.declared.entry.EntryKind.TheVariants.{Folder};
 ghost use Rattle.notify_paths.specs.Errors.{out_of_memory};
 ghost use Rattle.poll_rounds.specs.Folders.{IsRefusal};
 
+use crate::times::ModifiedTimes;
 use folder_listing::entry::{EntryKind, Found};
 use notify_paths::error::{Error, ErrorKind};
 use notify_paths::path::PathBuf;
 use poll_rounds::folders::Folders;
 use std::alloc::{AllocError, Allocator, Global};
 use std::fs::{DirEntry, Files, Metadata, ReadDir};
+use std::time::Clock;
 use std::{fs, io};
 
 /// The real file system. It can't tell its tree, which others change.
@@ -17,10 +21,13 @@ pub struct RealFolders<R: Drop, A: Allocator = Global> {
     rt: R,
     alloc: A,
     failures: u64,
+    /// How modified times are asked for, if they are.
+    times: Option<ModifiedTimes>,
 }
 
 impl<R: Drop, A: Allocator + Copy> RealFolders<R, A> {
-    /// Returns the real file system. Relative paths begin at the folder that the program runs in.
+    /// Returns the real file system, which tells no modified times. Relative paths begin at the folder that
+    /// the program runs in.
     pub fn new(rt: R, alloc: A) -> RealFolders<R, A>
         ensures { result.failures ≡ 0 }
     {
@@ -28,6 +35,22 @@ impl<R: Drop, A: Allocator + Copy> RealFolders<R, A> {
             rt,
             alloc,
             failures: 0,
+            times: None,
+        }
+    }
+
+    /// Returns the real file system, which tells when files, links and others were modified. A time that is
+    /// less than 20 milliseconds older than the look at it could be that of a later change too: the look
+    /// waits so long, and looks again. If something was written meanwhile, the time isn't told, and so is
+    /// asked for again by the next look.
+    pub fn with_modified_times(rt: R, alloc: A) -> RealFolders<R, A>
+        ensures { result.failures ≡ 0 }
+    {
+        RealFolders {
+            rt,
+            alloc,
+            failures: 0,
+            times: Some(ModifiedTimes::new()),
         }
     }
 
@@ -53,30 +76,49 @@ fn is_missing(path: &str, error: &io::Error) -> bool {
         )
 }
 
-/// What stands there. A link is an `Other`.
-fn found_of(metadata: &Metadata) -> Found {
+/// What kind of thing stands there. A link is an `Other`.
+fn kind_of(metadata: &Metadata) -> EntryKind {
     if metadata.is_file() {
-        return Found {
-            kind: EntryKind::File,
-            length: metadata.len(),
-        };
-    }
-    let kind = if metadata.is_dir() {
+        EntryKind::File
+    } else if metadata.is_dir() {
         EntryKind::Folder
     } else {
         EntryKind::Other
-    };
-    Found { kind, length: 0 }
+    }
 }
 
-impl<R: Files + Alloc + Clone + Drop, A: Allocator + Copy> Folders<A> for RealFolders<R, A> {
+/// What stands there, with its modified time if it is asked for. A folder's follows its entries, and isn't
+/// told.
+fn found_of(clock: &impl Clock, metadata: &Metadata, times: &mut Option<ModifiedTimes>) -> Found
+    ensures { is_same_kind Folder result.kind ≡ true → result.modified ≡ None }
+{
+    let kind = kind_of(metadata);
+    let modified = match times {
+        Some(times) if !kind.is_folder() => times.told(clock, metadata),
+        _ => None,
+    };
+    Found {
+        kind,
+        length: if kind.is_file() { metadata.len() } else { 0 },
+        modified,
+    }
+}
+
+impl<R: Files + Clock + Alloc + Clone + Drop, A: Allocator + Copy> Folders<A>
+    for RealFolders<R, A> {
     ghost told = { λ _. None };
 
     ghost failed = { λ s. s.failures };
 
-    fn look(&mut self, path: &PathBuf<A>) -> Result<Option<Found>, Error<A>> {
-        match fs::symlink_metadata(&self.rt, path.as_str()) {
-            Ok(metadata) => Ok(Some(found_of(&metadata))),
+    fn look(&mut self, path: &PathBuf<A>) -> Result<Option<Found>, Error<A>>
+        ensures counted { self.old.failures ≤ self.new.failures }
+        ensures err { IfErr result (λ e. IsRefusal e self.old.failures self.new.failures) }
+        // Its time follows its entries, and is no change of its own.
+        ensures folder { IfOk result (λ r. IfSome r (λ found.
+            is_same_kind Folder found.kind ≡ true → found.modified ≡ None)) }
+    {
+        match self.metadata_at(path.as_str()) {
+            Ok(metadata) => Ok(Some(found_of(&self.rt, &metadata, &mut self.times))),
             Err(error) if is_missing(path.as_str(), &error) => Ok(None),
             Err(error) => Err(self.refusal(&error)),
         }
@@ -96,6 +138,22 @@ impl<R: Files + Alloc + Clone + Drop, A: Allocator + Copy> Folders<A> for RealFo
 
     fn failures(&self) -> u64 {
         self.failures
+    }
+}
+
+impl<R: Files + Clock + Drop, A: Allocator> RealFolders<R, A> {
+    /// What the system says of the path, once its modified time isn't young any more, as far as it waits.
+    fn metadata_at(&mut self, path: &str) -> io::Result<Metadata>
+        ensures { self.new.failures ≡ self.old.failures }
+    {
+        let metadata = fs::symlink_metadata(&self.rt, path)?;
+        if let Some(times) = &mut self.times
+            && !metadata.is_dir()
+            && times.waits_for(&self.rt, &metadata)
+        {
+            return fs::symlink_metadata(&self.rt, path);
+        }
+        Ok(metadata)
     }
 }
 

@@ -8,15 +8,20 @@ use std::time::Duration;
 #[derive(Clone, Copy, Debug, PartialEq, Eq)]
 pub struct Config {
     poll_interval: Duration,
+    modified_times: bool,
+    initial_events: bool,
 }
 
 impl Default for Config {
     ghost is_default = { IsDefaultConfig };
 
-    /// Returns the settings of most programs: a poll each second.
+    /// Returns the settings of most programs: a poll each second, by lengths and modified times, and no
+    /// event of what stands at a path when it is watched.
     fn default() -> Config {
         Config {
             poll_interval: Duration::from_secs(1),
+            modified_times: true,
+            initial_events: false,
         }
     }
 }
@@ -29,6 +34,7 @@ impl Config {
     {
         Config {
             poll_interval: interval,
+            ..self
         }
     }
 
@@ -37,6 +43,43 @@ impl Config {
         ensures { result ≡ self.now.poll_interval }
     {
         self.poll_interval
+    }
+
+    /// Sets whether a polling watcher also compares when a file or a link was modified, so that it reports a
+    /// change that keeps the length, and a `touch`. Without it, lengths alone decide.
+    pub fn with_modified_times(self, compared: bool) -> Config
+        ensures { result ≡ record self { modified_times = compared } }
+    {
+        Config {
+            modified_times: compared,
+            ..self
+        }
+    }
+
+    /// Returns whether a polling watcher compares modified times.
+    pub fn modified_times(&self) -> bool
+        ensures { result ≡ self.now.modified_times }
+    {
+        self.modified_times
+    }
+
+    /// Sets whether a polling watcher begins with nothing: what a path shows when it is watched is reported
+    /// as created, and what no path shows any more after an `unwatch` as removed. Without it, both are
+    /// silent.
+    pub fn with_initial_events(self, reported: bool) -> Config
+        ensures { result ≡ record self { initial_events = reported } }
+    {
+        Config {
+            initial_events: reported,
+            ..self
+        }
+    }
+
+    /// Returns whether a polling watcher begins with nothing.
+    pub fn initial_events(&self) -> bool
+        ensures { result ≡ self.now.initial_events }
+    {
+        self.initial_events
     }
 }
 

@@ -4,8 +4,8 @@
 
 use anyhow::{Result, bail};
 use notify_debouncer_full::{
-    Config, DebounceEventResult, DebouncerRuntime, LastReports, Listing, PathBuf,
-    RecommendedReports, RecursiveMode, Reports,
+    Config, DebounceEventResult, DebouncerRuntime, LastReports, PathBuf, RecommendedReports,
+    RecursiveMode, Reports,
 };
 use path_sets::PathSet;
 use std::env;
@@ -18,14 +18,6 @@ fn folder_of(rt: &HostRuntime) -> Result<PathBuf> {
         bail!("usage: path_mirror FOLDER");
     };
     Ok(PathBuf::parse(rt.alloc(), folder.as_str())?)
-}
-
-fn paths_of(rt: &impl AllocGlobal, listing: &Listing) -> Result<PathSet> {
-    let mut paths = PathSet::new(rt.alloc());
-    for (path, _found) in listing.iter() {
-        paths.insert(path.clone()?)?;
-    }
-    Ok(paths)
 }
 
 fn print(rt: &impl Print, paths: &PathSet) -> Result<()> {
@@ -97,7 +89,9 @@ fn watch<R: DebouncerRuntime + AllocGlobal + Print + Eprint>(
     rt: R,
     folder: &PathBuf,
 ) -> Result<()> {
-    let config = Config::default().with_poll_interval(Duration::from_millis(5));
+    let config = Config::default()
+        .with_poll_interval(Duration::from_millis(5))
+        .with_initial_events(true);
     let mut reports: RecommendedReports<R> = Reports::start(
         rt,
         rt.alloc(),
@@ -105,10 +99,8 @@ fn watch<R: DebouncerRuntime + AllocGlobal + Print + Eprint>(
         None,
         config,
     )?;
-    let mut paths = paths_of(
-        &rt,
-        &reports.watch_listed(folder, RecursiveMode::Recursive)?,
-    )?;
+    reports.watch(folder, RecursiveMode::Recursive)?;
+    let mut paths = PathSet::new(rt.alloc());
     mirror(&rt, &reports, &mut paths, &stop_in(&rt, folder)?)?;
     end(&rt, &mut paths, &reports.finish())
 }

@@ -1,7 +1,7 @@
 //! Debouncers that end: how soon, and what they give back then.
 use crate::build::{Host, Running, new_heap, path, sleep_a_turn, start};
 use crate::memory::Silent;
-use crate::running::wait_for_any;
+use crate::running::wait_for_more;
 use notify_debouncer_full::{
     Book, Command, Config, DebounceDataInner, DebounceEventResult, DebouncedEvent, Entry,
     ErrorKind, Feed, NoCache, PathBuf, RecursiveMode, Watcher, new_debouncer_opt,
@@ -230,7 +230,7 @@ pub fn a_closure_counts_what_it_cannot_send<T: Watcher<Feed<NoCache, R>, R, Glob
     debouncer
         .watch(&path(&rt, rt.alloc(), "/w"), RecursiveMode::Recursive)
         .expect(&rt, "a watch");
-    let counted = wait_for_any(&rt, &lost);
+    let counted = wait_for_more(&rt, &lost, 0);
     debouncer.finish();
     assert!(rt; counted);
 }

@@ -8,9 +8,13 @@ mod build;
 #[cfg(test)]
 mod ending;
 #[cfg(test)]
+mod listing_refused;
+#[cfg(test)]
 mod losses;
 #[cfg(test)]
 mod memory;
+#[cfg(test)]
+mod pauses;
 #[cfg(test)]
 mod reports;
 #[cfg(test)]
@@ -18,12 +22,20 @@ mod running;
 #[cfg(test)]
 mod scenes;
 #[cfg(test)]
+mod stage;
+#[cfg(test)]
 mod starting;
 #[cfg(test)]
 mod stopping;
 #[cfg(test)]
 mod threads;
 #[cfg(test)]
+mod turns;
+#[cfg(test)]
 mod watchers;
 #[cfg(test)]
 mod watching;
+#[cfg(test)]
+mod whole_folders;
+#[cfg(test)]
+mod words;

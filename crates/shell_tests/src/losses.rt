@@ -1,11 +1,15 @@
 //! What could not be sent, and turns that were refused.
-use crate::build::{Host, Outcome, Running, TURNS, channel, new_heap, path, start};
+use crate::build::{Host, Outcome, Running, TURNS, channel, new_heap, path, sleep_turns, start};
+use crate::memory::Silent;
+use crate::stage::{Staged, take_turn};
 use crossbeam_channel::Receiver;
-use notify_debouncer_full::{DebounceEventHandler, Feed, NoCache, RecursiveMode, SendTo, Watcher};
+use notify_debouncer_full::{
+    Config, DebounceEventHandler, Feed, NoCache, PathBuf, RecursiveMode, Reports, SendTo, Watcher,
+};
 use refusing_allocator::{Heap, TestHeap};
 use std::alloc::Allocator;
 use std::sync::Wait;
-use std::thread;
+use std::sync::atomic::Ordering;
 use std::time::{Clock, Duration};
 
 #[test]
@@ -42,9 +46,20 @@ pub fn has_batch(rt: &(impl Wait + Clock), from: &Receiver<Outcome<impl Allocato
     false
 }
 
+/// How many items of the watcher were missed, and how many turns were refused.
+fn counts_of<T: Drop, R: Host, A: TestHeap>(debouncer: &Running<T, R, A>) -> [u64; 2] {
+    [debouncer.missed(), debouncer.refused_turns()]
+}
+
+/// Lets the debouncer's thread take two turns, and returns what is counted then.
+fn turn_twice<T: Drop, R: Staged, A: TestHeap>(rt: &R, debouncer: &Running<T, R, A>) -> [u64; 2] {
+    assert!(rt; take_turn(rt) && take_turn(rt));
+    counts_of(debouncer)
+}
+
 pub fn a_refused_turn_is_counted_and_loses_nothing<
     T: Watcher<Feed<NoCache, R, A>, R, A>,
-    R: Host,
+    R: Staged,
     A: TestHeap,
 >(rt: R)
     requires takes { (feed : _) → T.takes feed }
@@ -52,22 +67,93 @@ pub fn a_refused_turn_is_counted_and_loses_nothing<
     let heap: A = new_heap(&rt);
     let (sender, from) = channel(&rt);
     let handler = SendTo::new(rt, sender);
-    // The first tick comes after memory is refused.
-    let mut debouncer: Running<T, R, A> = start(rt, heap, Duration::from_secs(1), handler);
+    rt.stage().is_held.store(true, Ordering::SeqCst);
+    let mut debouncer: Running<T, R, A> = start(rt, heap, Duration::from_millis(8), handler);
     debouncer
         .watch(&path(&rt, heap, "/w"), RecursiveMode::Recursive)
         .expect(&rt, "a watch");
-    let before = debouncer.refused_turns();
+    sleep_turns(&rt, 10);
     heap.refuse(u64::MAX);
-    for _ in 0..TURNS {
-        if debouncer.refused_turns() > 0 {
-            break;
-        }
-        thread::sleep(&rt, Duration::from_millis(1));
-    }
-    let refused = debouncer.refused_turns() > 0;
+    let refused = turn_twice(&rt, &debouncer);
     heap.refuse(0);
-    let came = has_batch(&rt, &from);
+    let later = turn_twice(&rt, &debouncer);
+    rt.stage().is_held.store(false, Ordering::SeqCst);
     debouncer.stop();
-    assert_eq!(rt; (before, refused, came), (0, true, true));
+    let came = matches!(from.try_recv(&rt), Ok(Ok(_)));
+    assert_eq!(rt; (refused, later, came), ([0, 2], [0, 2], true));
+}
+
+pub fn a_clock_that_fails_is_counted_for_who_reads_it<
+    T: Watcher<Feed<NoCache, R, A>, R, A>,
+    R: Staged,
+    A: TestHeap,
+>(rt: R)
+    requires takes { (feed : _) → T.takes feed }
+{
+    let heap: A = new_heap(&rt);
+    rt.stage().is_held.store(true, Ordering::SeqCst);
+    let mut debouncer: Running<T, R, A> = start(rt, heap, Duration::from_millis(8), Silent);
+    rt.stage().is_broken.store(true, Ordering::SeqCst);
+    // Three events and an error are reported.
+    debouncer
+        .watch(&path(&rt, heap, "/w"), RecursiveMode::Recursive)
+        .expect(&rt, "a watch");
+    let fed = counts_of(&debouncer);
+    let turned = turn_twice(&rt, &debouncer);
+    rt.stage().is_broken.store(false, Ordering::SeqCst);
+    let later = turn_twice(&rt, &debouncer);
+    rt.stage().is_held.store(false, Ordering::SeqCst);
+    debouncer.stop();
+    assert_eq!(rt; [fed, turned, later], [[4, 0], [4, 2], [4, 2]]);
+}
+
+pub fn what_reports_cannot_send_is_counted<
+    T: Watcher<Feed<NoCache, R, A>, R, A>,
+    R: Staged,
+    A: TestHeap,
+>(rt: R)
+    requires takes { (feed : _) → T.takes feed }
+{
+    let heap: A = new_heap(&rt);
+    rt.stage().is_held.store(true, Ordering::SeqCst);
+    let (timeout, rate) = (Duration::from_secs(3600), Some(Duration::from_millis(8)));
+    let made = Reports::start(rt, heap, timeout, rate, Config::default());
+    let mut reports: Reports<T, R, A> = made.expect(&rt, "reports");
+    let place = path(&rt, heap, "/w");
+    send_in_vain(&rt, heap, &mut reports, &place);
+    send_in_vain(&rt, heap, &mut reports, &place);
+    rt.stage().is_broken.store(true, Ordering::SeqCst);
+    watch(&rt, &mut reports, &place);
+    let refused_turns = reports.debouncer().refused_turns();
+    assert_eq!(rt;
+        [reports.unsent(), reports.missed(), refused_turns],
+        [2, 4, 0]
+    );
+    rt.stage().is_held.store(false, Ordering::SeqCst);
+    let last = reports.finish();
+    assert_eq!(rt; [last.unsent, last.missed], [2, 4]);
+}
+
+/// Three events and an error are reported to the debouncer.
+fn watch<T: Watcher<Feed<NoCache, R, A>, R, A>, R: Host, A: TestHeap>(
+    rt: &R,
+    reports: &mut Reports<T, R, A>,
+    place: &PathBuf<A>,
+) {
+    let watched = reports.watch(place, RecursiveMode::Recursive);
+    watched.expect(rt, "a watch");
+}
+
+/// An error is reported, and there is no memory to send it on.
+fn send_in_vain<T: Watcher<Feed<NoCache, R, A>, R, A>, R: Staged, A: TestHeap>(
+    rt: &R,
+    heap: A,
+    reports: &mut Reports<T, R, A>,
+    place: &PathBuf<A>,
+) {
+    watch(rt, reports, place);
+    heap.refuse(u64::MAX);
+    let turned = take_turn(rt);
+    heap.refuse(0);
+    assert!(rt; turned);
 }

@@ -1,38 +1,33 @@
 //! Each request for memory refused in turn, and what a feed notes of an event.
-use crate::build::{Host, Outcome, Running, commands, new_heap, path, start};
+use crate::build::{Host, Outcome, Running, channel, fill, new_heap, path, start};
+use crate::starting::has_ended;
+use crate::words::word_of;
 use notify_debouncer_full::{
-    Book, Command, Config, DebounceEventHandler, Entry, Error, ErrorKind, Feed, NoCache, PathBuf,
-    RecursiveMode, Watcher, command_step, tick_step,
+    Book, Command, Config, DebounceEventHandler, Entry, Feed, NoCache, PathBuf, RecursiveMode,
+    SendTo, Watcher, tick_step,
 };
 use refusing_allocator::{Heap, TestHeap};
 use std::alloc::Allocator;
 use std::process::Abort;
 use std::time::Duration;
 
-/// One event and four errors that wait. The ticks fill a journal's memory, so that each further entry
-/// asks for some.
-const WAITING: &str =
-    "timeout 50\nevent 0 Create(Any) - /b\nroot Recursive /r\nerror PathNotFound\nerror PathNotFound\nerror PathNotFound\nerror PathNotFound\ntick 0\ntick 0\n";
+/// How many events and how many errors a tick gives, and why it gives no batch, if it was refused.
+type Given = (usize, &'static str, usize);
 
-/// Carries out the commands of [`WAITING`].
-fn fill<A: TestHeap>(rt: &impl Abort, heap: A, book: &mut Book<NoCache, A>) {
-    for command in commands(rt, heap, WAITING) {
-        command_step(book, 0, command);
-    }
+fn given(book: &mut Book<NoCache, impl TestHeap>) -> Given {
+    let (batch, errors) = tick_step(book, 100);
+    let count = batch.as_ref().map_or(0, |events| events.len());
+    (count, word_of(batch.map(|_| ())), errors.len())
 }
 
-/// Ticks while the nth request for memory is refused, and then while none is. Answers how many events
-/// and how many errors came of each, and whether that many requests came.
-fn tick_twice<A: TestHeap>(
-    heap: A,
-    book: &mut Book<NoCache, A>,
-    n: u64,
-) -> ([usize; 2], [usize; 2], bool) {
+/// Ticks while the nth request for memory is refused, and then while none is. Answers what came of each,
+/// and whether that many requests came.
+fn tick_twice<A: TestHeap>(heap: A, book: &mut Book<NoCache, A>, n: u64) -> (Given, Given, bool) {
     heap.refuse(n);
-    let first = counts_of(book);
+    let first = given(book);
     let came = heap.left() == 0;
     heap.refuse(0);
-    (first, counts_of(book), came)
+    (first, given(book), came)
 }
 
 /// Refuses the nth request for memory of a tick. Checks what stands after that, and answers whether
@@ -40,17 +35,15 @@ fn tick_twice<A: TestHeap>(
 fn check_tick(rt: &impl Abort, heap: impl TestHeap, keeps: bool, n: u64) -> bool {
     let mut book = new_book(heap, keeps);
     fill(rt, heap, &mut book);
-    let ([given, errors], [rest, later], came) = tick_twice(heap, &mut book, n);
-    // What wasn't emitted at first is emitted then. Without a journal the errors come at once.
-    let all = [given.saturating_add(rest), errors.saturating_add(later)];
-    assert!(rt; all == [1, 4] && (keeps || errors == 4), "{n}");
+    let (first, second, came) = tick_twice(heap, &mut book, n);
+    let whole = (first, second) == ((1, "", 4), (0, "", 0));
+    // A refused tick gives the errors all the same.
+    let refused = (first, second) == ((0, "Memory", 4), (1, "", 0));
+    // Only their entry in a journal can keep them back.
+    let kept = keeps && (first, second) == ((1, "", 0), (0, "", 4));
+    let is_well = if came { refused || kept } else { whole };
+    assert!(rt; is_well, "{n}");
     came
-}
-
-/// How many events and how many errors a tick gives.
-fn counts_of(book: &mut Book<NoCache, impl TestHeap>) -> [usize; 2] {
-    let (batch, errors) = tick_step(book, 100);
-    [batch.map_or(0, |events| events.len()), errors.len()]
 }
 
 fn new_book<A: TestHeap>(heap: A, journaled: bool) -> Book<NoCache, A> {
@@ -143,6 +136,7 @@ pub fn each_refused_event_and_error_is_missed<
             missed > 0 && missed < 49 && debouncer.missed() == missed,
             "{missed}"
         );
+        assert_eq!(rt; debouncer.refused_turns(), 0);
         debouncer.stop_nonblocking();
     }
 }
@@ -155,29 +149,39 @@ pub fn each_refused_copy_of_the_journal_is_reported<
     requires takes { (feed : _) → T.takes feed }
 {
     let heap: A = new_heap(&rt);
-    let mut count = 0u64;
+    let mut refused = 0u64;
     for n in 1..200u64 {
-        let mut debouncer: Running<T, R, A> = start(rt, heap, Duration::from_millis(4), Silent);
-        debouncer
-            .watch(&path(&rt, heap, "/a"), RecursiveMode::Recursive)
-            .expect(&rt, "memory");
-        // The worker's last turn asks for memory too.
-        heap.refuse(n);
-        let refusal = debouncer.stop_journal().err();
-        let came = heap.left() == 0;
-        heap.refuse(0);
-        if let Some(refusal) = refusal {
-            assert!(rt;
-                came && refusal == Error::new(heap, ErrorKind::Memory),
-                "{n}"
-            );
-            count = count.saturating_add(1);
-        }
-        if !came {
+        if !is_copy_refused::<T, R, A>(rt, heap, n) {
             break;
         }
+        refused = n;
     }
-    assert!(rt; 0 < count && count < 199, "{count}");
+    assert!(rt; 1 < refused && refused < 199, "{refused}");
+}
+
+/// Stops a debouncer while the nth request for memory is refused. Checks that this is reported and the
+/// worker has ended. Answers whether that many requests came.
+fn is_copy_refused<T: Watcher<Feed<NoCache, R, A>, R, A>, R: Host, A: TestHeap>(
+    rt: R,
+    heap: A,
+    n: u64,
+) -> bool
+    requires takes { (feed : _) → T.takes feed }
+{
+    let (to, from) = channel(&rt);
+    // The worker sleeps all the while, and asks for no memory.
+    let long = Duration::from_secs(240);
+    let mut debouncer: Running<T, R, A> = start(rt, heap, long, SendTo::new(rt, to));
+    debouncer
+        .watch(&path(&rt, heap, "/a"), RecursiveMode::Recursive)
+        .expect(&rt, "memory");
+    heap.refuse(n);
+    let answer = word_of(debouncer.stop_journal().map(|_| ()));
+    let came = heap.left() == 0;
+    heap.refuse(0);
+    assert!(rt; has_ended(&rt, &from));
+    assert_eq!(rt; answer, if came { "Memory" } else { "" });
+    came
 }
 
 /// Whether the first path of each event existed when it was fed.

@@ -1,9 +1,10 @@
 //! What is reported of a folder of the test's own.
-use crate::build::{Host, TURNS, channel, path, sleep_a_turn};
+use crate::build::{Host, Outcome, TURNS, channel, path, sleep_a_turn};
 use crate::losses::has_batch;
+use crate::words::push_event;
 use notify_debouncer_full::{
     Config, DebouncerRuntime, PathBuf, RecommendedReports, RecursiveMode, Reports, SendTo,
-    new_debouncer_with_config,
+    new_debouncer, new_debouncer_with_config,
 };
 use std::alloc::Global;
 use std::fs::Files;
@@ -14,7 +15,7 @@ use std::time::{Clock, Duration};
 use std::{env, fs, process};
 
 /// The path of an entry of the folder at `top`.
-fn entry(rt: &(impl Abort + AllocGlobal), top: &str, name: &str) -> String {
+pub(crate) fn entry(rt: &(impl Abort + AllocGlobal), top: &str, name: &str) -> String {
     format!(in rt.alloc(); "{top}{name}").expect(rt, "memory")
 }
 
@@ -74,7 +75,7 @@ fn follow_link(
 }
 
 /// The path of a folder of this test alone, in the process of this number.
-fn new_top(rt: &(impl Abort + AllocGlobal + Env), id: u32, name: &str) -> String {
+pub(crate) fn new_top(rt: &(impl Abort + AllocGlobal + Env), id: u32, name: &str) -> String {
     let base = env::temp_dir(rt).expect(rt, "a folder for tests");
     format!(in rt.alloc(); "{}/{name}_{id}", base.as_str()).expect(rt, "memory")
 }
@@ -141,4 +142,44 @@ fn sees_a_file<R: Host>(rt: R, top: &str, name: &str, interval: Duration) -> boo
     let seen = has_batch(&rt, &from);
     debouncer.stop();
     seen
+}
+
+#[test]
+fn a_file_that_is_made_is_reported(rt: HostRuntime) {
+    let top = new_top(&rt, process::id(rt.process()), "made");
+    fs::create_dir(&rt, top.as_str()).expect(&rt, "the top");
+    let file = entry(&rt, top.as_str(), "/file.txt");
+    let report = first_report(rt, top.as_str(), file.as_str());
+    fs::remove_dir_all(&rt, top.as_str()).expect(&rt, "it is there");
+    let wanted = format!(in rt.alloc(); " Create(File) {}", file.as_str()).expect(&rt, "memory");
+    assert_eq!(rt; report.as_str(), wanted.as_str());
+}
+
+/// What is reported first, and at most a minute later, after the file is made in a watched folder.
+fn first_report<R: Host>(rt: R, top: &str, file: &str) -> String {
+    let (to, from) = channel::<Global>(&rt);
+    let timeout = Duration::from_millis(10);
+    let made = new_debouncer(rt, rt.alloc(), timeout, None, SendTo::new(rt, to));
+    let mut debouncer = made.expect(&rt, "a debouncer");
+    debouncer
+        .watch(&path(&rt, rt.alloc(), top), RecursiveMode::Recursive)
+        .expect(&rt, "a watch");
+    fs::write(&rt, file, "x").expect(&rt, "a file");
+    let report = from.recv_timeout(&rt, Duration::from_secs(50));
+    debouncer.stop();
+    match &report {
+        Ok(report) => text_of(&rt, report),
+        Err(_) => String::new(rt.alloc()),
+    }
+}
+
+/// The events of a report; nothing of errors.
+fn text_of(rt: &(impl Abort + AllocGlobal), report: &Outcome<Global>) -> String {
+    let mut text = String::new(rt.alloc());
+    if let Ok(batch) = report {
+        for event in batch {
+            push_event(&mut text, &event.event).expect(rt, "memory");
+        }
+    }
+    text
 }

@@ -8,7 +8,10 @@ use crate::ending::{
     a_tick_of_nothing_does_not_spin, the_parts_of_a_journal_in_a_row_are_the_journal,
     what_was_never_emitted_is_in_the_book,
 };
-use crate::losses::a_refused_turn_is_counted_and_loses_nothing;
+use crate::losses::{
+    a_clock_that_fails_is_counted_for_who_reads_it, a_refused_turn_is_counted_and_loses_nothing,
+    what_reports_cannot_send_is_counted,
+};
 use crate::memory::{
     a_feed_sees_whether_the_path_of_a_half_exists, each_refused_copy_of_the_journal_is_reported,
     each_refused_event_and_error_is_missed,
@@ -16,6 +19,7 @@ use crate::memory::{
 use crate::running::{
     a_closure_is_called_with_a_batch, handler_holds_first_batch, journal_is_handed_out,
 };
+use crate::stage::{OnStage, Staged};
 use crate::starting::{
     a_start_is_refused_at_each_request, a_tick_rate_above_the_timeout_starts_nothing,
     a_watcher_that_fails_lets_the_worker_end,
@@ -35,29 +39,34 @@ use std::alloc::Global;
 /// A watcher that reports in a thread of its own.
 #[test]
 fn a_watcher_reports_in_its_thread(rt: HostRuntime) {
-    play_replay::<Replay<HostRuntime, Heap>, HostRuntime, Heap>(rt);
+    let rt = OnStage::new(rt);
+    play_replay::<Replay<OnStage<HostRuntime>>, OnStage<HostRuntime>, Heap>(rt);
 }
 
-fn play_replay<T: Watcher<Feed<NoCache, R, A>, R, A>, R: Host, A: TestHeap>(rt: R)
+fn play_replay<T: Watcher<Feed<NoCache, R, A>, R, A>, R: Staged, A: TestHeap>(rt: R)
     requires takes { (feed : _) → T.takes feed }
 {
-    a_start_is_refused_at_each_request::<T, R, A>(rt);
-    handler_holds_first_batch::<T, R, A>(rt);
-    journal_is_handed_out::<T, R, A>(rt);
+    a_start_is_refused_at_each_request::<T, R, A>(rt.anew());
+    handler_holds_first_batch::<T, R, A>(rt.anew());
+    journal_is_handed_out::<T, R, A>(rt.anew());
     a_stop_lets_one_turn_end_at_most::<T, R, A>(rt);
-    what_waits_at_the_end_is_printed::<T, R, A>(rt);
+    what_waits_at_the_end_is_printed::<T, R, A>(rt.anew());
+    a_watch_is_refused_at_each_request::<T, R, A>(rt);
 }
 
 /// A watcher that reports at once, in the caller's thread.
 #[test]
 fn a_watcher_reports_at_once(rt: HostRuntime) {
-    play_prompt::<Prompt<HostRuntime, Heap>, HostRuntime, Heap>(rt);
+    let rt = OnStage::new(rt);
+    play_prompt::<Prompt<OnStage<HostRuntime>, Heap>, OnStage<HostRuntime>, Heap>(rt);
 }
 
-fn play_prompt<T: Watcher<Feed<NoCache, R, A>, R, A>, R: Host, A: TestHeap>(rt: R)
+fn play_prompt<T: Watcher<Feed<NoCache, R, A>, R, A>, R: Staged, A: TestHeap>(rt: R)
     requires takes { (feed : _) → T.takes feed }
 {
-    a_refused_turn_is_counted_and_loses_nothing::<T, R, A>(rt);
+    a_refused_turn_is_counted_and_loses_nothing::<T, R, A>(rt.anew());
+    a_clock_that_fails_is_counted_for_who_reads_it::<T, R, A>(rt.anew());
+    what_reports_cannot_send_is_counted::<T, R, A>(rt.anew());
     what_was_never_emitted_is_in_the_book::<T, R, A>(rt);
     the_parts_of_a_journal_in_a_row_are_the_journal::<T, R, A>(rt);
     a_journal_that_was_taken_is_not_given_whole::<T, R, A>(rt);
@@ -104,7 +113,6 @@ fn play_stubborn<T: Watcher<Feed<NoCache, R, A>, R, A>, R: Host, A: TestHeap>(rt
     a_refused_watch_adds_no_root_and_a_refused_unwatch_drops_none::<T, R, A>(rt);
     a_long_tick_does_not_hold_up_a_stop::<T, R, A>(rt);
     a_watch_says_what_goes_wrong::<T, R, A>(rt);
-    a_watch_is_refused_at_each_request::<T, R, A>(rt);
 }
 
 /// A watcher that can't be made.

@@ -1,16 +1,17 @@
 //! Debouncers that are stopped, and watchers that refuse.
-use crate::build::{Host, Running, new_heap, path, start};
+use crate::build::{Host, Running, new_heap, path, sleep_turns, start};
 use crate::memory::Silent;
-use crate::running::{Holder, Seen, wait_for, wait_for_any};
+use crate::running::{Holder, wait_for, wait_for_more};
+use crate::stage::{Staged, is_paused, take_turn};
+use crate::words::word_of;
 use notify_debouncer_full::{
-    Config, DebounceDataInner, Entry, Error, ErrorKind, Feed, Moment, NoCache, PathBuf,
-    RecursiveMode, Watcher, new_debouncer_opt,
+    Config, DebounceDataInner, Entry, Error, Feed, Moment, NoCache, PathBuf, RecursiveMode,
+    Watcher, new_debouncer_opt,
 };
 use refusing_allocator::TestHeap;
 use std::process::Abort;
-use std::sync::Arc;
 use std::sync::atomic::Ordering;
-use std::time::{Clock, Duration};
+use std::time::Duration;
 
 /// The ways to stop a debouncer.
 #[derive(Clone, Copy, Debug)]
@@ -47,31 +48,34 @@ const STOPS: [(Phase, Ending); 12] = [
     (Phase::Held, Ending::Drop),
 ];
 
-/// Waits until the debouncer is in this phase, and answers whether it was.
-fn is_reached(rt: &impl Clock, seen: &Seen, phase: Phase) -> bool {
-    match phase {
-        Phase::BeforeTheFirstTurn => true,
-        Phase::Asleep => wait_for_any(rt, &seen.errors),
-        Phase::Held => wait_for(rt, &seen.held),
-    }
+/// Leads the debouncer to this phase, with events that are due. Answers whether this was done.
+fn is_reached<R: Staged>(rt: &R, phase: Phase) -> bool {
+    let stage = rt.stage();
+    sleep_turns(rt, 2 * MILLIS);
+    let reached = match phase {
+        Phase::BeforeTheFirstTurn => is_paused(rt),
+        Phase::Asleep => take_turn(rt),
+        Phase::Held => {
+            stage.permits.fetch_add(1, Ordering::SeqCst);
+            wait_for_more(rt, &stage.seen.batches, 0)
+        }
+    };
+    sleep_turns(rt, 2 * MILLIS);
+    reached
 }
 
-/// Whether the worker ends, and its handler was called with one batch and one list of errors at most
-/// since it had been called so often.
-fn is_ended(rt: &impl Clock, seen: &Seen, before: [u64; 2]) -> bool {
-    let ended = wait_for(rt, &seen.ended);
-    let [batches, errors] = before;
-    let [all_batches, all_errors] = seen.calls();
-    ended && all_batches.saturating_sub(batches) <= 1 && all_errors.saturating_sub(errors) <= 1
+/// With how many batches and lists of errors the handler may be called after the stop was asked for: only
+/// a turn that had begun before goes on.
+fn allowed(phase: Phase) -> [u64; 2] {
+    match phase {
+        Phase::BeforeTheFirstTurn | Phase::Asleep => [0, 0],
+        Phase::Held => [0, 1],
+    }
 }
 
 /// Stops the debouncer, which keeps no journal. Answers whether this gave an empty one, if it gave one,
 /// and whether the worker had ended, if this waits for it.
-fn stop<T: Drop, R: Host, A: TestHeap>(
-    debouncer: Running<T, R, A>,
-    seen: &Seen,
-    way: Ending,
-) -> bool {
+fn stop<T: Drop, R: Staged, A: TestHeap>(rt: &R, debouncer: Running<T, R, A>, way: Ending) -> bool {
     let is_well = match way {
         Ending::Join => {
             debouncer.stop();
@@ -87,7 +91,7 @@ fn stop<T: Drop, R: Host, A: TestHeap>(
             return true;
         }
     };
-    is_well && seen.ended.load(Ordering::SeqCst)
+    is_well && rt.stage().seen.ended.load(Ordering::SeqCst)
 }
 
 /// Whether this is what a debouncer gives that keeps no journal.
@@ -95,54 +99,72 @@ fn is_empty<A: TestHeap>(answer: Result<(Moment, Vec<Entry<A>, A>), Error<A>>) -
     let Ok((timeout, journal)) = answer else {
         return false;
     };
-    timeout == 40_000_000 && journal.is_empty()
+    timeout == u128::from(1_000_000 * MILLIS) && journal.is_empty()
 }
 
-/// What a handler sees that holds its first batch in this phase. In the others no batch keeps the errors
-/// back.
-fn new_seen(rt: &(impl Abort + AllocGlobal), phase: Phase) -> Arc<Seen> {
-    let seen = Arc::new(rt.alloc(), Seen::new()).expect(rt, "memory");
-    let holds = matches!(phase, Phase::Held);
-    seen.answered.store(!holds, Ordering::SeqCst);
-    seen
-}
+/// How many milliseconds the timeout and the tick are.
+const MILLIS: u64 = 8;
 
 pub fn a_stop_lets_one_turn_end_at_most<
     T: Watcher<Feed<NoCache, R, A>, R, A>,
-    R: Host,
+    R: Staged,
     A: TestHeap,
 >(rt: R)
     requires takes { (feed : _) → T.takes feed }
 {
     let heap: A = new_heap(&rt);
     for (phase, way) in STOPS {
-        let seen = new_seen(&rt, phase);
-        let handler = Holder {
-            rt,
-            seen: Arc::try_clone(&seen).expect(&rt, "memory"),
-        };
-        let timeout = Duration::from_millis(40);
-        let (rate, config) = (Some(timeout), Config::default());
-        let debouncer: Result<Running<T, R, A>, Error<A>> = new_debouncer_opt(
-            rt,
-            heap,
-            timeout,
-            rate,
-            handler,
-            NoCache::new(),
-            config,
-        );
-        let mut debouncer = debouncer.expect(&rt, "a debouncer");
-        debouncer
-            .watch(&path(&rt, heap, "/w"), RecursiveMode::Recursive)
-            .expect(&rt, "a watch");
-        let reached = is_reached(&rt, &seen, phase) && debouncer.missed() == 0;
-        let before = seen.calls();
-        seen.answered.store(true, Ordering::SeqCst);
-        let stopped = stop(debouncer, &seen, way);
-        let ended = is_ended(&rt, &seen, before);
+        let rt = rt.anew();
+        let stage = rt.stage();
+        // The watcher goes on all the while, so each turn more would be heard of.
+        stage.flows.store(true, Ordering::SeqCst);
+        stage.is_held.store(true, Ordering::SeqCst);
+        let holds = matches!(phase, Phase::Held);
+        stage.seen.answered.store(!holds, Ordering::SeqCst);
+        let debouncer = start_watched::<T, R, A>(rt, heap);
+        let reached = is_reached(&rt, phase) && debouncer.missed() == 0;
+        let stopped = stop(&rt, debouncer, way);
+        let ended = wait_for(&rt, &stage.seen.ended);
+        stage.flows.store(false, Ordering::SeqCst);
         assert!(rt; reached && stopped && ended, "{phase:?} {way:?}");
+        let ([batches, errors], [most, most_errors]) = (
+            stage.calls_since_the_end(),
+            allowed(phase),
+        );
+        assert!(rt;
+            batches <= most && errors <= most_errors,
+            "{phase:?} {way:?} {batches} {errors}"
+        );
     }
+}
+
+/// Starts a debouncer without a journal that watches something, and whose handler holds its first batch.
+fn start_watched<T: Watcher<Feed<NoCache, R, A>, R, A>, R: Staged, A: TestHeap>(
+    rt: R,
+    heap: A,
+) -> Running<T, R, A>
+    requires takes { (feed : _) → T.takes feed }
+{
+    let timeout = Duration::from_millis(MILLIS);
+    let handler = Holder {
+        rt,
+        stage: rt.stage(),
+    };
+    let (cache, config) = (NoCache::new(), Config::default());
+    let made: Result<Running<T, R, A>, Error<A>> = new_debouncer_opt(
+        rt,
+        heap,
+        timeout,
+        Some(timeout),
+        handler,
+        cache,
+        config,
+    );
+    let mut debouncer = made.expect(&rt, "a debouncer");
+    debouncer
+        .watch(&path(&rt, heap, "/w"), RecursiveMode::Recursive)
+        .expect(&rt, "a watch");
+    debouncer
 }
 
 /// A core without a cache that has carried out the journal's commands.
@@ -152,19 +174,6 @@ fn replayed<A: TestHeap>(heap: A, journal: Vec<Entry<A>, A>) -> DebounceDataInne
         core.step(entry.command);
     }
     core
-}
-
-/// Why a call was refused, if it was.
-fn word_of(answer: Result<(), Error<impl TestHeap>>) -> &'static str {
-    match answer {
-        Ok(()) => "",
-        Err(error) => match error.kind {
-            ErrorKind::PathNotFound => "PathNotFound",
-            ErrorKind::WatchNotFound => "WatchNotFound",
-            ErrorKind::Memory => "Memory",
-            _ => "another",
-        },
-    }
 }
 
 /// Watches a path, and returns why it was refused, if it was. There is no memory for `/starved`.

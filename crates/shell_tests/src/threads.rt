@@ -1,15 +1,18 @@
 //! Scripts in threads.
-use crate::build::{CREATED, Host, TURNS, commands, new_heap, sleep_a_turn};
+use crate::build::{CREATED, Host, TURNS, commands, new_heap, sleep_a_turn, sleep_turns};
+use crate::running::wait_for;
 use crate::watching::Full;
+use crate::words::{push_batch, word_of};
 use mirror_threads::threads_run;
 use notify_debouncer_full::{Entry, Error, ErrorKind, Meet, NoMeet, Reply, run_threads};
-use refusing_allocator::{Heap, TestHeap};
+use refusing_allocator::{Heap, RefusingHeap, TestHeap};
 use std::alloc::AllocError;
 use std::io;
 use std::io::Read;
 use std::process::Abort;
 use std::sync::Wait;
 use std::sync::atomic::{AtomicBool, AtomicU64, Ordering};
+use std::time::Clock;
 
 /// Raises its script's flag before the script's first step, and waits for the other's.
 #[derive(Drop)]
@@ -91,13 +94,7 @@ fn add_entry(text: &mut String, entry: &Entry) -> Result<(), AllocError> {
     write!(text, "{} ", entry.from)?;
     match &entry.reply {
         Reply::Taken(None) => text.push_str("taken")?,
-        Reply::Batch(batch) => {
-            text.push_str("batch")?;
-            for event in batch {
-                let place = event.event.first_path().map_or("", |path| path.as_str());
-                write!(text, " {} {place} {}", event.kind().word(), event.time())?;
-            }
-        }
+        Reply::Batch(batch) => push_batch(text, batch.as_slice())?,
         _ => text.push_str("another reply")?,
     }
     text.push_str(", ")
@@ -129,6 +126,77 @@ fn refuse_runs<R: Host, A: TestHeap>(rt: &R) {
         refused = n;
     }
     assert!(rt; 5 < refused && refused < 199, "{refused}");
+}
+
+/// Lets memory be refused to the first script's first step, and lets the second go on some time after that.
+#[derive(Drop)]
+struct Late<R: Drop, A: Drop> {
+    rt: R,
+    heap: A,
+    /// The second script has begun.
+    begun: AtomicBool,
+    /// The next request for memory is refused.
+    starved: AtomicBool,
+    /// How many steps of the second script were let go on.
+    steps: AtomicU64,
+}
+
+impl<R: Clock + Drop, A: RefusingHeap + Drop> Late<R, A> {
+    /// Refuses memory to the step that follows, as soon as only steps ask for it.
+    fn starve(&self) {
+        wait_for(&self.rt, &self.begun);
+        self.heap.refuse(1);
+        self.starved.store(true, Ordering::SeqCst);
+    }
+
+    /// Waits until the other script was refused, and then some time more.
+    fn linger(&self) {
+        self.begun.store(true, Ordering::SeqCst);
+        wait_for(&self.rt, &self.starved);
+        for _ in 0..TURNS {
+            if self.heap.left() == 0 {
+                break;
+            }
+            sleep_a_turn(&self.rt);
+        }
+        sleep_turns(&self.rt, 20);
+        self.steps.fetch_add(1, Ordering::SeqCst);
+    }
+}
+
+impl<R: Clock + Drop + Sync, A: RefusingHeap + Drop + Sync> Meet for Late<R, A> {
+    fn before(&self, from: usize) {
+        if from == 0 {
+            self.starve();
+        } else {
+            self.linger();
+        }
+    }
+}
+
+#[test]
+fn the_other_script_ends_before_a_refusal_is_answered(rt: HostRuntime) {
+    refuse_one::<HostRuntime, Heap>(rt);
+}
+
+fn refuse_one<R: Host, A: TestHeap>(rt: R) {
+    let heap: A = new_heap(&rt);
+    let meet = Late {
+        rt,
+        heap,
+        begun: AtomicBool::new(false),
+        starved: AtomicBool::new(false),
+        steps: AtomicU64::new(0),
+    };
+    let mut scripts = Vec::new(heap);
+    for _ in 0..2 {
+        scripts
+            .push(commands(&rt, heap, CREATED))
+            .expect(&rt, "memory");
+    }
+    let answer = run_threads(&rt, heap, 50, scripts, &meet);
+    let steps = meet.steps.load(Ordering::SeqCst);
+    assert_eq!(rt; (word_of(answer.map(|_| ())), steps), ("Memory", 2));
 }
 
 const SAME: &str = "entries 2\ntaken 1\nreplay same\n";

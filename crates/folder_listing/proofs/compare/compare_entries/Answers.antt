@@ -17,8 +17,8 @@ returns-clause-ok g c =
     sym (joined-none parts)
     ∙ ap (λ ps. joined parts (walk (option_copied c.loop-pair.top) ps)) (sym c.in_default.ensures)
     ∙ c.loop-pair.invariant in
-    let same : parts.removed ++ (parts.created ++ parts.resized) ≡ changes old new =
-    ap (λ (p : PartsValue). p.removed ++ (p.created ++ p.resized)) (all
+    let same : parts.removed ++ (parts.created ++ parts.rewritten) ≡ changes old new =
+    ap (λ (p : PartsValue). p.removed ++ (p.created ++ p.rewritten)) (all
     ∙ walk_finds_all old new c.requires.0.ordered c.requires.1.ordered) in
     rw (← same) c.into_events.ensures
 

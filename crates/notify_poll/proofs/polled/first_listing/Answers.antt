@@ -1,4 +1,4 @@
-use Rattle.std.proofs.Common.{◌≡◌, ◌∙◌, [], ap, sym, subst, IfSome, false, inl}
+use Rattle.std.proofs.Common.{◌≡◌, ◌∙◌, [], ap, sym, subst, IfSome, true, false, inl}
 use Rattle.std.specs.Prelude.{is_some}
 use Rattle.notify_paths.specs.Path.{PathValue}
 use Rattle.notify_types.specs.declared.event.RecursiveMode.{RecursiveMode}
@@ -7,7 +7,7 @@ use Rattle.folder_listing.proofs.WalkLemmas.{has_entry-some}
 use Rattle.poll_rounds.specs.Folders.{Adds, IsTree, shows}
 use Rattle.notify_poll.specs.Polled.{ShowsFirst}
 use Rattle.poll_rounds.proofs.RootLemmas.{listed-one}
-use Rattle.notify_poll.proofs.PolledLemmas.{lacks}
+use Rattle.notify_poll.proofs.PolledLemmas.{lacks, there_nonempty}
 use Rattle.notify_poll.proofs.polled.first_listing.Goals as goal
 
 pub returns-then-is_none-clause-err : goal.returns-then-is_none-clause-err
@@ -38,3 +38,10 @@ pub returns-clause-here : goal.returns-clause-here
 returns-clause-here g c =
     let first = c.list_root.new.listing in
     has_entry-some first c.args.root.now ∙ (ap is_some (sym c.get.ensures) ∙ c.if-is_none.ensures)
+
+pub returns-clause-some : goal.returns-clause-some
+returns-clause-some g c =
+    let first = c.list_root.new.listing in
+    let here : has_entry first c.args.root.now ≡ true = has_entry-some first c.args.root.now
+    ∙ (ap is_some (sym c.get.ensures) ∙ c.if-is_none.ensures) in
+    there_nonempty first c.args.root.now (subst IsListing c.first.view_is c.first.invariant) here

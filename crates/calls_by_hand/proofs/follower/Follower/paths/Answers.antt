@@ -15,3 +15,10 @@ returns-clause-ok g c =
     ∙ ap (λ p. play p (events_of c.as_slice.result.now)) c.in_ok-paths.ensures.ok
     ∙ ap (λ es. play c.self.inside.reader (events_of es)) c.as_slice.ensures.value
     ∙ ap (λ p. play p (events_of outlook)) i.read ∙ law ∙ ap keys_of i.ends)
+
+pub returns-clause-read : goal.returns-clause-read
+returns-clause-read g c =
+    let reads = c.in_ok-play.ensures.ok
+    ∙ ap (λ p. play p (events_of c.as_slice.result.now)) c.in_ok-paths.ensures.ok
+    ∙ ap (λ es. play c.self.inside.reader (events_of es)) c.as_slice.ensures.value in
+    rw (← c.self.view_is) (c.in_ok-outlook.outlook.items, c.in_ok-outlook.ensures.outlook, reads)

@@ -1,11 +1,12 @@
 -- What the root shows of the merged listing is left in what is kept.
-use Rattle.std.proofs.Common.{◌≡◌, ◌∙◌, ap, sym, [], ◌∷◌}
+use Rattle.std.proofs.Common.{◌≡◌, ◌∙◌, ap, sym, subst, true, [], ◌∷◌}
 use Rattle.notify_paths.specs.Path.{PathValue}
 use Rattle.notify_types.specs.declared.event.RecursiveMode.{RecursiveMode}
+use Rattle.folder_listing.specs.Listing.{ListingValue, has_entry}
 use Rattle.folder_listing.specs.MergedListings.{IsMerged}
 use Rattle.folder_listing.specs.Near.{seen}
 use Rattle.notify_poll.specs.Polled.{PolledValue, kept_by, other_roots, with_root}
-use Rattle.notify_poll.proofs.PolledLemmas.{seen-last}
+use Rattle.notify_poll.proofs.PolledLemmas.{merged_there, seen-last, shown_there}
 use Rattle.notify_poll.proofs.polled.Polled.watch_listed.Goals as goal
 
 pub returns-clause-ok : goal.returns-clause-ok
@@ -18,7 +19,12 @@ returns-clause-ok g c =
     rw (← c.self.view_is) c.in_ok-entries.ensures.ok in
     let left : seen c.add_root.new.self.last (root ∷ []) ≡ seen entries (root ∷ []) =
     ap (λ (k : PolledValue). seen k.last (root ∷ [])) kept
-    ∙ seen-last entries (other_roots c.args.self.now.roots c.args.path.now) root in (
-      (c.in_ok-first.first, c.in_ok-first.ensures.shown, (c.in_ok-first.ensures.here, (entries, merged, kept))),
+    ∙ seen-last entries (other_roots c.args.self.now.roots c.args.path.now) root in
+    let nonempty = c.in_ok-first.ensures.some in
+    let here = c.in_ok-first.ensures.here in
+    let there : has_entry (seen entries (root ∷ [])) root.0 ≡ true = shown_there entries root nonempty
+    (merged_there c.args.self.now.last c.in_ok-first.first entries root.0 merged here) in (
+      (c.in_ok-first.first, c.in_ok-first.ensures.shown, (nonempty, here, (entries, merged, kept))),
       c.in_ok-listed.ensures.ok ∙ sym left,
+      subst (λ (es : ListingValue). has_entry es root.0 ≡ true) (sym c.in_ok-listed.ensures.ok) there,
     )

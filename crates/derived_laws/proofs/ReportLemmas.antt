@@ -1,0 +1,128 @@
+-- The events of steps that report all lead from listing to listing.
+use Rattle.std.proofs.Common.{◌≡◌, ◌∙◌, ap, refl, sym, subst, List, [], ◌∷◌, ◌++◌, append_assoc, inl, inr}
+use Rattle.std.specs.Prelude.{Result}
+use Rattle.std.specs.List.{AllByRecursion}
+use Rattle.std.specs.List.Sorted.{IsStrictlySortedBy}
+use Rattle.std.specs.Map.{keys_of}
+use mathlib.Core.List.{append-nil}
+use Rattle.notify_paths.specs.Errors.{ErrorValue}
+use Rattle.notify_paths.specs.Path.{path_cmp}
+use Rattle.notify_types.specs.Event.{EventValue, Timed}
+use Rattle.debounce_model.specs.Cache.{Rules}
+use Rattle.debounce_model.specs.Command.{CommandValue, ReplyValue}
+use Rattle.debounce_model.specs.PathsLaw.{read_paths}
+use Rattle.debounce_model.specs.Play.{accepted}
+use Rattle.debounce_model.specs.Run.{Run}
+use Rattle.debounce_model.specs.State.{Core, waiting}
+use Rattle.debounce_model.specs.Tick.{IsOutlook}
+use Rattle.debounce_model.specs.WellFormed.{IsWellFormed}
+use Rattle.folder_listing.specs.Changes.{changes}
+use Rattle.folder_listing.specs.Listing.{ListingValue, IsListing}
+use Rattle.poll_rounds.specs.Reports.{Notes, Reports, ReportAll, Reported, Begins, GoesOn, left_by}
+use Rattle.poll_rounds.specs.Rounds.{HandsEach}
+use Rattle.derived_laws.specs.Listings.{changes_through, last_of}
+use Rattle.derived_laws.proofs.ListingLemmas.{reader_has_the_last}
+
+-- no entries ascend
+none_sorted : IsStrictlySortedBy path_cmp []
+unfolding IsStrictlySortedBy
+none_sorted = tt
+
+-- nothing is a listing
+nothing : IsListing []
+nothing = record { ordered = none_sorted; nonempty = refl; closed = refl }
+
+-- these listings, one after the other from the first on, end with the last, and the changes between them were noted
+record Chain (first last : ListingValue) (before after : List EventValue) : Type 0 where
+  others : List ListingValue
+  laws : AllByRecursion IsListing (first ∷ others)
+  ends : last_of first others ≡ last
+  noted : after ≡ before ++ changes_through first others
+
+module _ {H : Type 0} (handles : H → Result EventValue ErrorValue → H → Type 0) (notes : H → List EventValue)
+    (noting : Notes handles notes) where
+  -- events that are handed on one by one are noted
+  noted-each : (xs : List EventValue) (before after : H) → HandsEach handles xs before after → notes after
+      ≡ notes before ++ xs
+  noted-each [] before after h = ap notes h ∙ sym (append-nil (notes before))
+  noted-each (x ∷ xs) before after h =
+      noted-each xs h.0 after h.2
+      ∙ (ap (λ es. es ++ xs) (noting.event before h.0 x h.1) ∙ append_assoc (notes before) (x ∷ []) xs)
+
+  -- one more listing in front
+  chain-next : (first next last : ListingValue) (before between after : List EventValue) → IsListing first →
+      between ≡ before ++ changes first next → Chain next last between after → Chain first last before after
+  chain-next first next last before between after law told c = record {
+    others = next ∷ c.others;
+    laws = (law, c.laws);
+    ends = c.ends;
+    noted = c.noted ∙ (ap (λ es. es ++ changes_through next c.others) told
+        ∙ append_assoc before (changes first next) (changes_through next c.others));
+  }
+
+  -- a step is followed by the others
+  chain-step : (first next last : ListingValue) (before between : H) (after : List EventValue) →
+      IsListing first → Reports handles first next before between → Chain next last (notes between) after →
+      Chain first last (notes before) after
+  chain-step first next last before between after law (inl each) c =
+      chain-next first next last (notes before) (notes between) after law
+      (noted-each (changes first next) before between each) c
+  chain-step first next last before between after law (inr (same, inl quiet)) c =
+      subst (λ l. Chain l last (notes before) after) same
+      (subst (λ h. Chain next last (notes h) after) quiet c)
+  chain-step first next last before between after law (inr (same, inr (e, refused))) c =
+      subst (λ l. Chain l last (notes before) after) same
+      (subst (λ es. Chain next last es after) (noting.error before between e refused) c)
+
+  -- all steps
+  chain : (first : ListingValue) (before : H) (steps : List (ListingValue × H)) → IsListing first →
+      ReportAll handles first before steps → Chain first (left_by first before steps).0 (notes before)
+      (notes (left_by first before steps).1)
+  chain first before [] law h = record {
+    others = [];
+    laws = (law, tt);
+    ends = refl;
+    noted = sym (append-nil (notes before));
+  }
+  chain first before (step ∷ steps) law h =
+      chain-step first step.0 (left_by step.0 step.1 steps).0 before step.1
+      (notes (left_by step.0 step.1 steps).1) law h.1 (chain step.0 step.1 steps h.0 h.2)
+
+-- one more step after others
+report-push : {H : Type 0} (handles : H → Result EventValue ErrorValue → H → Type 0) (old : ListingValue) (before : H)
+    (steps : List (ListingValue × H)) (next : ListingValue) (later : H) → ReportAll handles old before steps →
+    IsListing next → Reports handles (left_by old before steps).0 next (left_by old before steps).1 later →
+    ReportAll handles old before (steps ++ (next, later) ∷ [])
+    × (left_by old before (steps ++ (next, later) ∷ []) ≡ (next, later))
+report-push handles old before [] next later h law r = ((law, r, tt), refl)
+report-push handles old before (step ∷ steps) next later h law r =
+    let more = report-push handles step.0 step.1 steps next later h.2 law r in
+    ((h.0, h.1, more.0), more.1)
+
+-- no step
+pub begins : {H : Type 0} (handles : H → Result EventValue ErrorValue → H → Type 0) → Begins handles
+begins handles = λ begun. ([], tt, refl)
+
+-- one more
+pub goes_on : {H : Type 0} (handles : H → Result EventValue ErrorValue → H → Type 0) → GoesOn handles
+goes_on {H} handles = λ begun last now next later reported law r.
+    let steps = reported.0 in
+    let more = report-push handles [] begun steps next later reported.1 law
+    (subst (λ (e : ListingValue × H). Reports handles e.0 next e.1 later) (sym reported.2) r) in
+    (steps ++ (next, later) ∷ [], more.0, more.1)
+
+-- so a reader of a run that takes what was noted has the last listing's paths
+pub reader_has_what_is_reported : {C H : Type 0} (r : Rules C) (handles : H → Result EventValue ErrorValue → H → Type 0)
+    (notes : H → List EventValue) (begun : H) (last : ListingValue) (now : H) (s t : Core C)
+    (commands : List CommandValue) (replies : List ReplyValue) (outlook : List Timed) → Notes handles notes →
+    notes begun ≡ [] → Reported handles begun last now → Run r s commands replies t → IsWellFormed s.state →
+    waiting s.state ≡ 0 → accepted commands replies ≡ notes now → IsOutlook t.state outlook →
+    read_paths [] replies outlook ≡ keys_of last
+reader_has_what_is_reported {C} {H} r handles notes begun last now s t commands replies outlook noting none reported
+    run laws empty taken shown =
+    let c = chain handles notes noting [] begun reported.0 nothing reported.1 in
+    let end : left_by [] begun reported.0 ≡ (last, now) = reported.2 in
+    reader_has_the_last r s t commands replies [] c.others outlook run laws empty c.laws
+    (taken ∙ (sym (ap (λ (e : ListingValue × H). notes e.1) end)
+    ∙ (c.noted ∙ ap (λ es. es ++ changes_through [] c.others) none))) shown
+    ∙ (ap keys_of c.ends ∙ ap (λ (e : ListingValue × H). keys_of e.0) end)

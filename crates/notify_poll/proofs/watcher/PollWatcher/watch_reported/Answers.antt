@@ -1,0 +1,10 @@
+-- What the watcher under the lock did.
+use Rattle.std.proofs.Common.{IfErr, rules}
+use Rattle.notify_poll.specs.Polled.{IsWatchError}
+use Rattle.notify_poll.proofs.PolledLemmas.{watched_next}
+use Rattle.notify_poll.proofs.watcher.PollWatcher.watch_reported.Goals as goal
+
+pub returns : goal.returns
+returns g c =
+    let err : IfErr c.watch_reported.result IsWatchError = search rules in
+    watched_next (c.args.path.now, c.args.mode) _ _ c.watch_reported.result c.watch_reported.ensures.ok err

@@ -1,0 +1,10 @@
+-- What the watcher under the lock did.
+use Rattle.std.proofs.Common.{IfErr, rules}
+use Rattle.notify_poll.specs.Polled.{IsWatchError}
+use Rattle.notify_poll.proofs.PolledLemmas.{watched}
+use Rattle.notify_poll.proofs.watcher.PollWatcher.watch_silently.Goals as goal
+
+pub returns : goal.returns
+returns g c =
+    let err : IfErr c.watch.result IsWatchError = search rules in
+    watched (c.args.path.now, c.args.mode) _ _ c.watch.result c.watch.ensures.ok err

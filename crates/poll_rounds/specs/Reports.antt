@@ -1,0 +1,53 @@
+-- Steps that report all that they change of the last listing.
+use Rattle.std.specs.Prelude.{◌≡◌, List, [], ◌∷◌, ◌++◌, Result, Ok, Err, ◌⊎◌}
+use Rattle.notify_paths.specs.Errors.{ErrorValue}
+use Rattle.notify_types.specs.Event.{EventValue}
+use Rattle.folder_listing.specs.Changes.{changes}
+use Rattle.folder_listing.specs.Listing.{ListingValue, IsListing}
+use Rattle.poll_rounds.specs.Rounds.{HandsEach}
+
+-- a step hands on just what it changes of the last listing; or, refused, it changes nothing, and hands on nothing or
+-- one error
+abbrev pub Reports : {H : Type 0} → (H → Result EventValue ErrorValue → H → Type 0) → ListingValue →
+    ListingValue → H → H → Type 0
+Reports handles old new before after =
+    HandsEach handles (changes old new) before after
+    ⊎ ((new ≡ old) × ((after ≡ before) ⊎ ((e : ErrorValue) × handles before (Err e) after)))
+
+-- steps one after the other: what each leaves as the last listing, and of the handler
+abbrev pub ReportAll : {H : Type 0} → (H → Result EventValue ErrorValue → H → Type 0) → ListingValue → H →
+    List (ListingValue × H) → Type 0
+ReportAll handles old before [] = Unit {0}
+ReportAll handles old before (step ∷ steps) =
+    IsListing step.0 × Reports handles old step.0 before step.1 × ReportAll handles step.0 step.1 steps
+
+-- what the last step leaves
+abbrev pub left_by : {H : Type 0} → ListingValue → H → List (ListingValue × H) → ListingValue × H
+left_by old before [] = (old, before)
+left_by old before (step ∷ steps) = left_by step.0 step.1 steps
+
+-- steps that report all lead from the listing of nothing to this one, and the handler from the first state to this one
+abbrev pub Reported : {H : Type 0} → (H → Result EventValue ErrorValue → H → Type 0) → H → ListingValue → H →
+    Type 0
+Reported {H} handles begun last now =
+    (steps : List (ListingValue × H)) × ReportAll handles [] begun steps × (left_by [] begun steps ≡ (last, now))
+
+-- no steps have led anywhere
+abbrev pub Begins : {H : Type 0} → (H → Result EventValue ErrorValue → H → Type 0) → Type 0
+Begins {H} handles = (begun : H) → Reported handles begun [] begun
+
+-- one more step that reports all leads on
+abbrev pub GoesOn : {H : Type 0} → (H → Result EventValue ErrorValue → H → Type 0) → Type 0
+GoesOn {H} handles =
+    (begun : H) (last : ListingValue) (now : H) (next : ListingValue) (later : H) →
+    Reported handles begun last now →
+    IsListing next →
+    Reports handles last next now later →
+    Reported handles begun next later
+
+-- the handler's notes are the events that it was given, in order
+pub record Notes {H : Type 0} (handles : H → Result EventValue ErrorValue → H → Type 0) (notes : H →
+    List EventValue) : Type 0 where
+  pub event : (before after : H) (e : EventValue) → handles before (Ok e) after → notes after ≡ notes before
+      ++ e ∷ []
+  pub error : (before after : H) (e : ErrorValue) → handles before (Err e) after → notes after ≡ notes before
