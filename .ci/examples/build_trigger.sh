@@ -29,21 +29,29 @@ written_again() {
     return 1
 }
 
+# watches FOLDER: the trigger has said that it watches the folder, within a minute.
+watches() {
+    for _ in $(seq 600); do
+        ! grep -qxF -- "build_trigger: watching $1" err || return 0
+        sleep 0.1
+    done
+    return 1
+}
+
+# complains: it has said something besides.
+complains() {
+    grep -qvF 'build_trigger: watching ' err
+}
+
 # The events in the lines are as many as each line says: here each names one path.
 are_counted() {
     awk -F '\t' '$1 != NF - 1 { exit 1 }' out
 }
 
-# The file begin grows until a line says so: from then on the folder is watched.
 "$trigger" src --ignore '\.o$' --quiet 300 --timeout 50 --interval 10 --ticks 100000 >out 2>err &
 running=$!
-: >src/begin
-for _ in $(seq 60); do
-    echo more >>src/begin
-    sleep 1
-    [ ! -s out ] || break
-done
 well=yes
+watches src || well=no
 : >src/a1 && : >src/a.o && mkdir src/a2 && : >src/a2/a3
 written ./a1 ./a2 ./a2/a3 || well=no
 rm src/a1 && : >$'src/b\t1' && rm src/a.o
@@ -52,13 +60,13 @@ mv src/a2/a3 src/b2
 # Created and removed, each told once.
 printf '%s\n' ./a1 ./a1 ./a2 ./a2/a3 ./a2/a3 './b\t1' ./b2 | LC_ALL=C sort >wanted
 for _ in $(seq 600); do
-    cut -f 2- out | tr '\t' '\n' | grep -vx ./begin | LC_ALL=C sort >paths
+    cut -f 2- out | tr '\t' '\n' | LC_ALL=C sort >paths
     ! cmp -s paths wanted || break
     sleep 0.1
 done
 kill $running
 wait $running 2>/dev/null
-report 'build_trigger: each event is in one line' "$(cmp -s paths wanted && are_counted && [ ! -s err ] && echo $well)"
+report 'build_trigger: each event is in one line' "$(cmp -s paths wanted && are_counted && ! complains && echo $well)"
 # The second burst began when the line of the first was written, so no line has events of both.
 report 'build_trigger: no line is written before its burst' \
     "$(grep -F './a2/a3' out | head -n 1 | grep -qv './b' && [ "$(grep -cF './b' out)" -ge 1 ] && echo yes)"
@@ -68,19 +76,14 @@ mkdir same && echo 0 >same/f
 "$trigger" same --quiet 50 --timeout 20 --interval 10 --ticks 100000 >out 2>err &
 running=$!
 told=0
-: >same/begin
-for _ in $(seq 60); do
-    echo more >>same/begin
-    sleep 1
-    [ ! -s out ] || break
-done
+watches same
 for n in $(seq 10); do
     sed -i "s/.*/$((n % 10))/" same/f && written_again ./f && told=$((told + 1))
     echo "$(((n + 5) % 10))" >next && mv next same/f && written_again ./f && told=$((told + 1))
 done
 kill $running
 wait $running 2>/dev/null
-report 'build_trigger: edits that keep the length' "$([ $told = 20 ] && [ ! -s err ] && echo yes)"
+report 'build_trigger: edits that keep the length' "$([ $told = 20 ] && ! complains && echo yes)"
 
 # What waits when the ticks are over is written: no event gets as old as this timeout. A slow machine may
 # look too late, so this is tried three times at most.
@@ -89,17 +92,18 @@ for turn in 1 2 3; do
     mkdir "late$turn"
     "$trigger" "late$turn" --timeout 90000000 --interval 10 --ticks 12 >out 2>err &
     running=$!
-    for n in $(seq 100 160); do
+    watches "late$turn" || break
+    for n in $(seq 100 130); do
         : >"late$turn/$n"
         sleep 0.05
     done
-    wait $running && [ ! -s err ] && [ "$(wc -l <out)" = 1 ] && are_counted &&
+    wait $running && ! complains && [ "$(wc -l <out)" = 1 ] && are_counted &&
         [ "$(cut -f 2- out | tr '\t' '\n' | sort | uniq -d)" = '' ] && well=yes && break
 done
 report 'build_trigger: what waits is not lost' $well
 
-expect 'build_trigger: a quiet folder' 0 /dev/null '' "$trigger" src --ticks 1
-expect 'build_trigger: a missing folder' 5 /dev/null 'build_trigger: cannot watch missing' "$trigger" missing --ticks 1
+expect 'build_trigger: a quiet folder' 0 /dev/null 'build_trigger: watching src' "$trigger" src --ticks 1
+expect 'build_trigger: a missing folder' 5 /dev/null 'build_trigger: cannot watch missing: not there' "$trigger" missing --ticks 1
 expect 'build_trigger: no pattern' 2 /dev/null 'build_trigger: a pattern is not a regular expression' \
     "$trigger" src --ignore '(' --ticks 1
 "$trigger" >out 2>err

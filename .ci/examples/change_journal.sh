@@ -12,18 +12,18 @@ tells() {
     return 1
 }
 
-# Files are made until each journal tells of one, and then of the last: it has seen all of them.
-begin_journals() {
-    local number=0 file
-    for file in plain json zero; do
-        while [ ! -s $file ] && [ $number -lt 1200 ]; do
-            number=$((number + 1))
-            : >"watched/begin$number" && sleep 0.05
-        done
+# watches FILE FOLDER: the journal that complains there has said that it watches the folder, within a minute.
+watches() {
+    for _ in $(seq 600); do
+        ! grep -qxF -- "change_journal: watching $2" "$1" || return 0
+        sleep 0.1
     done
-    for file in plain json zero; do
-        tells $file "watched/begin$number(\$|\")" || return 1
-    done
+    return 1
+}
+
+# complains FILE: there is something besides.
+complains() {
+    grep -qvF 'change_journal: watching ' "$1"
 }
 
 # all_tell PATTERN: each of the three does.
@@ -40,20 +40,20 @@ make_changes() {
 }
 
 # Three journals at once, of one folder. Patterns leave out the file b.o.
-"$journal" --timeout 100 --interval 20 --ticks 2000 --exclude '\.o$' watched >plain 2>complaints &
+"$journal" --timeout 100 --interval 20 --ticks 2000 --exclude '\.o$' watched >plain 2>complaints1 &
 first=$!
-"$journal" --timeout 100 --interval 20 --ticks 2000 --exclude '\.o$' --json watched >json 2>>complaints &
+"$journal" --timeout 100 --interval 20 --ticks 2000 --exclude '\.o$' --json watched >json 2>complaints2 &
 second=$!
-"$journal" --timeout 100 --interval 20 --ticks 2000 --exclude '\.o$' -0 watched >zero 2>>complaints &
+"$journal" --timeout 100 --interval 20 --ticks 2000 --exclude '\.o$' -0 watched >zero 2>complaints3 &
 third=$!
 well=no
-begin_journals && make_changes && well=yes
+watches complaints1 watched && watches complaints2 watched && watches complaints3 watched && make_changes && well=yes
 kill $first $second $third 2>/dev/null
 wait $first $second $third 2>/dev/null
 printf '%s\twatched/%s\n' 'Create(File)' a.txt 'Create(Folder)' notes 'Create(File)' 'two\tnames' \
     'Remove(Folder)' notes >wanted
-grep -vE 'watched/(begin|end)' plain >got
-[ ! -s complaints ] && cmp -s got wanted || well=no
+grep -v 'watched/end' plain >got
+! complains complaints1 && ! complains complaints2 && ! complains complaints3 && cmp -s got wanted || well=no
 report 'a journal in plain lines' $well
 
 # The same events as JSON, numbered from 1 without a gap.
@@ -63,11 +63,11 @@ cat >wanted <<'END'
 {"flag":null,"info":null,"kind":"Create(File)","paths":["watched/two\tnames"],"seq":N,"time":T,"tracker":null}
 {"flag":null,"info":null,"kind":"Remove(Folder)","paths":["watched/notes"],"seq":N,"time":T,"tracker":null}
 END
-grep -vE 'watched/(begin|end)' json | sed 's/"seq":[0-9]*,"time":[0-9]*/"seq":N,"time":T/' >got
+grep -v 'watched/end' json | sed 's/"seq":[0-9]*,"time":[0-9]*/"seq":N,"time":T/' >got
 cmp -s got wanted && cmp -s <(grep -o '"seq":[0-9]*' json) <(seq -f '"seq":%.0f' "$(wc -l <json)") || well=no
 report 'a journal in JSON' $well
 printf 'watched/%s\0' a.txt notes $'two\tnames' notes >wanted
-grep -zvE 'watched/(begin|end)' zero >got
+grep -zv 'watched/end' zero >got
 cmp -s got wanted || well=no
 report 'a journal of paths' $well
 
@@ -75,9 +75,15 @@ report 'a journal of paths' $well
 : >nothing
 expect 'a journal by no pattern' 2 nothing 'change_journal: a pattern is not a regular expression' \
     "$journal" --include '(' watched
-expect 'a journal of a missing folder' 5 nothing 'change_journal: cannot watch missing' "$journal" missing
+expect 'a journal of a missing folder' 5 nothing 'change_journal: cannot watch missing: not there' "$journal" missing
 "$journal" --json -0 watched >out 2>err
 report 'a journal in two forms' "$([ $? = 2 ] && [ ! -s out ] && grep -q "cannot be used with" err && echo yes)"
+
+# What is there already comes first with --initial, and not without it.
+mkdir -p first/notes && echo one >first/notes/a.txt
+printf '%s\tfirst%s\n' 'Create(Folder)' '' 'Create(Folder)' /notes 'Create(File)' /notes/a.txt >wanted
+expect 'a journal from nothing' 0 wanted 'change_journal: watching first' "$journal" --initial --timeout 50 --ticks 4 first
+expect 'a journal from now on' 0 nothing 'change_journal: watching first' "$journal" --timeout 50 --seconds 1 first
 
 # The reader of these lines is gone after the first, while files are made until the journal has ended.
 rm -rf gone status && mkdir gone
@@ -87,21 +93,22 @@ while [ ! -s status ] && [ $number -lt 1200 ]; do
     number=$((number + 1))
     : >gone/$number && sleep 0.05
 done
-report 'the reader of a journal is gone' "$([ "$(cat status)" = 6 ] && [ ! -s err ] && [ "$(wc -l <out)" = 1 ] && echo yes)"
+report 'the reader of a journal is gone' "$([ "$(cat status)" = 6 ] && ! complains err && [ "$(wc -l <out)" = 1 ] && echo yes)"
 
-# What waits when the life is over is printed: nothing is as old as a minute then. Files are made until the
-# journal has ended, and it has those from the first that it saw on, each once and in order.
+# What waits when the life is over is printed, each once and in order: nothing is as old as a minute then. Files
+# are made from the moment on at which the journal says that it watches, until it has ended.
 well=no
 for _ in 1 2 3; do
     rm -rf late && mkdir late && number=1000
-    "$journal" --timeout 60000 --interval 20 --ticks 8 late >out 2>err &
+    "$journal" --timeout 60000 --interval 20 --seconds 2 late >out 2>err &
+    watches err late || break
     while kill -0 $! 2>/dev/null && [ $number -lt 5000 ]; do
         number=$((number + 1))
         : >"late/$number" && sleep 0.02
     done
     wait $! || break
     sed 's,^Create(File)\tlate/,,' out >got
-    [ -s got ] && [ ! -s err ] && seq "$(head -n 1 got)" "$(tail -n 1 got)" | cmp -s - got && well=yes && break
+    [ -s got ] && ! complains err && seq 1001 "$(tail -n 1 got)" | cmp -s - got && well=yes && break
 done
 report 'what waits when a journal ends' $well
 cd ..

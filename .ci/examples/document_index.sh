@@ -53,15 +53,15 @@ answers event || well=no
 report 'document_index: the documents that remain' $well
 exec 3>&- 4<&-
 well=no
-wait $running && [ ! -s err ] && well=yes
+wait $running && [ "$(cat err)" = 'document_index: watching notes' ] && well=yes
 report 'document_index: it ends with its input' $well
 
 echo 'Event' >notes/z.txt
 echo notes/z.txt >wanted
-expect 'document_index: one query' 0 wanted '' "$index" notes --query EVENT
-expect 'document_index: a word that no document has' 0 /dev/null '' "$index" notes --query nothing
-expect 'document_index: a missing folder' 5 /dev/null 'document_index: cannot watch missing' "$index" missing --query a
+expect 'document_index: one query' 0 wanted 'document_index: watching notes' "$index" notes --query EVENT
+expect 'document_index: a word that no document has' 0 /dev/null 'document_index: watching notes' "$index" notes --query nothing
+expect 'document_index: a missing folder' 5 /dev/null 'document_index: cannot watch missing: not there' "$index" missing --query a
 "$index" notes --query event >/dev/full 2>err
-report 'document_index: a full device' "$([ $? = 6 ] && [ ! -s err ] && echo yes)"
+report 'document_index: a full device' "$([ $? = 6 ] && [ "$(cat err)" = 'document_index: watching notes' ] && echo yes)"
 "$index" >out 2>err
 report 'document_index: no word' "$([ $? = 2 ] && [ ! -s out ] && [ -s err ] && echo yes)"

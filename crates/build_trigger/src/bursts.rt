@@ -14,7 +14,7 @@ use std::io::Write;
 use std::time::Duration;
 use trigger_lines::{Trigger, write_line};
 use watch_loop::TakesReports;
-use watch_program::{Fault, write_errors};
+use watch_program::{Fault, write_errors, write_watching};
 
 /// The events that wait for a line, which of them count, and where the lines go.
 #[derive(Drop)]
@@ -63,6 +63,11 @@ impl<O: Write + Drop, E: Write + Drop> Bursts<'_, O, E> {
 }
 
 impl<O: Write + Drop, E: Write + Drop> TakesReports for Bursts<'_, O, E> {
+    fn begin(&mut self) -> Result<(), Fault> {
+        let _ = write_watching(self.folder.as_str(), NAME, &mut self.err);
+        Ok(())
+    }
+
     fn take(&mut self, report: DebounceEventResult) -> Result<(), Fault> {
         self.hand_in(report)
     }

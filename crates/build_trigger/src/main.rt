@@ -11,11 +11,10 @@ use notify_debouncer_full::{DebouncerRuntime, RecursiveMode};
 use std::alloc::{AllocError, Global};
 use std::io::Write;
 use std::process::ExitCode;
-use std::time::Duration;
 use trigger_lines::Trigger;
 use watch_loop::follow_folder;
 use watch_program::{
-    Fault, Pace, command, folder_of, number, number_of, option, pace_of, run_with_words,
+    Fault, Pace, command, folder_of, milliseconds_of, number, option, pace_of, run_with_words,
     write_missed,
 };
 
@@ -64,7 +63,7 @@ fn run<R: DebouncerRuntime + AllocGlobal, O: Write + Drop, E: Write + Drop>(
     let mut bursts = Bursts {
         alloc,
         folder: &folder,
-        quiet: Duration::from_millis(number_of(matches, "quiet", QUIET)),
+        quiet: milliseconds_of(matches, "quiet", QUIET),
         filter,
         trigger: Trigger::new(alloc),
         out,

@@ -12,7 +12,7 @@ use printer::Printer;
 use std::io::Write;
 use std::process::ExitCode;
 use watch_loop::follow_folder;
-use watch_program::{Fault, folder_of, pace_of, run_with_words, write_missed};
+use watch_program::{Fault, folder_of, pace_of, place_of, run_with_words, write_missed};
 use words::{NAME, command_line, form_of};
 
 /// Watches the folder, and prints of it what passes the patterns.
@@ -25,8 +25,10 @@ fn run<R: DebouncerRuntime + AllocGlobal, O: Write + Drop, E: Write + Drop>(
     let (include, exclude) = (matches.get_str("include"), matches.get_str("exclude"));
     let patterns = Patterns::parse(rt.alloc(), include, exclude)?;
     let filter: PathFilter<'_> = patterns.filter(rt.alloc())?;
+    let place = place_of(matches);
     let mut printer = Printer {
         alloc: rt.alloc(),
+        place,
         journal: Journal::new(form_of(matches)),
         filter,
         out,

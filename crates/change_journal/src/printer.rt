@@ -11,19 +11,20 @@ use notify_debouncer_full::DebounceEventResult;
 use std::alloc::Global;
 use std::io::Write;
 use watch_loop::TakesReports;
-use watch_program::{Fault, write_errors};
+use watch_program::{Fault, write_errors, write_watching};
 
-/// A journal, which events it takes, and where it is written to.
+/// A journal of a place, which events it takes, and where it is written to.
 #[derive(Drop)]
-pub(crate) struct Printer<'p, O: Drop, E: Drop> {
+pub(crate) struct Printer<'n, 'p, O: Drop, E: Drop> {
     pub(crate) alloc: Global,
+    pub(crate) place: &'n str,
     pub(crate) journal: Journal,
     pub(crate) filter: PathFilter<'p>,
     pub(crate) out: O,
     pub(crate) err: E,
 }
 
-impl<O: Write + Drop, E: Write + Drop> Printer<'_, O, E> {
+impl<O: Write + Drop, E: Write + Drop> Printer<'_, '_, O, E> {
     /// Prints what is reported: the entry of each event that passes, or a line for each error. After an
     /// error the watcher looks again, so no change is lost by one.
     pub(crate) fn print(&mut self, report: DebounceEventResult) -> Result<(), Fault>
@@ -45,7 +46,12 @@ impl<O: Write + Drop, E: Write + Drop> Printer<'_, O, E> {
     }
 }
 
-impl<O: Write + Drop, E: Write + Drop> TakesReports for Printer<'_, O, E> {
+impl<O: Write + Drop, E: Write + Drop> TakesReports for Printer<'_, '_, O, E> {
+    fn begin(&mut self) -> Result<(), Fault> {
+        let _ = write_watching(self.place, NAME, &mut self.err);
+        Ok(())
+    }
+
     fn take(&mut self, report: DebounceEventResult) -> Result<(), Fault> {
         self.print(report)
     }

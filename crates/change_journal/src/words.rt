@@ -10,6 +10,8 @@ pub(crate) const NAME: &str = "change_journal";
 /// The command line.
 pub(crate) fn command_line<'a>(alloc: Global, name: &'a str) -> Result<Command<'a>, AllocError> {
     let line = command(alloc, name, "Prints the changes below a folder.", "DIR")?;
+    let initial = flag(alloc, "initial").long("initial");
+    let line = line.arg(initial.help("print what is there first, as created"))?;
     let line = line.arg(flag(alloc, "json").long("json").help("print JSON objects"))?;
     with_patterns(alloc, line.arg(zero(alloc)?)?)
 }

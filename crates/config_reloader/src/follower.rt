@@ -10,7 +10,7 @@ use std::fs;
 use std::fs::Files;
 use std::io::Write;
 use watch_loop::TakesReports;
-use watch_program::{Fault, write_errors};
+use watch_program::{Fault, write_errors, write_watching};
 
 /// The file, what is in force, and where the program prints.
 #[derive(Drop)]
@@ -51,6 +51,7 @@ impl<R: Files + Drop + AllocGlobal, O: Write + Drop, E: Write + Drop> TakesRepor
     for Follower<R, O, E> {
     /// Reads the file for the first time. The watch came first: what changes after this is reported.
     fn begin(&mut self) -> Result<(), Fault> {
+        let _ = write_watching(self.file.as_str(), NAME, &mut self.err);
         self.read()
     }
 

@@ -28,9 +28,9 @@ fn command_line<'a>(alloc: Global, name: &'a str) -> Result<Command<'a>, AllocEr
 }
 
 /// Answers each line of the standard input, and ends each answer with an empty line.
-fn answer_lines<R: DebouncerRuntime + AllocGlobal + Input, O: Write + Drop>(
+fn answer_lines<R: DebouncerRuntime + AllocGlobal + Input, O: Write + Drop, E: Write + Drop>(
     rt: R,
-    service: &mut Service<R, O>,
+    service: &mut Service<R, O, E>,
     reports: &FolderReports<R>,
 ) -> Result<(), Fault> {
     for line in rt.lines(rt.alloc()) {
@@ -43,9 +43,9 @@ fn answer_lines<R: DebouncerRuntime + AllocGlobal + Input, O: Write + Drop>(
 }
 
 /// Answers the word, of what stands there now, and ends the answer with an empty line.
-fn answer_line<R: DebouncerRuntime + AllocGlobal, O: Write + Drop>(
+fn answer_line<R: DebouncerRuntime + AllocGlobal, O: Write + Drop, E: Write + Drop>(
     rt: R,
-    service: &mut Service<R, O>,
+    service: &mut Service<R, O, E>,
     reports: &FolderReports<R>,
     word: &str,
 ) -> Result<(), Fault> {
@@ -55,13 +55,13 @@ fn answer_line<R: DebouncerRuntime + AllocGlobal, O: Write + Drop>(
 }
 
 /// Indexes what stands there, and answers the query of the words, or else those of the standard input.
-fn answer<R: DebouncerRuntime + AllocGlobal + Input, O: Write + Drop>(
+fn answer<R: DebouncerRuntime + AllocGlobal + Input, O: Write + Drop, E: Write + Drop>(
     rt: R,
     matches: &ArgMatches<'_>,
-    service: &mut Service<R, O>,
+    service: &mut Service<R, O, E>,
     reports: &FolderReports<R>,
 ) -> Result<(), Fault> {
-    service.read_all()?;
+    service.begin()?;
     match matches.get_str("query") {
         Some(word) => service.answer(word),
         None => answer_lines(rt, service, reports),
@@ -69,33 +69,34 @@ fn answer<R: DebouncerRuntime + AllocGlobal + Input, O: Write + Drop>(
 }
 
 /// Watches the folder, and answers of it until the queries end.
-fn serve<R: DebouncerRuntime + AllocGlobal + Input, O: Write + Drop>(
+fn serve<R: DebouncerRuntime + AllocGlobal + Input, O: Write + Drop, E: Write + Drop>(
     rt: R,
     matches: &ArgMatches<'_>,
-    service: &mut Service<R, O>,
+    service: &mut Service<R, O, E>,
 ) -> Result<(), Fault> {
     let folder = &service.documents.folder;
     // The folder is watched first, so that no change after the first look is missed.
     let reports = FolderReports::start(rt, folder, RecursiveMode::Recursive, pace_of(matches))?;
     answer(rt, matches, service, &reports)?;
-    reports.finish()?;
+    service.say_missed(reports.finish()?.missed);
     Ok(())
 }
 
 /// Serves the folder that the words name.
-fn run<R: DebouncerRuntime + AllocGlobal + Input, O: Write + Drop>(
+fn run<R: DebouncerRuntime + AllocGlobal + Input, O: Write + Drop, E: Write + Drop>(
     rt: R,
     matches: &ArgMatches<'_>,
     out: O,
+    err: E,
 ) -> Result<(), Fault> {
     let documents = Documents::new(rt, folder_of(rt.alloc(), matches)?);
-    let mut service = Service::new(rt.alloc(), documents, out);
+    let mut service = Service::new(rt.alloc(), documents, out, err);
     serve(rt, matches, &mut service)
 }
 
 fn main(rt: HostRuntime) -> ExitCode {
     let status = run_with_words(&rt, NAME, command_line, &mut rt.stderr(), |matches| {
-        run(rt, matches, rt.stdout())
+        run(rt, matches, rt.stdout(), rt.stderr())
     });
     ExitCode::from(status)
 }

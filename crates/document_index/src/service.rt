@@ -1,4 +1,5 @@
 //! Queries and their answers.
+use crate::NAME;
 use crate::documents::Documents;
 use caseless::default_case_fold_str;
 use notify_debouncer_full::{DebounceEventResult, DebouncedEvent, DebouncerRuntime};
@@ -6,33 +7,36 @@ use std::alloc::Global;
 use std::io::Write;
 use std::time::Duration;
 use watch_loop::FolderReports;
-use watch_program::{Fault, push_field, write_now};
+use watch_program::{Fault, push_field, write_errors, write_missed, write_now, write_watching};
 use word_index::index::DocumentIndex;
 
-/// An index of documents, and where its answers go.
+/// An index of documents, and where its answers and complaints go.
 #[derive(Drop)]
-pub(crate) struct Service<R: Drop, O: Drop> {
+pub(crate) struct Service<R: Drop, O: Drop, E: Drop> {
     alloc: Global,
     pub(crate) documents: Documents<R>,
     index: DocumentIndex,
     out: O,
+    err: E,
 }
 
-impl<R: DebouncerRuntime + AllocGlobal, O: Write + Drop> Service<R, O> {
+impl<R: DebouncerRuntime + AllocGlobal, O: Write + Drop, E: Write + Drop> Service<R, O, E> {
     /// Returns the service of no documents.
-    pub(crate) fn new(alloc: Global, documents: Documents<R>, out: O) -> Service<R, O> {
+    pub(crate) fn new(alloc: Global, documents: Documents<R>, out: O, err: E) -> Service<R, O, E> {
         Service {
             alloc,
             documents,
             index: DocumentIndex::new(alloc),
             out,
+            err,
         }
     }
 
-    /// Indexes all documents, from nothing.
-    pub(crate) fn read_all(&mut self) -> Result<(), Fault> {
+    /// Says that the folder is watched, and indexes what stands there. From then on the reports say what
+    /// changes.
+    pub(crate) fn begin(&mut self) -> Result<(), Fault> {
+        let _ = write_watching(self.documents.folder.as_str(), NAME, &mut self.err);
         let batch = self.documents.all()?;
-        self.index = DocumentIndex::new(self.alloc);
         self.take_batch(batch.as_slice())
     }
 
@@ -43,13 +47,15 @@ impl<R: DebouncerRuntime + AllocGlobal, O: Write + Drop> Service<R, O> {
         Ok(())
     }
 
-    /// Takes a report. After errors, or if events were lost, all is read anew.
+    /// Takes a report, or prints a line for each error. After an error the watcher looks again, so no change
+    /// is lost by one.
     fn take_report(&mut self, report: &DebounceEventResult) -> Result<(), Fault> {
         match report {
-            Ok(batch) if !batch.iter().any(|event| event.need_rescan()) => {
-                self.take_batch(batch.as_slice())
+            Ok(batch) => self.take_batch(batch.as_slice()),
+            Err(errors) => {
+                write_errors(errors.as_slice(), NAME, &mut self.err);
+                Ok(())
             }
-            _ => self.read_all(),
         }
     }
 
@@ -73,6 +79,11 @@ impl<R: DebouncerRuntime + AllocGlobal, O: Write + Drop> Service<R, O> {
             lines.push(b'\n')?;
         }
         write_now(lines.as_slice(), &mut self.out)
+    }
+
+    /// Says how many events, errors and batches were lost, if any was.
+    pub(crate) fn say_missed(&mut self, missed: u64) {
+        write_missed(missed, NAME, &mut self.err);
     }
 
     /// Prints an empty line, the end of an answer.

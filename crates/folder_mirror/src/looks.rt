@@ -1,6 +1,6 @@
 //! Looks at folders.
 use batch_plan::action::Standing;
-use batch_plan::naming::{name_beside, name_listed};
+use batch_plan::naming::name_beside;
 use notify_debouncer_full::{
     DebouncedEvent, ErrorKind, Folders, Listing, PathBuf, RealFolders, RecursiveMode, list,
 };
@@ -41,15 +41,14 @@ fn look_at<R: Files + Clock + AllocGlobal + Copy + Drop>(
     }
 }
 
-/// A batch that names all that stands in the folder, and what the copy has beside that.
-pub(crate) fn all_of<R: Files + Clock + AllocGlobal + Copy + Drop>(
+/// A batch that names what the copy has beside what stands in the folder.
+pub(crate) fn beside<R: Files + Clock + AllocGlobal + Copy + Drop>(
     rt: R,
     from: &PathBuf,
     to: &PathBuf,
 ) -> Result<Vec<DebouncedEvent>, Fault> {
     let mut batch = Vec::new(rt.alloc());
     let original = listing_of(rt, from)?;
-    name_listed(&mut batch, &original, from)?;
     name_beside(&mut batch, &original, &listing_of(rt, to)?, from, to)?;
     Ok(batch)
 }

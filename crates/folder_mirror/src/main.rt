@@ -2,12 +2,15 @@
 //! docs/examples/folder_mirror.md is its page.
 #![tactic(auto)]
 
+mod apart;
+mod copied;
 mod copy;
 mod looks;
 mod mirror;
 
+use apart::check_apart;
 use clap::{Arg, ArgMatches, Command};
-use copy::FolderCopy;
+use copy::{FolderCopy, Leave};
 use mirror::Mirror;
 use notify_debouncer_full::{DebouncerRuntime, PathBuf, RecursiveMode};
 use std::alloc::{AllocError, Global};
@@ -15,7 +18,7 @@ use std::fs;
 use std::io::Write;
 use std::process::ExitCode;
 use watch_loop::follow_folder;
-use watch_program::{Fault, Pace, command, folder_of, pace_of, place_of, run_with_words};
+use watch_program::{Fault, Pace, command, flag, folder_of, pace_of, place_of, run_with_words};
 
 /// The program's name.
 const NAME: &str = "folder_mirror";
@@ -23,14 +26,18 @@ const NAME: &str = "folder_mirror";
 /// The command line.
 fn command_line<'a>(alloc: Global, name: &'a str) -> Result<Command<'a>, AllocError> {
     let line = command(alloc, name, "Keeps the folder TO a copy of FROM.", "FROM")?;
-    line.arg(Arg::new(alloc, "to").value_name("TO").required(true))
+    let line = line.arg(Arg::new(alloc, "to").value_name("TO").required(true))?;
+    let delete = flag(alloc, "delete").long("delete");
+    let line = line.arg(delete.help("remove what TO has and FROM never had"))?;
+    let dry_run = flag(alloc, "dry-run").long("dry-run");
+    line.arg(dry_run.help("print what would be done, and do nothing"))
 }
 
-/// Whether both folders are there, and neither lies in the other.
-fn are_apart<R: DebouncerRuntime + AllocGlobal>(rt: &R, from: &str, to: &str) -> bool {
-    match (fs::canonicalize(rt, from), fs::canonicalize(rt, to)) {
-        (Ok(from), Ok(to)) => !from.starts_with(&to) && !to.starts_with(&from),
-        _ => false,
+/// What the words allow.
+fn leave_of(matches: &ArgMatches<'_>) -> Leave {
+    Leave {
+        delete: matches.get_flag("delete"),
+        dry_run: matches.get_flag("dry-run"),
     }
 }
 
@@ -39,27 +46,42 @@ fn copy_of<R: DebouncerRuntime + AllocGlobal>(
     rt: R,
     matches: &ArgMatches<'_>,
 ) -> Result<FolderCopy<R>, Fault> {
-    let to = matches.get_str("to").unwrap_or("");
-    if fs::create_dir_all(&rt, to).is_err() || !are_apart(&rt, place_of(matches), to) {
-        return Err(Fault::CannotWatch);
+    let (from, to) = (place_of(matches), matches.get_str("to").unwrap_or(""));
+    let leave = leave_of(matches);
+    check_apart(&rt, from, to)?;
+    if !leave.dry_run {
+        make_folder(&rt, to)?;
+        // A name through a folder that was missing leads somewhere only now.
+        check_apart(&rt, from, to)?;
     }
     let from = folder_of(rt.alloc(), matches)?;
     match PathBuf::parse(rt.alloc(), to) {
-        Ok(to) => FolderCopy::new(rt, from, to),
+        Ok(to) => FolderCopy::new(rt, from, to, leave),
         Err(_) => Err(Fault::Memory),
     }
 }
 
-/// Watches FROM, makes TO a copy of it, and keeps it one.
+/// Makes the folder, and those above it, if it is missing.
+fn make_folder<R: DebouncerRuntime + AllocGlobal>(rt: &R, folder: &str) -> Result<(), Fault> {
+    match fs::create_dir_all(rt, folder) {
+        Ok(()) => Ok(()),
+        Err(_) => Err(Fault::CannotWatch),
+    }
+}
+
+/// Watches FROM from nothing on: what is there is reported first, and so TO becomes a copy, and stays one.
 fn keep<R: DebouncerRuntime + AllocGlobal, O: Write + Drop, E: Write + Drop>(
     rt: R,
     mirror: &mut Mirror<R, O, E>,
     pace: Pace,
 ) -> Result<(), Fault> {
     let from = mirror.from().clone()?;
+    let pace = Pace {
+        initial: true,
+        ..pace
+    };
     let missed = follow_folder(rt, &from, RecursiveMode::Recursive, pace, mirror)?;
-    mirror.say_missed(missed);
-    Ok(())
+    mirror.end(missed)
 }
 
 /// Mirrors the folders that the words name.

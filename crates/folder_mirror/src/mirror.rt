@@ -1,6 +1,8 @@
 //! The mirror: batches carried out on the copy.
+use crate::NAME;
+use crate::copied::Copied;
 use crate::copy::FolderCopy;
-use crate::looks::{all_of, standing_at};
+use crate::looks::{beside, standing_at};
 use batch_plan::action::{Action, Standing};
 use batch_plan::naming::name_path;
 use batch_plan::planning::plan;
@@ -10,7 +12,7 @@ use std::io::Write;
 use std::time::{Clock, Duration};
 use std::{io, mem};
 use watch_loop::TakesReports;
-use watch_program::{Fault, push_field, write_missed, write_now};
+use watch_program::{Fault, push_field, write_errors, write_missed, write_now, write_watching};
 
 /// After how many milliseconds what failed is tried again.
 const PAUSE: u64 = 1000;
@@ -21,7 +23,12 @@ const PAUSE: u64 = 1000;
 pub(crate) struct Mirror<R: Drop, O: Drop, E: Drop> {
     rt: R,
     copy: FolderCopy<R>,
+    copied: Copied,
     failed: Vec<DebouncedEvent>,
+    /// The folder isn't there. Its copy stays as it is until the folder is there again.
+    is_gone: bool,
+    /// What the copy has beside the folder wasn't removed since the folder was there again.
+    has_beside: bool,
     out: O,
     err: E,
 }
@@ -36,7 +43,10 @@ impl<R: Files + Clock + AllocGlobal + Copy + Drop, O: Write + Drop, E: Write + D
         Mirror {
             rt,
             copy,
+            copied: Copied::new(rt.alloc()),
             failed: Vec::new(rt.alloc()),
+            is_gone: false,
+            has_beside: true,
             out,
             err,
         }
@@ -47,25 +57,16 @@ impl<R: Files + Clock + AllocGlobal + Copy + Drop, O: Write + Drop, E: Write + D
         &self.copy.from
     }
 
-    /// Brings the whole copy up to date.
-    fn take_all(&mut self) -> Result<(), Fault> {
-        let batch = all_of(self.rt, &self.copy.from, &self.copy.to)?;
-        self.take_batch(batch.as_slice())
-    }
-
-    /// Takes a report. After errors, or if events were lost, the whole copy is brought up to date.
-    fn take_report(&mut self, report: &DebounceEventResult) -> Result<(), Fault> {
-        match report {
-            Ok(batch) if !batch.iter().any(|event| event.need_rescan()) => {
-                self.take_batch(batch.as_slice())
-            }
-            _ => self.take_all(),
+    /// Tries once more what failed. The copy isn't complete if something fails still, or if events were
+    /// lost.
+    pub(crate) fn end(&mut self, missed: u64) -> Result<(), Fault> {
+        write_missed(missed, NAME, &mut self.err);
+        self.try_again()?;
+        if self.failed.is_empty() && missed == 0 {
+            Ok(())
+        } else {
+            Err(Fault::Incomplete)
         }
-    }
-
-    /// Says how many events, errors and batches were lost, if any was.
-    pub(crate) fn say_missed(&mut self, missed: u64) {
-        write_missed(missed, "folder_mirror", &mut self.err);
     }
 
     /// Tries again what failed.
@@ -77,19 +78,83 @@ impl<R: Files + Clock + AllocGlobal + Copy + Drop, O: Write + Drop, E: Write + D
     /// Carries out what the batch asks for, one action after the other.
     fn take_batch(&mut self, batch: &[DebouncedEvent]) -> Result<(), Fault> {
         let standing = standing_at(self.rt, batch)?;
+        // Asked after the looks: a folder that is there now was there when they found nothing.
+        if !self.has_folder() {
+            return self.keep_for_later(batch);
+        }
         for action in &plan(self.rt.alloc(), &standing, batch)? {
             self.carry_out(action)?;
         }
         Ok(())
     }
 
+    /// Keeps the paths of the batch, to look at them when the folder is there again.
+    fn keep_for_later(&mut self, batch: &[DebouncedEvent]) -> Result<(), Fault> {
+        for event in batch {
+            if let Some(path) = event.first_path() {
+                name_path(&mut self.failed, path)?;
+            }
+        }
+        Ok(())
+    }
+
+    /// Whether the folder is there. Says so if it isn't any more.
+    fn has_folder(&mut self) -> bool {
+        let has_folder = self.copy.has_folder();
+        if !has_folder && !self.is_gone {
+            let from = self.copy.from.as_str();
+            let _ = writeln!(self.err, "{NAME}: {from} is gone, and its copy stays");
+            self.has_beside = true;
+        }
+        self.is_gone = !has_folder;
+        has_folder
+    }
+
+    /// Removes what the copy has beside the folder, if that is allowed.
+    fn remove_beside(&mut self) -> Result<(), Fault> {
+        if !self.copy.leave.delete || !self.has_beside || !self.has_folder() {
+            return Ok(());
+        }
+        self.has_beside = false;
+        let batch = beside(self.rt, &self.copy.from, &self.copy.to)?;
+        self.take_batch(batch.as_slice())
+    }
+
     /// Carries the action out, and says what was done, or what failed.
     fn carry_out(&mut self, action: &Action) -> Result<(), Fault> {
-        match self.copy.carry_out(action) {
+        let done = match action.wanted {
+            None => self.remove(&action.path),
+            Some(standing) => self.put(&action.path, standing),
+        };
+        match done {
             Ok(true) => self.say(action),
             Ok(false) => Ok(()),
             Err(error) => self.say_failed(action, &error),
         }
+    }
+
+    /// Has what stands at the path stand in the copy too.
+    fn put(&mut self, path: &PathBuf, standing: Standing) -> io::Result<bool> {
+        let done = self.copy.put(path, standing)?;
+        match self.copied.insert(path, standing) {
+            Ok(()) => Ok(done),
+            Err(_) => Err(io::Error::from(io::ErrorKind::OutOfMemory)),
+        }
+    }
+
+    /// Removes from the copy what it has of the path and all below it, and what is its own only if that is
+    /// allowed.
+    fn remove(&mut self, path: &PathBuf) -> io::Result<bool> {
+        let Ok(copied) = self.copied.at_or_below(path) else {
+            return Err(io::Error::from(io::ErrorKind::OutOfMemory));
+        };
+        let mut done = self.copy.leave.delete && self.copy.clear(path)?;
+        // What is in a folder goes before the folder.
+        for (path, standing) in copied.iter().rev() {
+            done = self.copy.take_out(path, *standing)? || done;
+            self.copied.remove(path);
+        }
+        Ok(done)
     }
 
     /// Says what was done.
@@ -106,7 +171,7 @@ impl<R: Files + Clock + AllocGlobal + Copy + Drop, O: Write + Drop, E: Write + D
     fn say_failed(&mut self, action: &Action, error: &io::Error) -> Result<(), Fault> {
         let word = word_of(action.wanted);
         let path = action.path.as_str();
-        let _ = writeln!(self.err, "folder_mirror: cannot {word} {path}: {error}");
+        let _ = writeln!(self.err, "{NAME}: cannot {word} {path}: {error}");
         name_path(&mut self.failed, &action.path)?;
         Ok(())
     }
@@ -114,13 +179,20 @@ impl<R: Files + Clock + AllocGlobal + Copy + Drop, O: Write + Drop, E: Write + D
 
 impl<R: Files + Clock + AllocGlobal + Copy + Drop, O: Write + Drop, E: Write + Drop> TakesReports
     for Mirror<R, O, E> {
-    /// Makes the copy. The watch came first: what changes after this look is reported.
+    /// What stands in the folder is reported: the copy is made as of any other change.
     fn begin(&mut self) -> Result<(), Fault> {
-        self.take_all()
+        let _ = write_watching(self.copy.from.as_str(), NAME, &mut self.err);
+        self.remove_beside()
     }
 
+    /// Takes a batch, or prints a line for each error. After an error the watcher looks again, so no change
+    /// is lost by one.
     fn take(&mut self, report: DebounceEventResult) -> Result<(), Fault> {
-        self.take_report(&report)
+        match report {
+            Ok(batch) => self.take_batch(batch.as_slice())?,
+            Err(errors) => write_errors(errors.as_slice(), NAME, &mut self.err),
+        }
+        self.remove_beside()
     }
 
     /// What failed is tried again after a pause.

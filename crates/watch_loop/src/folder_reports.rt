@@ -1,7 +1,7 @@
 //! What is reported of a folder.
 ghost use Rattle.std.specs.Prelude.{◌≡◌, ◌≢◌, ◌⊎◌, None, IfErr, IfSome};
 ghost use Rattle.std.specs.Duration.{as_nanos};
-ghost use Rattle.watch_program.specs.declared.fault.Fault.TheVariants.{CannotWatch, Memory, NoThread};
+ghost use Rattle.watch_program.specs.declared.fault.Fault.TheVariants.{CannotWatch, Memory, NoThread, NotThere};
 
 use notify_debouncer_full::{
     Config, DebounceEventResult, DebouncerRuntime, LastReports, PathBuf, RecommendedReports,
@@ -21,7 +21,7 @@ pub struct FolderReports<R: DebouncerRuntime> {
 
 /// A program that follows the reports of a folder.
 pub trait TakesReports: Drop {
-    /// What it does once the folder is watched: what changes after a first look, here, is reported.
+    /// What it does once the folder is watched: what changes from now on is reported.
     fn begin(&mut self) -> Result<(), Fault> {
         Ok(())
     }
@@ -45,25 +45,26 @@ pub trait TakesReports: Drop {
 pub struct Rest {
     /// What was not given yet, in order: what was emitted, and then all that waited, as one batch.
     pub reports: Vec<DebounceEventResult>,
-    /// How many events, errors and batches were lost, since an allocation failed.
+    /// How many events, errors and batches were lost: an allocation failed, or the clock could not be read.
     pub missed: u64,
 }
 
 impl<R: DebouncerRuntime + AllocGlobal> FolderReports<R> {
-    /// Watches the folder from now on. What is there already isn't reported. The life begins with
-    /// this call.
+    /// Watches the folder from now on. What is there already is reported if `pace.initial` says so, as
+    /// created. The life begins with this call.
     pub fn start(
         rt: R,
         folder: &PathBuf,
         mode: RecursiveMode,
         pace: Pace,
     ) -> Result<FolderReports<R>, Fault>
-        ensures err { IfErr result (λ e. (e ≡ Memory) ⊎ ((e ≡ CannotWatch) ⊎ (e ≡ NoThread))) }
+        ensures err { IfErr result (λ e. ((e ≡ Memory) ⊎ (e ≡ NotThere))
+            ⊎ ((e ≡ CannotWatch) ⊎ (e ≡ NoThread))) }
     {
         let mut started = begin(rt, pace)?;
         match started.reports.watch(folder, mode) {
             Ok(()) => Ok(started),
-            Err(error) => Err(Fault::of(&error, Fault::CannotWatch)),
+            Err(error) => Err(Fault::of_watch(&error)),
         }
     }
 
@@ -126,8 +127,10 @@ impl<R: DebouncerRuntime + AllocGlobal> FolderReports<R> {
 }
 
 /// Watches the folder, and hands on each report until the program's life is over, and then what was not
-/// given yet: what was emitted, and all that waited, as one batch. What is there already isn't reported.
-/// Returns how many events, errors and batches were lost, since an allocation failed.
+/// given yet: what was emitted, and all that waited, as one batch. What is there already is reported first
+/// if `pace.initial` says so, as created.
+/// Returns how many events, errors and batches were lost: an allocation failed, or the clock could not be
+/// read.
 pub fn follow_folder<R: DebouncerRuntime + AllocGlobal, S: TakesReports>(
     rt: R,
     folder: &PathBuf,
@@ -149,7 +152,9 @@ pub fn follow_folder<R: DebouncerRuntime + AllocGlobal, S: TakesReports>(
 fn begin<R: DebouncerRuntime + AllocGlobal>(rt: R, pace: Pace) -> Result<FolderReports<R>, Fault>
     ensures err { IfErr result (λ e. (e ≡ Memory) ⊎ (e ≡ NoThread)) }
 {
-    let config = Config::default().with_poll_interval(pace.interval);
+    let config = Config::default()
+        .with_poll_interval(pace.interval)
+        .with_initial_events(pace.initial);
     let end = end_of(&rt, pace.life);
     match Reports::start(rt, rt.alloc(), pace.timeout, None, config) {
         Ok(reports) => Ok(FolderReports { rt, reports, end }),

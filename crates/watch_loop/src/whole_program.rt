@@ -7,51 +7,69 @@ use notify_debouncer_full::{DebounceEventResult, DebouncedEvent, DebouncerRuntim
 use std::io::Write;
 use std::rt::Env;
 use watch_program::{
-    Fault, command, end, folder_of, matches_of, pace_of, place_of, words_of, write_errors,
-    write_missed,
+    Fault, Pace, command, end, folder_of, matches_of, pace_of, place_of, words_of, write_errors,
+    write_missed, write_watching,
 };
 
 /// What a program does with the batches of a folder.
 pub trait TakesBatches: Drop {
+    /// Whether what is there already is in the first batches, as created.
+    fn wants_initial(&self) -> bool {
+        false
+    }
+
     /// Takes a batch. An error ends the program.
     fn take(&mut self, batch: Vec<DebouncedEvent>) -> Result<(), Fault>;
 }
 
-/// Runs a program whose words are `DIR`, `--timeout`, `--interval`, `--ticks` and `--help`: watches the
-/// folder with all below it, and hands on each batch until the program's life is over, and then, as one
-/// batch, all that waits. Returns the exit status. Faults, errors of the watcher and the number of lost
-/// events are written to `err`; what there is to say of the words is printed.
+/// Runs a program whose words are `DIR`, `--timeout`, `--interval`, `--seconds`, `--ticks` and `--help`:
+/// watches the folder with all below it, says so on `err` (`NAME: watching DIR`), and hands on each batch
+/// until the program's life is over, and then, as one batch, all that waits. Returns the exit status.
+/// Faults, errors of the watcher and the number of lost events are written to `err`; what there is to say of
+/// the words is printed.
 pub fn run_program<
     R: DebouncerRuntime + AllocGlobal + Env + Print + Eprint,
     P: TakesBatches,
     E: Write + Drop,
->(rt: R, name: &str, about: &str, program: P, err: E) -> u8
-    ensures status { (result ≡ 0) ⊎ ((result ≡ 2) ⊎ ((result ≡ 4) ⊎ ((result ≡ 5)
-        ⊎ ((result ≡ 6) ⊎ (result ≡ 8))))) }
+>(rt: R, name: &str, about: &str, program: P, mut err: E) -> u8
+    ensures status { ((result ≡ 0) ⊎ (result ≡ 1)) ⊎ ((result ≡ 2) ⊎ ((result ≡ 4)
+        ⊎ ((result ≡ 5) ⊎ ((result ≡ 6) ⊎ (result ≡ 8))))) }
 {
-    let mut printer = Printer { name, program, err };
     let words = match words_of(&rt) {
         Ok(words) => words,
-        Err(fault) => return end(Err(fault), name, "", &mut printer.err),
+        Err(fault) => return end(Err(fault), name, "", &mut err),
     };
     let line = command(rt.alloc(), name, about, "DIR");
     let matches = match matches_of(&rt, line, words.as_slice()) {
         Ok(matches) => matches,
         Err(status) => return status,
     };
+    let place = place_of(&matches);
+    let mut printer = Printer {
+        name,
+        place,
+        program,
+        err,
+    };
     let run = watch(rt, &matches, &mut printer);
-    end(run, name, place_of(&matches), &mut printer.err)
+    end(run, name, place, &mut printer.err)
 }
 
-/// A program, and where its errors are written to.
+/// A program, what it watches, and where its errors are written to.
 #[derive(Drop)]
 struct Printer<'n, P: Drop, E: Drop> {
     name: &'n str,
+    place: &'n str,
     program: P,
     err: E,
 }
 
 impl<P: TakesBatches, E: Write + Drop> TakesReports for Printer<'_, P, E> {
+    fn begin(&mut self) -> Result<(), Fault> {
+        let _ = write_watching(self.place, self.name, &mut self.err);
+        Ok(())
+    }
+
     fn take(&mut self, report: DebounceEventResult) -> Result<(), Fault> {
         match report {
             Ok(batch) => self.program.take(batch),
@@ -70,8 +88,11 @@ fn watch<R: DebouncerRuntime + AllocGlobal, P: TakesBatches, E: Write + Drop>(
     printer: &mut Printer<'_, P, E>,
 ) -> Result<(), Fault> {
     let folder = folder_of(rt.alloc(), matches)?;
-    let (mode, pace) = (RecursiveMode::Recursive, pace_of(matches));
-    let missed = follow_folder(rt, &folder, mode, pace, printer)?;
+    let pace = Pace {
+        initial: printer.program.wants_initial(),
+        ..pace_of(matches)
+    };
+    let missed = follow_folder(rt, &folder, RecursiveMode::Recursive, pace, printer)?;
     write_missed(missed, printer.name, &mut printer.err);
     Ok(())
 }

@@ -1,6 +1,6 @@
 -- The names of the words of a command line. The function that adds a word cites this.
 use Rattle.std.proofs.Common.{◌≡◌, ◌∙◌, ap, ◌++◌, ◌∷◌, [], map, false, ℕ, List, Result, Ok, Err, IfOk}
-use Rattle.std.proofs.lemmas.List.{map-append}
+use Rattle.std.proofs.lemmas.List.{map-append, append_assoc}
 use Rattle.clap.specs.declared.builder.arg.Arg.{Arg}
 use Rattle.clap.specs.declared.builder.command.Command.{Command}
 use Rattle.clap.specs.Simple.{app_of}
@@ -15,13 +15,10 @@ ids_added old new word local adds =
     ap (λ app. map (λ rule. rule.id) app.top.rules) (adds.shape local)
     ∙ map-append (λ rule. rule.id) (app_of old).top.rules (rule_of word ∷ [])
 
--- the names of four words that were added in turn
-pub ids_of_four : {E : Type 0} (zero one two three : Command) (result : Result Command E)
-    (a b c d : List ℕ) → ids_of zero ≡ [] → ids_of one ≡ ids_of zero ++ a ∷ []
-    → ids_of two ≡ ids_of one ++ b ∷ [] → ids_of three ≡ ids_of two ++ c ∷ []
-    → IfOk result (λ four. ids_of four ≡ ids_of three ++ d ∷ [])
-    → IfOk result (λ four. ids_of four ≡ a ∷ b ∷ c ∷ d ∷ [])
-ids_of_four zero one two three (Ok four) a b c d e f g h last =
-    last ∙ ap (λ ids. ids ++ d ∷ []) (h ∙ ap (λ ids. ids ++ c ∷ []) (g
-    ∙ ap (λ ids. ids ++ b ∷ []) (f ∙ ap (λ ids. ids ++ a ∷ []) e)))
-ids_of_four zero one two three (Err error) a b c d e f g h last = last
+-- the names of two words that were added in turn
+pub ids_of_two : {E : Type 0} (zero one : Command) (result : Result Command E) (a b : List ℕ)
+    → ids_of one ≡ ids_of zero ++ a ∷ [] → IfOk result (λ two. ids_of two ≡ ids_of one ++ b ∷ [])
+    → IfOk result (λ two. ids_of two ≡ ids_of zero ++ a ∷ b ∷ [])
+ids_of_two zero one (Ok two) a b first last =
+    last ∙ ap (λ ids. ids ++ b ∷ []) first ∙ append_assoc (ids_of zero) (a ∷ []) (b ∷ [])
+ids_of_two zero one (Err error) a b first last = last

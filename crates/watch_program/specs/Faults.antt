@@ -1,31 +1,48 @@
 -- How a program that watches ends: its exit status, and its line on standard error.
 use Rattle.std.specs.Prelude.{ℕ, List, [], ◌∷◌, ◌++◌, codes, Result, Ok, Err}
-use Rattle.notify_paths.specs.Errors.{ErrorKindValue, MemoryKind}
+use Rattle.notify_paths.specs.Errors.{ErrorKindValue, MemoryKind, PathNotFoundKind}
 use Rattle.watch_program.specs.declared.fault.Fault.{Fault}
-use Rattle.watch_program.specs.declared.fault.Fault.TheVariants.{NotUtf8, NotPattern, Memory, CannotWatch, OutputFailed, NoThread}
+use Rattle.watch_program.specs.declared.fault.Fault.TheVariants.{NotUtf8, NotPattern, Memory, NotThere, NotApart, CannotWatch, OutputFailed, NoThread, Incomplete}
 
 -- the exit status of a program that ends by this fault
 abbrev pub fault_status : Fault → ℕ
 fault_status NotUtf8 = 2
 fault_status NotPattern = 2
 fault_status Memory = 4
+fault_status NotThere = 5
+fault_status NotApart = 5
 fault_status CannotWatch = 5
 fault_status OutputFailed = 6
 fault_status NoThread = 8
+fault_status Incomplete = 1
 
 -- the fault's line, for a program that watches this; there is none if the output failed
 abbrev pub fault_line : List ℕ → List ℕ → Fault → List ℕ
 fault_line program watched NotUtf8 = program ++ codes ": an argument is not UTF-8\n"
 fault_line program watched NotPattern = program ++ codes ": a pattern is not a regular expression\n"
 fault_line program watched Memory = program ++ codes ": out of memory\n"
+fault_line program watched NotThere = program ++ (codes ": cannot watch " ++ (watched ++ codes ": not there\n"))
+fault_line program watched NotApart =
+    program ++ (codes ": " ++ (watched ++ codes " and its copy lie one in the other\n"))
 fault_line program watched CannotWatch = program ++ (codes ": cannot watch " ++ (watched ++ (10 ∷ [])))
 fault_line program watched OutputFailed = []
 fault_line program watched NoThread = program ++ codes ": cannot start a thread\n"
+fault_line program watched Incomplete = program ++ codes ": not all could be done\n"
 
 -- the fault of an error of this kind: want of memory, or else the other one
 abbrev pub fault_of : ErrorKindValue → Fault → Fault
 fault_of MemoryKind other = Memory
 fault_of kind other = other
+
+-- the fault of an error of this kind, if a path can't be watched
+abbrev pub fault_of_watch : ErrorKindValue → Fault
+fault_of_watch MemoryKind = Memory
+fault_of_watch PathNotFoundKind = NotThere
+fault_of_watch kind = CannotWatch
+
+-- the line of a program that watches this from now on
+abbrev pub watching_line : List ℕ → List ℕ → List ℕ
+watching_line program watched = program ++ (codes ": watching " ++ (watched ++ (10 ∷ [])))
 
 -- the exit status of a run that ended so
 abbrev pub end_status : {T : Type 0} → Result T Fault → ℕ

@@ -1,9 +1,11 @@
 //! What a program says on standard error, and how it ends.
-ghost use Rattle.std.specs.Prelude.{◌≡◌, []};
-ghost use Rattle.watch_program.specs.Faults.{end_status};
+ghost use Rattle.std.specs.Prelude.{◌≡◌, [], OnOk};
+ghost use Rattle.std.specs.Io.KnownBytes.{Appends};
+ghost use Rattle.watch_program.specs.Faults.{end_status, watching_line};
 
 use crate::fault::Fault;
 use notify_paths::error::Error;
+use std::io;
 use std::io::Write;
 
 /// Returns the exit status of a run, and writes the line of its fault, if it has one.
@@ -21,6 +23,15 @@ pub fn end<E: Write>(run: Result<(), Fault>, program: &str, watched: &str, err: 
     }
 }
 
+/// Writes that the program watches this from now on: `NAME: watching FOLDER`. Whoever starts the program
+/// waits for this line, since what changes after it is reported.
+pub fn write_watching<E: Write>(watched: &str, program: &str, err: &mut E) -> io::Result<()>
+    ensures line { OnOk result (Appends (E.contents err.old) (E.contents err.new)
+        (watching_line program.now watched.now)) }
+{
+    writeln!(err, "{program}: watching {watched}")
+}
+
 /// Writes a line for each error that the watcher had. It looks again, so no change is lost by one.
 pub fn write_errors<E: Write>(errors: &[Error], program: &str, err: &mut E)
     ensures none { errors.now ≡ [] → E.contents err.new ≡ E.contents err.old }
@@ -30,7 +41,8 @@ pub fn write_errors<E: Write>(errors: &[Error], program: &str, err: &mut E)
     }
 }
 
-/// Writes how many events, errors and batches were lost for want of memory, if any was.
+/// Writes how many events, errors and batches were lost, if any was: an allocation failed, or the clock
+/// could not be read.
 pub fn write_missed<E: Write>(missed: u64, program: &str, err: &mut E)
     ensures none { missed ≡ 0 → E.contents err.new ≡ E.contents err.old }
 {

@@ -1,7 +1,7 @@
 //! Why a program that watches ends.
 ghost use Rattle.std.specs.Prelude.{◌≡◌, OnOk};
 ghost use Rattle.std.specs.Io.KnownBytes.{Appends};
-ghost use Rattle.watch_program.specs.Faults.{fault_status, fault_line, fault_of};
+ghost use Rattle.watch_program.specs.Faults.{fault_status, fault_line, fault_of, fault_of_watch};
 ghost use Rattle.watch_program.specs.declared.fault.Fault.TheVariants.{Memory, OutputFailed};
 
 use notify_paths::error::{Error, ErrorKind};
@@ -19,12 +19,18 @@ pub enum Fault {
     NotPattern,
     /// An allocation failed.
     Memory,
+    /// The folder or file that is to be watched isn't there.
+    NotThere,
+    /// The folder and its copy lie one in the other.
+    NotApart,
     /// The folder or file can't be watched.
     CannotWatch,
     /// The output can't be written, for instance since its reader is gone.
     OutputFailed,
     /// A thread can't be started.
     NoThread,
+    /// Something that was to be done failed, and was said when it did.
+    Incomplete,
 }
 
 impl Fault {
@@ -39,6 +45,17 @@ impl Fault {
         }
     }
 
+    /// Returns the fault of a path that can't be watched.
+    pub fn of_watch<A: Allocator>(error: &Error<A>) -> Fault
+        ensures { result ≡ fault_of_watch error.now.kind }
+    {
+        match error.kind {
+            ErrorKind::Memory => Fault::Memory,
+            ErrorKind::PathNotFound => Fault::NotThere,
+            _ => Fault::CannotWatch,
+        }
+    }
+
     /// Returns the exit status of a program that ends so.
     pub fn status(self) -> u8
         ensures { result ≡ fault_status self }
@@ -46,9 +63,10 @@ impl Fault {
         match self {
             Fault::NotUtf8 | Fault::NotPattern => 2,
             Fault::Memory => 4,
-            Fault::CannotWatch => 5,
+            Fault::NotThere | Fault::NotApart | Fault::CannotWatch => 5,
             Fault::OutputFailed => 6,
             Fault::NoThread => 8,
+            Fault::Incomplete => 1,
         }
     }
 
@@ -63,9 +81,17 @@ impl Fault {
             Fault::NotUtf8 => writeln!(err, "{program}: an argument is not UTF-8"),
             Fault::NotPattern => writeln!(err, "{program}: a pattern is not a regular expression"),
             Fault::Memory => writeln!(err, "{program}: out of memory"),
+            Fault::NotThere => writeln!(err, "{program}: cannot watch {watched}: not there"),
+            Fault::NotApart => {
+                writeln!(
+                    err,
+                    "{program}: {watched} and its copy lie one in the other"
+                )
+            }
             Fault::CannotWatch => writeln!(err, "{program}: cannot watch {watched}"),
             Fault::OutputFailed => Ok(()),
             Fault::NoThread => writeln!(err, "{program}: cannot start a thread"),
+            Fault::Incomplete => writeln!(err, "{program}: not all could be done"),
         }
     }
 }

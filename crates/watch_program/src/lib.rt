@@ -21,11 +21,11 @@ mod pace;
 mod program;
 mod words;
 
-pub use ends::{end, write_errors, write_missed};
+pub use ends::{end, write_errors, write_missed, write_watching};
 pub use fault::Fault;
 pub use field::push_field;
 pub use output::write_now;
-pub use pace::{Pace, pace_of};
+pub use pace::{Pace, milliseconds_of, pace_of};
 pub use program::run_with_words;
 pub use words::{
     command, flag, folder_of, matches_of, number, number_of, option, place_of, words_of,

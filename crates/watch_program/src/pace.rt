@@ -1,7 +1,8 @@
 //! How a program watches.
-ghost use Rattle.std.specs.Prelude.{◌≡◌, ◌*◌, ◌^◌, None, codes};
+ghost use Rattle.std.specs.Prelude.{◌≡◌, ◌*◌, ◌<◌, ◌^◌, ℕ, Some, None, true, false, codes};
 ghost use Rattle.std.specs.Duration.{as_nanos};
 ghost use Rattle.clap.specs.Words.{found_of, one_text};
+ghost use Rattle.watch_program.specs.Words.{Gives, IsLife};
 
 use crate::words::number_of;
 use clap::ArgMatches;
@@ -25,25 +26,64 @@ pub struct Pace {
     pub interval: Duration,
     /// After how long the program ends; `None` stands for never.
     pub life: Option<Duration>,
+    /// Whether what is there already is reported first, as created.
+    pub initial: bool,
 }
 
-/// Returns the pace that the words give by `--timeout`, `--interval` and `--ticks`. What no word gives is
-/// half a second, a quarter of a second, and no end.
+/// Returns the pace that the words give by `--timeout`, `--interval`, `--seconds`, `--ticks`, and
+/// `--initial` if the program has it. What no word gives is half a second, a quarter of a second, no end,
+/// and only what changes.
 pub fn pace_of(matches: &ArgMatches<'_>) -> Pace
     ensures timeout { one_text (found_of matches.now) (codes "timeout") ≡ None
         → as_nanos result.timeout ≡ 500 * 10 ^ 6 }
+    ensures timeout_given { (n : ℕ) → Gives matches.now (codes "timeout") n
+        → as_nanos result.timeout ≡ n * 10 ^ 6 }
     ensures interval { one_text (found_of matches.now) (codes "interval") ≡ None
         → as_nanos result.interval ≡ 250 * 10 ^ 6 }
-    ensures endless { one_text (found_of matches.now) (codes "ticks") ≡ None
-        → result.life ≡ None }
+    ensures interval_given { (n : ℕ) → Gives matches.now (codes "interval") n
+        → as_nanos result.interval ≡ n * 10 ^ 6 }
+    ensures endless { one_text (found_of matches.now) (codes "seconds") ≡ None
+        → one_text (found_of matches.now) (codes "ticks") ≡ None → result.life ≡ None }
+    ensures seconds { (n : ℕ) → Gives matches.now (codes "seconds") n
+        → IsLife result.life (n * 10 ^ 9) }
+    ensures ticks { one_text (found_of matches.now) (codes "seconds") ≡ None → (n : ℕ)
+        → Gives matches.now (codes "ticks") n → n * 250 < 2 ^ 64
+        → IsLife result.life (n * 250 * 10 ^ 6) }
+    ensures changes { one_text (found_of matches.now) (codes "initial") ≡ None
+        → result.initial ≡ false }
+    ensures initial { one_text (found_of matches.now) (codes "initial") ≡ Some (codes "true")
+        → result.initial ≡ true }
 {
-    let life = match matches.get_one::<u64>("ticks") {
-        None => None,
-        Some(ticks) => Some(Duration::from_millis(ticks.saturating_mul(TICK))),
-    };
     Pace {
-        timeout: Duration::from_millis(number_of(matches, "timeout", TIMEOUT)),
-        interval: Duration::from_millis(number_of(matches, "interval", INTERVAL)),
-        life,
+        timeout: milliseconds_of(matches, "timeout", TIMEOUT),
+        interval: milliseconds_of(matches, "interval", INTERVAL),
+        life: life_of(matches),
+        initial: matches.get_flag("initial"),
     }
+}
+
+/// Returns so many milliseconds as the option has, or this many if no word gives it.
+pub fn milliseconds_of(matches: &ArgMatches<'_>, name: &str, other: u64) -> Duration
+    ensures none { one_text (found_of matches.now) name.now ≡ None
+        → as_nanos result ≡ other * 10 ^ 6 }
+    ensures number { (n : ℕ) → Gives matches.now name.now n → as_nanos result ≡ n * 10 ^ 6 }
+{
+    Duration::from_millis(number_of(matches, name, other))
+}
+
+/// Returns the life that the words give, if one does.
+fn life_of(matches: &ArgMatches<'_>) -> Option<Duration>
+    ensures endless { one_text (found_of matches.now) (codes "seconds") ≡ None
+        → one_text (found_of matches.now) (codes "ticks") ≡ None → result ≡ None }
+    ensures seconds { (n : ℕ) → Gives matches.now (codes "seconds") n
+        → IsLife result (n * 10 ^ 9) }
+    ensures ticks { one_text (found_of matches.now) (codes "seconds") ≡ None → (n : ℕ)
+        → Gives matches.now (codes "ticks") n → n * 250 < 2 ^ 64
+        → IsLife result (n * 250 * 10 ^ 6) }
+{
+    if let Some(seconds) = matches.get_one::<u64>("seconds") {
+        return Some(Duration::from_secs(seconds));
+    }
+    let ticks = matches.get_one::<u64>("ticks")?;
+    Some(Duration::from_millis(ticks.saturating_mul(TICK)))
 }

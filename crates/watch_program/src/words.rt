@@ -1,9 +1,9 @@
 //! The words of a command line.
-ghost use Rattle.std.specs.Prelude.{◌≡◌, ◌⊎◌, [], ◌∷◌, ◌++◌, false, map, codes, None, Some, unwrap_or, IfOk, IfErr};
+ghost use Rattle.std.specs.Prelude.{◌≡◌, ◌⊎◌, ℕ, [], ◌∷◌, ◌++◌, false, map, codes, None, Some, unwrap_or, IfOk, IfErr};
 ghost use Rattle.std.specs.String.{string_bytes};
 ghost use Rattle.clap.specs.Words.{HasMatchesOf, app_of, first_value, found_of, one_text};
 ghost use Rattle.notify_paths.specs.PathText.{parts_of};
-ghost use Rattle.watch_program.specs.Words.{ids_of};
+ghost use Rattle.watch_program.specs.Words.{Gives, ids_of};
 ghost use Rattle.watch_program.specs.declared.fault.Fault.TheVariants.{NotUtf8, Memory};
 
 use crate::fault::Fault;
@@ -14,8 +14,8 @@ use std::alloc::{AllocError, Global};
 use std::rt::Env;
 use std::{env, io};
 
-/// Returns a command line with one place, as `DIR`, and the options `--timeout`, `--interval` and
-/// `--ticks`.
+/// Returns a command line with one place, as `DIR`, and the options `--timeout`, `--interval`,
+/// `--seconds` and `--ticks`.
 pub fn command<'a>(
     alloc: Global,
     name: &'a str,
@@ -23,20 +23,35 @@ pub fn command<'a>(
     place: &'a str,
 ) -> Result<Command<'a>, AllocError>
     ensures words { IfOk result (λ c. ids_of c ≡ codes "place" ∷ codes "timeout"
-        ∷ codes "interval" ∷ codes "ticks" ∷ []) }
+        ∷ codes "interval" ∷ codes "seconds" ∷ codes "ticks" ∷ []) }
 {
     let place = Arg::new(alloc, "place").value_name(place).required(true);
+    let line = with(without_words(alloc, name, about), place)?;
+    with_life(alloc, with_pace(alloc, line)?)
+}
+
+/// Adds the options that say how often the program looks, and how old an event is when it is emitted.
+fn with_pace<'a>(alloc: Global, line: Command<'a>) -> Result<Command<'a>, AllocError>
+    ensures words { IfOk result (λ c. ids_of c ≡ ids_of line.entry ++ codes "timeout"
+        ∷ codes "interval" ∷ []) }
+{
     let timeout = number(alloc, "timeout", "MS").help(
         "emit events that are this old [default: 500]",
     );
     let interval = number(alloc, "interval", "MS").help(
         "look at the folder so often [default: 250]",
     );
+    with(with(line, timeout)?, interval)
+}
+
+/// Adds the options that say when the program ends.
+fn with_life<'a>(alloc: Global, line: Command<'a>) -> Result<Command<'a>, AllocError>
+    ensures words { IfOk result (λ c. ids_of c ≡ ids_of line.entry ++ codes "seconds"
+        ∷ codes "ticks" ∷ []) }
+{
+    let seconds = number(alloc, "seconds", "N").help("end after so many seconds");
     let ticks = number(alloc, "ticks", "N").help("end after so many quarters of a second");
-    let line = with(without_words(alloc, name, about), place)?;
-    let line = with(line, timeout)?;
-    let line = with(line, interval)?;
-    with(line, ticks)
+    with(with(line, seconds)?, ticks)
 }
 
 /// A command line without a word.
@@ -89,6 +104,7 @@ pub fn flag<'a>(alloc: Global, name: &'a str) -> Arg<'a>
 /// Returns the number that the option has, or this one if no word gives it.
 pub fn number_of(matches: &ArgMatches<'_>, name: &str, other: u64) -> u64
     ensures none { one_text (found_of matches.now) name.now ≡ None → result ≡ other }
+    ensures number { (n : ℕ) → Gives matches.now name.now n → result ≡ n }
 {
     matches.get_one::<u64>(name).unwrap_or(other)
 }
