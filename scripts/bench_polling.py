@@ -3,19 +3,21 @@
 
 usage: scripts/bench_polling.py [FILES..]
 
-FILES are numbers of files, 1000 10000 100000 if none is given; a hundred stand in a folder. The program
-`mirror` has to be built (./mirror --build). It polls once a second, and nothing changes. A round's time is
-that of the processor: a run of forty seconds less one of ten, by the rounds between, so that the first
-listing isn't in it. The plain walk, scripts/plain_walk.rs, is compiled by rustc.
+FILES are numbers of files, 1000 10000 100000 if none is given; a hundred stand in a folder, and nothing
+changes. The program `bench` has to be built (rt ci bench). It times each round itself, with modified times and
+without, and the plain walk, scripts/plain_walk.rs, compiled by rustc, does too; they run in turns, and each
+figure is the least of all its rounds. The peak memory is that of the rounds with times, as Linux tells it.
 """
 import os
 import subprocess
 import sys
 import tempfile
+import time
 
 TOP = os.path.dirname(os.path.dirname(os.path.abspath(__file__)))
-MIRROR = os.path.join(TOP, "crates", "mirror", "out", "mirror")
-TICKS = 4  # in a second
+BENCH = os.path.join(TOP, "crates", "bench", "out", "bench")
+ROUNDS = "10"
+TURNS = 5
 
 
 def make_files(folder, count):
@@ -27,22 +29,39 @@ def make_files(folder, count):
             file.write("text\n")
 
 
-def watch(folder, seconds):
-    """Returns the seconds of the processor, and the peak memory in MB, of so long a watch."""
-    words = [MIRROR, "--watch", folder, str(seconds * TICKS)]
+def peak_of(number):
+    """Returns the peak memory of a process so far in MB, or 0 if it has ended."""
+    try:
+        with open(f"/proc/{number}/status") as status:
+            lines = [line.split() for line in status if line.startswith("VmHWM:")]
+        return int(lines[0][1]) / 1024 if lines else 0
+    except OSError:
+        return 0
+
+
+def run(*words):
+    """Returns the words that the command prints, and its peak memory in MB."""
     process = subprocess.Popen(words, stdout=subprocess.PIPE, text=True)
-    output = process.stdout.read()
-    _, status, usage = os.wait4(process.pid, 0)
-    if status != 0 or output != "missed 0\n":
-        sys.exit(f"{' '.join(words)} printed:\n{output}")
-    return usage.ru_utime + usage.ru_stime, usage.ru_maxrss / 1024
+    peak = 0
+    while process.poll() is None:
+        peak = max(peak, peak_of(process.pid))
+        time.sleep(0.002)
+    if process.returncode != 0:
+        sys.exit(f"{' '.join(words)} ended with {process.returncode}")
+    return process.stdout.read().split(), peak
 
 
-def round_of(folder):
-    """A round and the second after it follow each other, so the processor's share says how long it is."""
-    (short, _), (long, memory) = watch(folder, 10), watch(folder, 40)
-    share = (long - short) / 30
-    return share / (1 - share), memory
+def times_of(walk, folder):
+    """Returns the least seconds of a round, of one without times and of a walk, and the peak memory."""
+    least, memory = [float("inf")] * 3, 0
+    for _ in range(TURNS):
+        timed, peak = run(BENCH, "rounds", ROUNDS, folder)
+        untimed, _ = run(BENCH, "rounds-without-times", ROUNDS, folder)
+        walked, _ = run(walk, folder, ROUNDS)
+        took = [int(timed[0]), int(untimed[0]), int(walked[1])]
+        least = list(map(min, least, took))
+        memory = max(memory, peak)
+    return least, memory
 
 
 def main(*counts):
@@ -50,15 +69,15 @@ def main(*counts):
         walk = os.path.join(room, "plain_walk")
         source = os.path.join(TOP, "scripts", "plain_walk.rs")
         subprocess.run(["rustc", "-O", "-o", walk, source], check=True)
-        print("| files | a round | a plain walk | peak memory |\n|---:|---:|---:|---:|")
+        print("| files | a round | without modified times | a plain walk | peak memory |")
+        print("|---:|---:|---:|---:|---:|")
         for count in map(int, counts or ("1000", "10000", "100000")):
             folder = os.path.join(room, f"files{count}")
             os.mkdir(folder)
             make_files(folder, count)
-            walked = subprocess.run([walk, folder, "10"], check=True, capture_output=True, text=True)
-            took, memory = round_of(folder)
-            plain = int(walked.stdout.split()[1]) / 1e6
-            print(f"| {count:,} | {took * 1000:,.1f} ms | {plain:,.1f} ms | {memory:,.0f} MB |", flush=True)
+            least, memory = times_of(walk, folder)
+            figures = " | ".join(f"{took / 1e6:,.1f} ms" for took in least)
+            print(f"| {count:,} | {figures} | {memory:,.1f} MB |", flush=True)
 
 
 if __name__ == "__main__":

@@ -1,17 +1,22 @@
-//! The program `bench`: it times the debouncer on workloads of many events. `bench [N KIND]`; without
-//! words it runs every kind of workload on a few events.
+//! The program `bench`: it times the debouncer on workloads of many events, and the watcher that polls on a
+//! folder. `bench [N KIND]`; without words it runs every kind of workload on a few events.
 //!
 //! For each workload it prints `KIND N total_ns per_op_ns` on standard error, and on standard output a
 //! line `KIND N CHECKSUM` with a sum over what was emitted, which is the same in each run.
+//!
+//! `bench rounds|rounds-without-times N FOLDER` makes N rounds over the folder, and prints the nanoseconds of
+//! the fastest.
 #![tactic(auto)]
 
 mod checksum;
 mod events;
 mod kind;
+mod rounds;
 mod workloads;
 
 use anyhow::{Result, bail};
 use kind::{KINDS, Kind};
+use rounds::fastest_round;
 use std::env;
 use std::process::ExitCode;
 use workloads::run_workload;
@@ -30,6 +35,16 @@ fn run_kind(rt: &HostRuntime, kind: Kind, n: u64) -> Result<()> {
     Ok(())
 }
 
+fn run_rounds(rt: &HostRuntime, n: &str, folder: &str, has_times: bool) -> Result<()> {
+    match n.parse::<u64>() {
+        Ok(n) if 0 < n && n <= MOST => {
+            println!(rt; "{}", fastest_round(rt, folder, n, has_times)?)?;
+            Ok(())
+        }
+        _ => bail!("a number of rounds is from 1 to {MOST}"),
+    }
+}
+
 fn run_asked(rt: &HostRuntime, words: &[String]) -> Result<()> {
     match words {
         [] => {
@@ -38,6 +53,11 @@ fn run_asked(rt: &HostRuntime, words: &[String]) -> Result<()> {
             }
             Ok(())
         }
+        [form, n, folder] => match form.as_str() {
+            "rounds" => run_rounds(rt, n.as_str(), folder.as_str(), true),
+            "rounds-without-times" => run_rounds(rt, n.as_str(), folder.as_str(), false),
+            _ => bail!("usage: bench rounds|rounds-without-times N FOLDER"),
+        },
         [n, kind] => match (n.parse::<u64>(), Kind::from_word(kind.as_str())) {
             (Ok(n), Some(kind)) if 0 < n && n <= MOST => run_kind(rt, kind, n),
             _ => bail!("usage: bench [N KIND], with N from 1 to {MOST}"),
