@@ -417,7 +417,9 @@ impl<
     R: Threads + Wait + Clock + Files + Copy + Send + Sync + 'static,
     A: Allocator + Copy + Send + Sync + 'static,
 > Debouncer<T, C, R, A> {
-    /// Watches a path as `watch` does, and returns what stands there: the batches tell how this changes.
+    /// Watches a path as `watch` does, and returns what stands there. The batches tell how this changes, if
+    /// nothing at, below or above the path was watched since the debouncer was started; for roots that
+    /// overlap, or come and go, a watcher with `Config::with_initial_events` reports from nothing on.
     ///
     /// A batch can be emitted before this returns. A program that keeps a set of paths puts these in
     /// first, and then plays the batches, as those that a `SendTo` has sent.

@@ -144,8 +144,8 @@ impl<
     R: DebouncerRuntime,
     A: DebouncerAllocator,
 > Reports<T, R, A> {
-    /// Watches a path as `watch` does, and returns what stands there: what is reported from then on is
-    /// how this changes. It is as `Debouncer::watch_listed`.
+    /// Watches a path as `watch` does, and returns what stands there. It is as `Debouncer::watch_listed`,
+    /// which says when what is reported from then on is how this changes.
     pub fn watch_listed(
         &mut self,
         path: &PathBuf<A>,
