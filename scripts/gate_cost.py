@@ -1,7 +1,7 @@
 #!/usr/bin/env python3
 """Runs `rt ci --anew` and prints a table of what each crate cost.
 
-usage: scripts/gate_cost.py [NAME..] >TABLE
+usage: scripts/gate_cost.py [NAME..] >TABLE, at the top of the repository
 
 NAMES are crates, which are proved with those below them; with none it is the whole of `rt ci`. What rt prints
 goes to standard error, and the status is rt's. Seconds are those of processors, user and system, of each run of
@@ -49,8 +49,12 @@ def task_of(number):
         return runs[0][1], "runs"
     if os.path.basename(words[0]) != "rattle" or "--crate-name" not in words:
         return None
-    kind = "edits" if words[1] == "check" else "tests" if "--test" in words else "proof"
-    return words[words.index("--crate-name") + 1], kind
+    crate = words[words.index("--crate-name") + 1]
+    if "--test" in words:
+        return crate, "tests"
+    # A program is checked too before it is built; a library only for its edits.
+    has_edits = os.path.isdir(os.path.join("crates", crate, "must-fail"))
+    return crate, "edits" if words[1] == "check" and has_edits else "proof"
 
 
 class Costs:
