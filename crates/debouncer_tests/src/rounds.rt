@@ -182,12 +182,54 @@ hide /
 round nothing",
 ];
 
+/// The same with `look`, a path, and what a look at it reports.
+const LOOKS: [&str; 3] = [
+    // A look sees what stands at the path and below it, and nothing beside.
+    "now / folder, /d folder, /d/e folder, /d/f file 1
+show /d
+round Create(Folder) /, Create(Folder) /d, Create(Folder) /d/e, Create(File) /d/f
+now / folder, /d folder, /d/e folder, /d/e/g file 2, /d/f file 9
+look /d/e: Create(File) /d/e/g
+look /d/e: nothing
+look /d/f: Modify(Data(Any)) /d/f
+round nothing",
+    // Below a folder that isn't known yet it begins at that folder.
+    "now / folder, /d folder
+show /d
+round Create(Folder) /, Create(Folder) /d
+now / folder, /d folder, /d/e folder, /d/e/g file 2, /d/f file 9
+look /d/e/g: Create(Folder) /d/e, Create(File) /d/e/g
+round Create(File) /d/f",
+    // What went is reported as it is named, and what no root shows isn't.
+    "now / folder, /d folder, /d/e folder, /d/e/g file 2, /x file 3
+show /d
+round Create(Folder) /, Create(Folder) /d, Create(Folder) /d/e, Create(File) /d/e/g
+now / folder, /d folder
+look /x: nothing
+look /d/e/g: Remove(File) /d/e/g
+round Remove(Folder) /d/e",
+];
+
+/// Checks what was reported.
+fn check_notes(rt: &(impl Abort + AllocGlobal), notes: &mut Notes, text: &str, wanted: &str) {
+    let wanted = if wanted == "nothing" { "" } else { wanted };
+    assert_eq!(rt; notes.take().as_str(), wanted, "{text}");
+}
+
 /// Makes a round, and checks what it reports.
 fn check_round(rt: &(impl Abort + AllocGlobal), polled: &mut Polled, text: &str, wanted: &str) {
     let mut notes = Notes::new(rt);
     polled.round(&mut tree(rt, rt.alloc(), text), &mut notes);
-    let wanted = if wanted == "nothing" { "" } else { wanted };
-    assert_eq!(rt; notes.take().as_str(), wanted, "{text}");
+    check_notes(rt, &mut notes, text, wanted);
+}
+
+/// Looks at a path, and checks what this reports.
+fn check_look(rt: &(impl Abort + AllocGlobal), polled: &mut Polled, text: &str, line: &str) {
+    let (place, wanted) = line.split_once(": ").expect(rt, line);
+    let mut notes = Notes::new(rt);
+    let place = path(rt, rt.alloc(), place);
+    polled.look_at(&mut tree(rt, rt.alloc(), text), &mut notes, &place);
+    check_notes(rt, &mut notes, text, wanted);
 }
 
 /// The mode that a word of a scene asks for.
@@ -208,6 +250,9 @@ fn carry_out(
 ) {
     if word == "round" {
         return check_round(rt, polled, text, rest);
+    }
+    if word == "look" {
+        return check_look(rt, polled, text, rest);
     }
     let place = path(rt, rt.alloc(), rest);
     let mut folders = tree(rt, rt.alloc(), text);
@@ -251,4 +296,9 @@ fn roots_overlap_and_change_their_modes(rt: HostRuntime) {
 #[test]
 fn roots_are_reported_from_nothing(rt: HostRuntime) {
     play(&rt, &STORIES_FROM_NOTHING);
+}
+
+#[test]
+fn looks_see_what_is_named(rt: HostRuntime) {
+    play(&rt, &LOOKS);
 }

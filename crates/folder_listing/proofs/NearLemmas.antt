@@ -1,5 +1,5 @@
 -- What a root shows is closed under folders; and the components of a path past those of its root.
-use Rattle.std.proofs.Common.{◌≡◌, ℕ, zero, suc, Bool, true, false, ◌&&◌, ◌||◌, List, [], ◌∷◌, ◌++◌, map, drop, length, refl, ap, sym, ◌∙◌, Some, None, true≢false}
+use Rattle.std.proofs.Common.{◌≡◌, ℕ, zero, suc, Bool, true, false, not, ◌&&◌, ◌||◌, List, [], ◌∷◌, ◌++◌, map, filter, drop, length, refl, ap, sym, ◌∙◌, Some, None, true≢false}
 use Rattle.std.specs.Prelude.{Option}
 use Rattle.std.specs.Path.{IsNextComponent, component_bytes}
 use Rattle.std.specs.declared.path.components.Component.{Component}
@@ -14,7 +14,7 @@ use Rattle.debounce_model.specs.Play.{has_path}
 use Rattle.debounce_model.specs.Honest.{has_folders, folders_of}
 use Rattle.debounce_model.proofs.Entries.{each-filter, sorted-filter}
 use Rattle.folder_listing.specs.Listing.{ListingValue, is_nonempty, IsListing}
-use Rattle.folder_listing.specs.Near.{is_name_part, are_names, depth_of, is_near, is_seen, seen}
+use Rattle.folder_listing.specs.Near.{is_name_part, are_names, depth_of, is_near, is_seen, seen, outside}
 use Rattle.folder_listing.proofs.PrefixLemmas.{prefix-trans}
 use Rattle.folder_listing.proofs.BehindLemmas.{prefix-append}
 use Rattle.folder_listing.proofs.WalkLemmas.{keys_of-filter, has-filter}
@@ -41,7 +41,7 @@ past_next rs more ps rest r (Some c) h k =
     ∙ ap (λ xs. drop (length xs) (map part_of (component_bytes c ∷ rest))) h)
 
 -- a test that each path above this one passes holds of its folders
-all_above : (t : PathValue → Bool) (q : PathValue) → ((f : PathValue) (x : PartValue) (s : PathValue) →
+pub all_above : (t : PathValue → Bool) (q : PathValue) → ((f : PathValue) (x : PartValue) (s : PathValue) →
     is_nonempty f ≡ true → q ≡ f ++ x ∷ s → t f ≡ true) → list_all t (folders_of q) ≡ true
 all_above t [] h = refl
 all_above t (x ∷ []) h = refl
@@ -56,7 +56,7 @@ all_above t (x ∷ y ∷ r) h =
     mapped (f ∷ fs) = ap (λ b. t (x ∷ f) && b) (mapped fs)
 
 -- .. and each of them has this test's path above it
-above_passes : (t : PathValue → Bool) (f : PathValue) (x : PartValue) (s : PathValue) → is_nonempty f ≡ true →
+pub above_passes : (t : PathValue → Bool) (f : PathValue) (x : PartValue) (s : PathValue) → is_nonempty f ≡ true →
     list_all t (folders_of (f ++ x ∷ s)) ≡ true → t f ≡ true
 above_passes t [] x s n h = absurd (true≢false (sym n))
 above_passes t (y ∷ []) x s n h =
@@ -124,42 +124,63 @@ seen_above (root ∷ roots) f x s h =
     by true false e h more = or_right (is_near root.0 root.1 f) (is_seen roots f) (more h)
     by false b e h more = more h
 
--- of a listing, what the roots show is one
-pub seen_listing : (es : ListingValue) (roots : List (PathValue × RecursiveMode)) → IsListing es →
-    IsListing (seen es roots)
-seen_listing es roots law = record {
-  ordered = sorted-filter path_cmp_total (λ e. is_seen roots e.0) es law.ordered;
+-- of a listing, what passes a test is one, if the test is passed above each path that passes it
+pub passing_listing : (t : PathValue → Bool) → ((f : PathValue) (x : PartValue) (s : PathValue) →
+    t (f ++ x ∷ s) ≡ true → t f ≡ true) → (es : ListingValue) → IsListing es →
+    IsListing (filter (λ e. t e.0) es)
+passing_listing t above es law = record {
+  ordered = sorted-filter path_cmp_total (λ e. t e.0) es law.ordered;
   nonempty = each is_nonempty law.nonempty;
-  closed = all-passes (has_folders (keys_of (seen es roots))) (seen es roots)
+  closed = all-passes (has_folders (keys_of passing)) passing
       (kept es (each-passes (has_folders (keys_of es)) es law.closed));
 }
   where
-    each : (t : PathValue → Bool) → list_all t (keys_of es) ≡ true → list_all t (keys_of (seen es roots)) ≡ true
-    each t h = all-passes t (seen es roots) (left es (each-passes t es h))
-      where
-        left : (fs : ListingValue) → AllByRecursion (λ e. t e.0 ≡ true) fs →
-            AllByRecursion (λ e. t e.0 ≡ true) (seen fs roots)
-        left fs a = each-filter path_cmp_total (λ e. t e.0 ≡ true) (λ e. is_seen roots e.0) fs a
+    passing : ListingValue
+    passing = filter (λ e. t e.0) es
 
-    -- a path that is shown has its folders among what is shown
-    folders : (q : PathValue) → is_seen roots q ≡ true → has_folders (keys_of es) q ≡ true →
-        has_folders (keys_of (seen es roots)) q ≡ true
+    each : (u : PathValue → Bool) → list_all u (keys_of es) ≡ true → list_all u (keys_of passing) ≡ true
+    each u h = all-passes u passing (left es (each-passes u es h))
+      where
+        left : (fs : ListingValue) → AllByRecursion (λ e. u e.0 ≡ true) fs →
+            AllByRecursion (λ e. u e.0 ≡ true) (filter (λ e. t e.0) fs)
+        left fs a = each-filter path_cmp_total (λ e. u e.0 ≡ true) (λ e. t e.0) fs a
+
+    -- a path that passes has its folders among what passes
+    folders : (q : PathValue) → t q ≡ true → has_folders (keys_of es) q ≡ true →
+        has_folders (keys_of passing) q ≡ true
     folders q s h =
-        all_above (has_path (keys_of (seen es roots))) q
+        all_above (has_path (keys_of passing)) q
         (λ f x r n e.
-        let near : is_seen roots f ≡ true = seen_above roots f x r (ap (is_seen roots) (sym e) ∙ s) in
+        let near : t f ≡ true = above f x r (ap t (sym e) ∙ s) in
         let there : has_path (keys_of es) f ≡ true =
         above_passes (has_path (keys_of es)) f x r n (ap (has_folders (keys_of es)) (sym e) ∙ h) in
-        ap (λ ks. has_path ks f) (keys_of-filter (is_seen roots) es)
-        ∙ (has-filter (is_seen roots) f (keys_of es) ∙ rw (near, there) refl))
+        ap (λ ks. has_path ks f) (keys_of-filter t es)
+        ∙ (has-filter t f (keys_of es) ∙ rw (near, there) refl))
 
     kept : (fs : ListingValue) → AllByRecursion (λ e. has_folders (keys_of es) e.0 ≡ true) fs →
-        AllByRecursion (λ e. has_folders (keys_of (seen es roots)) e.0 ≡ true) (seen fs roots)
+        AllByRecursion (λ e. has_folders (keys_of passing) e.0 ≡ true) (filter (λ e. t e.0) fs)
     kept [] a = tt
-    kept (e ∷ fs) a = by (is_seen roots e.0) refl (kept fs a.1)
+    kept (e ∷ fs) a = by (t e.0) refl (kept fs a.1)
       where
-        by : (b : Bool) → is_seen roots e.0 ≡ b →
-            AllByRecursion (λ e. has_folders (keys_of (seen es roots)) e.0 ≡ true) (seen fs roots) →
-            AllByRecursion (λ e. has_folders (keys_of (seen es roots)) e.0 ≡ true) (seen (e ∷ fs) roots)
+        by : (b : Bool) → t e.0 ≡ b →
+            AllByRecursion (λ e. has_folders (keys_of passing) e.0 ≡ true) (filter (λ e. t e.0) fs) →
+            AllByRecursion (λ e. has_folders (keys_of passing) e.0 ≡ true) (filter (λ e. t e.0) (e ∷ fs))
         by true s more = rw s (folders e.0 s a.0, more)
         by false s more = rw s more
+
+-- of a listing, what the roots show is one
+pub seen_listing : (es : ListingValue) (roots : List (PathValue × RecursiveMode)) → IsListing es →
+    IsListing (seen es roots)
+seen_listing es roots law = passing_listing (is_seen roots) (seen_above roots) es law
+
+-- .. and what lies outside a path
+pub outside_listing : (es : ListingValue) (path : PathValue) → IsListing es → IsListing (outside es path)
+outside_listing es path law = passing_listing (λ q. not (is_prefix path q)) above es law
+  where
+    above : (f : PathValue) (x : PartValue) (s : PathValue) → not (is_prefix path (f ++ x ∷ s)) ≡ true →
+        not (is_prefix path f) ≡ true
+    above f x s h = by (is_prefix path f) refl
+      where
+        by : (b : Bool) → is_prefix path f ≡ b → not b ≡ true
+        by true e = sym (ap not (prefix-trans path f (f ++ x ∷ s) e (prefix-append f (x ∷ s)))) ∙ h
+        by false e = refl

@@ -1,6 +1,6 @@
 -- Which paths a watched root shows, as far as a path tells: the root, what lies above it, and what lies below it, as
 -- deep as its mode says.
-use Rattle.std.specs.Prelude.{ℕ, zero, suc, Bool, true, false, ◌&&◌, ◌||◌, List, [], ◌∷◌, length, drop, filter}
+use Rattle.std.specs.Prelude.{ℕ, zero, suc, Bool, true, false, not, ◌&&◌, ◌||◌, List, [], ◌∷◌, length, drop, filter, Option, Some, None, if◌then◌else◌}
 use Rattle.std.specs.List.{list_any}
 use Rattle.notify_paths.specs.Path.{PathValue, PartValue, RootPart, CurPart, ParentPart, NamePart, is_prefix}
 use Rattle.notify_paths.specs.PathText.{is_proper_name}
@@ -38,3 +38,13 @@ is_seen roots path = list_any (λ root. is_nonempty root.0 && is_near root.0 roo
 -- the entries that these roots show, as far as the paths tell
 abbrev pub seen : ListingValue → List (PathValue × RecursiveMode) → ListingValue
 seen listing roots = filter (λ entry. is_seen roots entry.0) listing
+
+-- how many parts below a root are looked at behind these, if these are looked at
+abbrev pub levels_left : ℕ → List PartValue → Option ℕ
+levels_left depth [] = Some depth
+levels_left zero (part ∷ parts) = None
+levels_left (suc depth) (part ∷ parts) = if is_name_part part then levels_left depth parts else None
+
+-- the entries that don't lie at or below the path
+abbrev pub outside : ListingValue → PathValue → ListingValue
+outside listing path = filter (λ entry. not (is_prefix path entry.0)) listing

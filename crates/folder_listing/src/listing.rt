@@ -8,7 +8,7 @@ ghost use Rattle.notify_paths.specs.Path.{PathValue, path_cmp};
 ghost use Rattle.debounce_model.specs.Honest.{has_folders};
 ghost use Rattle.folder_listing.specs.Listing.{IsListing, entry_at, has_entry, is_nonempty, listing_of, put_all, HasLast};
 ghost use Rattle.folder_listing.specs.MergedListings.{IsMerged, put_over};
-ghost use Rattle.folder_listing.specs.Near.{seen};
+ghost use Rattle.folder_listing.specs.Near.{outside, seen};
 ghost use Rattle.folder_listing.specs.Parents.{has_parent, have_parents};
 
 use crate::entry::{EntryKind, Found};
@@ -141,6 +141,14 @@ impl<A: Allocator> Listing<A> {
         ensures { self.new ≡ seen self.old roots.now }
     {
         self.entries.retain(|path, _found| is_seen(roots, path));
+    }
+
+    /// Drops what stands at and below the path.
+    pub fn drop_at(&mut self, path: &PathBuf<A>)
+        ensures { self.new ≡ outside self.old path.now }
+    {
+        self.entries
+            .retain(|other, _found| !other.starts_with(path));
     }
 }
 

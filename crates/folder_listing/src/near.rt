@@ -4,7 +4,7 @@ ghost use Rattle.std.specs.Path.{components_remaining, IsWellFormedComponent};
 ghost use Rattle.notify_paths.specs.PathText.{part_of};
 ghost use Rattle.notify_paths.specs.PathView.{component_part};
 ghost use Rattle.folder_listing.specs.Listing.{is_nonempty};
-ghost use Rattle.folder_listing.specs.Near.{are_names, depth_of, is_name_part, is_near, is_seen};
+ghost use Rattle.folder_listing.specs.Near.{are_names, depth_of, is_name_part, is_near, is_seen, levels_left};
 
 use notify_paths::path::PathBuf;
 use notify_types::event::RecursiveMode;
@@ -67,6 +67,32 @@ fn are_names(components: Components<'_>, depth: u32) -> bool
         left -= 1;
     }
     true
+}
+
+/// Returns how many levels below the path are looked at, if the path, which lies at or below the root,
+/// is looked at: by names alone, and no deeper than the mode says.
+pub fn levels_left<A: Allocator>(
+    root: &PathBuf<A>,
+    mode: RecursiveMode,
+    path: &PathBuf<A>,
+) -> Option<u32>
+    ensures { result ≡ levels_left (depth_of mode) (drop (length root.now) path.now) }
+{
+    levels_past(components_past(root, path), depth_of(mode))
+}
+
+/// How many of the levels are left behind these components, if each is a name.
+fn levels_past(components: Components<'_>, depth: u32) -> Option<u32>
+    ensures { result ≡ levels_left depth (map part_of (components_remaining components.entry)) }
+{
+    let mut left = depth;
+    for component in components {
+        if left == 0 || !is_name(component) {
+            return None;
+        }
+        left -= 1;
+    }
+    Some(left)
 }
 
 /// Whether the component is a name.

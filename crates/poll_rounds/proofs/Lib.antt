@@ -4,3 +4,4 @@ pub mod ListLemmas
 pub mod RootLemmas
 pub mod RoundLemmas
 pub mod FirstLemmas
+pub mod PartLemmas

@@ -123,7 +123,7 @@ no-folder_behind p q h = has-folder p q ∙ (ap (λ b. is_nonempty q && (is_pref
     ∙ (ap (λ b. is_nonempty q && b) (and_false (is_prefix q p)) ∙ and_false (is_nonempty q)))
 
 -- what doesn't lie at or below a path is a prefix of it, or of nothing behind it
-prefix-shorter : (p q r : PathValue) → is_prefix p q ≡ false → is_prefix q (p ++ r) ≡ is_prefix q p
+pub prefix-shorter : (p q r : PathValue) → is_prefix p q ≡ false → is_prefix q (p ++ r) ≡ is_prefix q p
 prefix-shorter [] [] r h = absurd (true≢false h)
 prefix-shorter [] (y ∷ q) r h = absurd (true≢false h)
 prefix-shorter (x ∷ p) [] r h = refl
@@ -146,6 +146,21 @@ nonempty-append (x ∷ p) r h = refl
 names-none : (d : ℕ) → are_names d [] ≡ true
 names-none zero = refl
 names-none (suc d) = refl
+
+-- what is near a root behind it are names, as deep as the mode says
+pub near_behind : (mode : RecursiveMode) (root r : PathValue) → is_near root mode (root ++ r)
+    ≡ are_names (depth_of mode) r
+near_behind mode root [] = ap (λ z. is_prefix z root
+    || (is_prefix root (root ++ []) && are_names (depth_of mode) (drop (length root) (root ++ []))))
+    (append-nil root)
+    ∙ (ap (λ b. b
+    || (is_prefix root (root ++ []) && are_names (depth_of mode) (drop (length root) (root ++ []))))
+    (prefix_itself root) ∙ sym (names-none (depth_of mode)))
+near_behind mode root (x ∷ r) =
+    ap (λ b. b || (is_prefix root (root ++ x ∷ r)
+    && are_names (depth_of mode) (drop (length root) (root ++ x ∷ r)))) (longer_no_prefix root x r)
+    ∙ (ap (λ b. b && are_names (depth_of mode) (drop (length root) (root ++ x ∷ r)))
+    (prefix-append root (x ∷ r)) ∙ ap (are_names (depth_of mode)) (drop-append root (x ∷ r)))
 
 module _ (tree : ListingValue) (bare : has_entry tree [] ≡ false) (t : PathValue →
     Bool) (there : (f : PathValue) → t f ≡ true → has_entry tree f ≡ true) where
@@ -180,7 +195,7 @@ module _ (tree : ListingValue) (bare : has_entry tree [] ≡ false) (t : PathVal
 
 module _ (tree : ListingValue) where
   -- something is a folder
-  abbrev is_folder_at : PathValue → Bool
+  abbrev pub is_folder_at : PathValue → Bool
   is_folder_at f = is_of_kind Folder (entry_at tree f)
 
   shuffle : (f n h a w : Bool) → (f && (n && (h && (a && w)))) ≡ (h && ((n && a) && (f && w)))
@@ -190,7 +205,7 @@ module _ (tree : ListingValue) where
   shuffle false n h a w = sym (ap (λ b. h && b) (and_false (n && a)) ∙ and_false h)
 
   -- what is reached behind a path, as what is shown says it
-  reach-is : (d : ℕ) (p r : PathValue) →
+  pub reach-is : (d : ℕ) (p r : PathValue) →
       reach tree d p r ≡ (has_entry tree (p ++ r) && (are_names d r && way is_folder_at p r))
   reach-is d p [] = ap (has_entry tree) (sym (append-nil p)) ∙ sym (and_true (has_entry tree (p ++ [])))
   reach-is zero p (x ∷ r) = sym (and_false (has_entry tree (p ++ x ∷ r)))
@@ -203,7 +218,7 @@ module _ (tree : ListingValue) where
       (way is_folder_at (p ++ x ∷ []) r))
 
   -- from the root on each step is a folder
-  way-folders : (root p r : PathValue) → is_prefix root p ≡ true → way (is_passable tree root) p r
+  pub way-folders : (root p r : PathValue) → is_prefix root p ≡ true → way (is_passable tree root) p r
       ≡ way is_folder_at p r
   way-folders root p [] h = refl
   way-folders root p (x ∷ r) h =
@@ -309,19 +324,6 @@ module _ (tree : ListingValue) where
       (has_path (folders_of root) q || reaches tree (depth_of mode) root q) ≡ shows tree (root, mode) q
   shows-open bare mode root n above q = by (is_prefix root q) refl
     where
-      near : (r : PathValue) → is_near root mode (root ++ r) ≡ are_names (depth_of mode) r
-      near [] = ap (λ z. is_prefix z root
-          || (is_prefix root (root ++ []) && are_names (depth_of mode) (drop (length root) (root ++ []))))
-          (append-nil root)
-          ∙ (ap (λ b. b
-          || (is_prefix root (root ++ []) && are_names (depth_of mode) (drop (length root) (root ++ []))))
-          (prefix_itself root) ∙ sym (names-none (depth_of mode)))
-      near (x ∷ r) =
-          ap (λ b. b || (is_prefix root (root ++ x ∷ r)
-          && are_names (depth_of mode) (drop (length root) (root ++ x ∷ r)))) (longer_no_prefix root x r)
-          ∙ (ap (λ b. b && are_names (depth_of mode) (drop (length root) (root ++ x ∷ r)))
-          (prefix-append root (x ∷ r)) ∙ ap (are_names (depth_of mode)) (drop-append root (x ∷ r)))
-
       behind : (r : PathValue) → IsOpen mode root (root ++ r)
       behind r =
           let folders : list_all (is_passable tree root) (folders_of (root ++ r)) ≡ way is_folder_at root r =
@@ -336,7 +338,7 @@ module _ (tree : ListingValue) where
           && (b && (is_near root mode (root ++ r)
           && list_all (is_passable tree root) (folders_of (root ++ r))))) n
           ∙ (ap (λ b. has_entry tree (root ++ r)
-          && (b && list_all (is_passable tree root) (folders_of (root ++ r)))) (near r)
+          && (b && list_all (is_passable tree root) (folders_of (root ++ r)))) (near_behind mode root r)
           ∙ ap (λ b. has_entry tree (root ++ r) && (are_names (depth_of mode) r && b)) folders))))
 
       by : (b : Bool) → is_prefix root q ≡ b → IsOpen mode root q

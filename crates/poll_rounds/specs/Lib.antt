@@ -1,3 +1,4 @@
 pub mod Folders
-pub mod Rounds
+pub mod Parts
 pub mod Reports
+pub mod Rounds

@@ -3,4 +3,6 @@
 
 pub mod folders;
 pub mod list;
+pub mod look;
+pub mod part;
 pub mod round;

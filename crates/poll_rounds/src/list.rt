@@ -68,14 +68,14 @@ pub fn list_root<A: Allocator + Copy, D: Folders<A>>(
 }
 
 /// How many parts the path has.
-fn part_count<A: Allocator>(path: &PathBuf<A>) -> usize
+pub(crate) fn part_count<A: Allocator>(path: &PathBuf<A>) -> usize
     ensures { result ≡ length path.now }
 {
     path.parts().count()
 }
 
 /// The path of the first `count` parts.
-fn first_parts<A: Allocator + Copy>(
+pub(crate) fn first_parts<A: Allocator + Copy>(
     alloc: A,
     path: &PathBuf<A>,
     count: usize,
@@ -92,7 +92,7 @@ fn first_parts<A: Allocator + Copy>(
 
 /// Adds what stands at the path, and at most `depth` levels of what is below it. A folder that goes
 /// missing between the look at it and at its names is left out.
-fn list_at<A: Allocator + Copy, D: Folders<A>>(
+pub(crate) fn list_at<A: Allocator + Copy, D: Folders<A>>(
     alloc: A,
     folders: &mut D,
     listing: &mut Listing<A>,

@@ -15,7 +15,7 @@ use notify_watch::handler::EventHandler;
 use std::alloc::Allocator;
 
 /// Reports the events, in order.
-fn hand_each<A: Allocator, H: EventHandler<Result<Event<A>, Error<A>>>>(
+pub fn hand_each<A: Allocator, H: EventHandler<Result<Event<A>, Error<A>>>>(
     events: Vec<Event<A>, A>,
     handler: &mut H,
 )
