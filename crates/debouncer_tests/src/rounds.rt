@@ -182,8 +182,8 @@ hide /
 round nothing",
 ];
 
-/// The same with `look`, a path, and what a look at it reports.
-const LOOKS: [&str; 3] = [
+/// The same with `look`, some paths, and what one look at them reports.
+const LOOKS: [&str; 4] = [
     // A look sees what stands at the path and below it, and nothing beside.
     "now / folder, /d folder, /d/e folder, /d/f file 1
 show /d
@@ -208,6 +208,13 @@ now / folder, /d folder
 look /x: nothing
 look /d/e/g: Remove(File) /d/e/g
 round Remove(Folder) /d/e",
+    // Several are one look.
+    "now / folder, /d folder
+show /d
+round Create(Folder) /, Create(Folder) /d
+now / folder, /d folder, /d/e folder, /d/e/g file 2, /d/f file 9, /d/h file 1
+look /d/h /d/e/g /d/e/x: Create(Folder) /d/e, Create(File) /d/e/g, Create(File) /d/h
+round Create(File) /d/f",
 ];
 
 /// Checks what was reported.
@@ -223,12 +230,25 @@ fn check_round(rt: &(impl Abort + AllocGlobal), polled: &mut Polled, text: &str,
     check_notes(rt, &mut notes, text, wanted);
 }
 
-/// Looks at a path, and checks what this reports.
+/// The paths of a line.
+fn paths_of(rt: &(impl Abort + AllocGlobal), line: &str) -> Vec<PathBuf> {
+    let mut paths = Vec::new(rt.alloc());
+    for place in line.split(' ') {
+        paths.push(path(rt, rt.alloc(), place)).expect(rt, "memory");
+    }
+    paths
+}
+
+/// Looks at some paths, and checks what this reports.
 fn check_look(rt: &(impl Abort + AllocGlobal), polled: &mut Polled, text: &str, line: &str) {
-    let (place, wanted) = line.split_once(": ").expect(rt, line);
+    let (places, wanted) = line.split_once(": ").expect(rt, line);
+    let paths = paths_of(rt, places);
     let mut notes = Notes::new(rt);
-    let place = path(rt, rt.alloc(), place);
-    polled.look_at(&mut tree(rt, rt.alloc(), text), &mut notes, &place);
+    polled.look_at(
+        &mut tree(rt, rt.alloc(), text),
+        &mut notes,
+        paths.as_slice(),
+    );
     check_notes(rt, &mut notes, text, wanted);
 }
 

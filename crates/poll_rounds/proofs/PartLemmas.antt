@@ -441,11 +441,13 @@ pub top-folders : {E : Type 0} (r : Result PathValue E) (es : ListingValue) (p :
 top-folders (Err e) es p n l h k = tt
 top-folders (Ok top) es p n l h k = folders-are es top (top-itself es p n top l h k).1
 
--- all roots were listed, or there was an error
-pub looks-listed : {E : Type 0} (r : Result ListingValue E) (o : Option ListingValue)
-    (roots : List (PathValue × RecursiveMode)) (p : PathValue) (es : ListingValue) → has_root_below roots p ≡ true →
-    IfSome o (λ tree. IsTree tree → IfOk r (λ fs. fs ≡ shown tree roots)) →
-    IfSome o (λ tree. IsTree tree → IfOk r (LooksAt tree roots p es))
-looks-listed r None roots p es h k = tt
-looks-listed (Err e) (Some tree) roots p es h k = λ t. tt
-looks-listed (Ok fs) (Some tree) roots p es h k = looks-all (Some tree) roots p es fs h k
+-- .. or there was an error
+pub looks-parts : {E : Type 0} (r : Result (Unit {0}) E) (o : Option ListingValue)
+    (roots : List (PathValue × RecursiveMode)) (p : PathValue) (es fs gs : ListingValue) →
+    has_root_below roots p ≡ false → fs ≡ outside es p →
+    IfSome o (λ tree. OnOk r (Adds tree (λ q. list_any (λ root. shows_in tree p root q) roots) fs gs)) →
+    IfSome o (λ tree. IsTree tree → OnOk r (LooksAt tree roots p es gs))
+looks-parts r None roots p es fs gs h same k = tt
+looks-parts (Err e) (Some tree) roots p es fs gs h same k = λ t. tt
+looks-parts (Ok x) (Some tree) roots p es fs gs h same k =
+    looks-part (Some tree) roots p es gs h (subst (λ l. HasParts (Some tree) p roots l gs) same k)

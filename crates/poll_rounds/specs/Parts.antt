@@ -1,5 +1,5 @@
 -- A part of a listing that is listed anew: what stands at or below a path.
-use Rattle.std.specs.Prelude.{◌≡◌, Bool, true, false, not, ◌&&◌, ◌||◌, List, Option, is_some, if◌then◌else◌, ◌⊎◌, IfSome}
+use Rattle.std.specs.Prelude.{◌≡◌, Bool, true, false, not, ◌&&◌, ◌||◌, List, [], ◌∷◌, Option, is_some, if◌then◌else◌, ◌⊎◌, IfSome}
 use Rattle.std.specs.List.{list_all, list_any}
 use Rattle.notify_paths.specs.Path.{PathValue, is_prefix, is_below}
 use Rattle.notify_types.specs.declared.event.RecursiveMode.{RecursiveMode}
@@ -47,3 +47,10 @@ abbrev pub Looks : Option ListingValue → List (PathValue × RecursiveMode) →
     ListingValue → Type 0
 Looks told roots path old new =
     (top : PathValue) × IsTop old path top × IfSome told (λ tree. IsTree tree → LooksAt tree roots top old new)
+
+-- the paths that were named were looked at so, one after the other
+abbrev pub LooksEach : Option ListingValue → List (PathValue × RecursiveMode) → List PathValue → ListingValue →
+    ListingValue → Type 0
+LooksEach told roots [] old new = new ≡ old
+LooksEach told roots (path ∷ paths) old new =
+    (between : ListingValue) × Looks told roots path old between × LooksEach told roots paths between new

@@ -1,8 +1,8 @@
-//! A round of polling that looks at one path.
-ghost use Rattle.std.specs.Prelude.{◌≡◌, ◌≤◌, true, false, IfErr, IfOk};
+//! Rounds of polling that look at some paths alone.
+ghost use Rattle.std.specs.Prelude.{◌≡◌, ◌≤◌, true, false, IfErr, IfOk, OnOk};
 ghost use Rattle.poll_rounds.specs.Folders.{IsRefusal};
 ghost use Rattle.folder_listing.specs.Changes.{changes};
-ghost use Rattle.poll_rounds.specs.Parts.{Looks};
+ghost use Rattle.poll_rounds.specs.Parts.{Looks, LooksEach};
 ghost use Rattle.poll_rounds.specs.Rounds.{HandsEach, HandsRefusal};
 
 use crate::folders::Folders;
@@ -16,39 +16,76 @@ use notify_types::event::{Event, RecursiveMode};
 use notify_watch::handler::EventHandler;
 use std::alloc::Allocator;
 
-/// The listing with what stands at the path and below it now, and what changed since the last one. If the
-/// last one doesn't have all folders above the path, it is looked at the first that it lacks.
+/// Lists the path anew, or else the first path above it that the listing doesn't have as a folder.
+fn look_in<A: Allocator + Copy, D: Folders<A>>(
+    alloc: A,
+    folders: &mut D,
+    roots: &[(PathBuf<A>, RecursiveMode)],
+    listing: &mut Listing<A>,
+    path: &PathBuf<A>,
+) -> Result<(), Error<A>>
+    ensures shown { OnOk result
+        (Looks (D.told folders.old) roots.now path.now listing.old listing.new) }
+    ensures err { IfErr result (λ e. IsRefusal e (D.failed folders.old) (D.failed folders.new)) }
+    ensures same { D.told folders.new ≡ D.told folders.old }
+    ensures counted { D.failed folders.old ≤ D.failed folders.new }
+{
+    let top = top_of(alloc, listing, path)?;
+    list_anew(alloc, folders, roots, listing, &top)
+}
+
+/// Lists each of the paths anew, one after the other.
+fn look_in_each<A: Allocator + Copy, D: Folders<A>>(
+    alloc: A,
+    folders: &mut D,
+    roots: &[(PathBuf<A>, RecursiveMode)],
+    listing: &mut Listing<A>,
+    paths: &[PathBuf<A>],
+) -> Result<(), Error<A>>
+    ensures shown { OnOk result
+        (LooksEach (D.told folders.old) roots.now paths.now listing.old listing.new) }
+    ensures err { IfErr result (λ e. IsRefusal e (D.failed folders.old) (D.failed folders.new)) }
+    ensures same { D.told folders.new ≡ D.told folders.old }
+    ensures counted { D.failed folders.old ≤ D.failed folders.new }
+{
+    for path in paths {
+        look_in(alloc, folders, roots, listing, path)?;
+    }
+    Ok(())
+}
+
+/// The listing with what stands at the paths and below them now, and what changed since the last one.
 fn look_near<A: Allocator + Copy, D: Folders<A>>(
     alloc: A,
     folders: &mut D,
     roots: &[(PathBuf<A>, RecursiveMode)],
     last: &Listing<A>,
-    path: &PathBuf<A>,
+    paths: &[PathBuf<A>],
 ) -> Result<(Listing<A>, Vec<Event<A>, A>), Error<A>>
     ensures shown { IfOk result (λ pair.
-        Looks (D.told folders.old) roots.now path.now last.now pair.0) }
+        LooksEach (D.told folders.old) roots.now paths.now last.now pair.0) }
     ensures ok { IfOk result (λ pair. pair.1.items ≡ changes last.now pair.0) }
     ensures err { IfErr result (λ e. IsRefusal e (D.failed folders.old) (D.failed folders.new)) }
     ensures same { D.told folders.new ≡ D.told folders.old }
     ensures counted { D.failed folders.old ≤ D.failed folders.new }
 {
-    let top = top_of(alloc, last, path)?;
-    let listing = list_anew(alloc, folders, roots, last, &top)?;
+    let mut listing = last.try_clone(alloc)?;
+    look_in_each(alloc, folders, roots, &mut listing, paths)?;
     let events = compare(alloc, last, &listing)?;
     Ok((listing, events))
 }
 
-/// Lists anew what the roots show at the path and below it, or at and below the first path above it that
-/// the last listing doesn't have as a folder; reports what changed since then, and keeps it. If a root lies strictly
-/// below that, all roots are listed. An error is reported as by
-/// [`poll_round`](crate::round::poll_round), and leaves the last
+/// Lists anew what the roots show at each of the paths and below it; or at and below the first path above it
+/// that the last listing doesn't have as a folder, so that a folder is reported before what lies in it. If a
+/// root lies strictly below that, all roots are listed. Reports what changed since the last listing, and keeps
+/// the new one. An error is reported as by [`poll_round`](crate::round::poll_round), and leaves the last
 /// listing. Returns whether there was none.
 pub fn look_round<A: Allocator + Copy, D: Folders<A>, H: EventHandler<Result<Event<A>, Error<A>>>>(
     alloc: A,
     folders: &mut D,
     roots: &[(PathBuf<A>, RecursiveMode)],
     last: &mut Listing<A>,
-    path: &PathBuf<A>,
+    paths: &[PathBuf<A>],
     handler: &mut H,
 ) -> bool
     requires { H.ready handler.old }
@@ -56,7 +93,7 @@ pub fn look_round<A: Allocator + Copy, D: Folders<A>, H: EventHandler<Result<Eve
     ensures given { result ≡ true →
         HandsEach H.handles (changes last.old last.new) handler.old handler.new }
     ensures shown { result ≡ true →
-        Looks (D.told folders.old) roots.now path.now last.old last.new }
+        LooksEach (D.told folders.old) roots.now paths.now last.old last.new }
     ensures unchanged { result ≡ false → last.new ≡ last.old }
     ensures refused { result ≡ false →
         HandsRefusal H.handles (D.failed folders.old) (D.failed folders.new) handler.old
@@ -64,7 +101,7 @@ pub fn look_round<A: Allocator + Copy, D: Folders<A>, H: EventHandler<Result<Eve
     ensures same { D.told folders.new ≡ D.told folders.old }
     ensures counted { D.failed folders.old ≤ D.failed folders.new }
 {
-    match look_near(alloc, folders, roots, last, path) {
+    match look_near(alloc, folders, roots, last, paths) {
         Ok((listing, events)) => {
             hand_each(events, handler);
             *last = listing;

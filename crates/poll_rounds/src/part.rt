@@ -152,27 +152,26 @@ pub fn top_of<A: Allocator + Copy>(
     path.try_clone()
 }
 
-/// Returns the last listing with what the roots show at the path and below it now. The last listing has
-/// the folders above the path. If a root lies strictly below the path, all roots are listed.
+/// Lists anew what the roots show at the path and below it. The listing has the folders above the path. If a
+/// root lies strictly below the path, all roots are listed. After an error the listing may have a part of it.
 pub fn list_anew<A: Allocator + Copy, D: Folders<A>>(
     alloc: A,
     folders: &mut D,
     roots: &[(PathBuf<A>, RecursiveMode)],
-    last: &Listing<A>,
+    listing: &mut Listing<A>,
     path: &PathBuf<A>,
-) -> Result<Listing<A>, Error<A>>
-    requires folders { has_folders (keys_of last.now) path.now ≡ true }
+) -> Result<(), Error<A>>
+    requires folders { has_folders (keys_of listing.old) path.now ≡ true }
     ensures shown { IfSome (D.told folders.old) (λ tree. IsTree tree →
-        IfOk result (λ next. LooksAt tree roots.now path.now last.now next)) }
+        OnOk result (LooksAt tree roots.now path.now listing.old listing.new)) }
     ensures same { D.told folders.new ≡ D.told folders.old }
     ensures counted { D.failed folders.old ≤ D.failed folders.new }
     ensures err { IfErr result (λ e. IsRefusal e (D.failed folders.old) (D.failed folders.new)) }
 {
     if has_root_below(roots, path) {
-        return list(alloc, folders, roots);
+        *listing = list(alloc, folders, roots)?;
+        return Ok(());
     }
-    let mut next = last.try_clone(alloc)?;
-    next.drop_at(path);
-    list_parts(alloc, folders, &mut next, roots, path)?;
-    Ok(next)
+    listing.drop_at(path);
+    list_parts(alloc, folders, listing, roots, path)
 }
