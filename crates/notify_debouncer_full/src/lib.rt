@@ -49,6 +49,7 @@ pub use folder_scan::folder_scan::FolderScan;
 pub use notify_paths::error::{Error, ErrorKind};
 pub use notify_paths::part::{FoldersAbove, Part, Parts};
 pub use notify_paths::path::PathBuf;
+pub use notify_poll::hints::Hints;
 pub use notify_poll::noting::NotingFolders;
 pub use notify_poll::polled::Polled;
 pub use notify_poll::real::RealFolders;

@@ -8,6 +8,8 @@ mod build;
 #[cfg(test)]
 mod ending;
 #[cfg(test)]
+mod hints;
+#[cfg(test)]
 mod listing_refused;
 #[cfg(test)]
 mod losses;

@@ -1,0 +1,125 @@
+//! Hints: a watcher that looks each hour, and is asked to look at once.
+use crate::build::{Host, path};
+use crate::reports::{entry, new_top};
+use notify_debouncer_full::{Config, Hints, PathBuf, RecommendedReports, RecursiveMode, Reports};
+use std::fs::Files;
+use std::os::unix::fs::symlink;
+use std::process::Abort;
+use std::time::{Clock, Duration, Instant};
+use std::{fs, process};
+
+/// Watches a path by looks each hour.
+fn start<R: Host>(rt: R, place: &PathBuf) -> RecommendedReports<R> {
+    let config = Config::default().with_poll_interval(Duration::from_secs(3600));
+    let timeout = Duration::from_millis(4);
+    let started = Reports::start(rt, rt.alloc(), timeout, None, config);
+    let mut reports: RecommendedReports<R> = started.expect(&rt, "a start");
+    reports
+        .watch(place, RecursiveMode::Recursive)
+        .expect(&rt, "a watch");
+    reports
+}
+
+/// Asks for a look at an entry of the folder.
+fn hint<R: Host>(rt: R, hints: &Hints<R>, top: &str, name: &str) -> bool {
+    hints.look_at(path(&rt, rt.alloc(), entry(&rt, top, name).as_str()))
+}
+
+/// How many events the next batch has, or 0 if an error or nothing comes within some seconds.
+fn next_count<R: Host>(reports: &RecommendedReports<R>) -> usize {
+    match reports.next_within(Duration::from_secs(10)) {
+        Some(Ok(batch)) => batch.len(),
+        _ => 0,
+    }
+}
+
+/// Makes three files, and hints at the first one. Returns how many events come with the hint, and how many
+/// after it.
+fn follow_hint<R: Host>(rt: R, top: &str) -> (usize, usize) {
+    let reports = start(rt, &path(&rt, rt.alloc(), top));
+    let hints = reports.debouncer().watcher().hints().expect(&rt, "memory");
+    for name in ["/x", "/y", "/z"] {
+        fs::write(&rt, entry(&rt, top, name).as_str(), "x").expect(&rt, "a file");
+    }
+    hint(rt, &hints, top, "/x");
+    let first = next_count(&reports);
+    let mut rest = next_count(&reports);
+    if rest < 2 {
+        rest = rest.saturating_add(next_count(&reports));
+    }
+    reports.finish();
+    (first, rest)
+}
+
+#[test]
+fn a_hint_is_looked_at_and_a_round_follows(rt: HostRuntime) {
+    let top = new_top(&rt, process::id(rt.process()), "hinted");
+    fs::create_dir(&rt, top.as_str()).expect(&rt, "the top");
+    let counts = follow_hint(rt, top.as_str());
+    fs::remove_dir_all(&rt, top.as_str()).expect(&rt, "it is there");
+    assert_eq!(rt; counts, (1, 2));
+}
+
+/// Lets the link `l` of the folder lead to this entry.
+fn turn_link(rt: &(impl Abort + AllocGlobal + Files), top: &str, to: &str) {
+    let (link, next) = (entry(rt, top, "/l"), entry(rt, top, "/next"));
+    symlink(rt, entry(rt, top, to).as_str(), next.as_str()).expect(rt, "a link");
+    fs::rename(rt, next.as_str(), link.as_str()).expect(rt, "a link");
+}
+
+/// Makes a folder with a file in it, and a link to it.
+fn make_tree(rt: &(impl Abort + AllocGlobal + Files), top: &str) {
+    fs::create_dir(rt, top).expect(rt, "the top");
+    fs::create_dir(rt, entry(rt, top, "/d").as_str()).expect(rt, "a folder");
+    fs::write(rt, entry(rt, top, "/d/x").as_str(), "x").expect(rt, "a file");
+    turn_link(rt, top, "/d");
+}
+
+/// Hints at a file behind a link that leads to itself. Then the link leads back, and the file has changed.
+/// Returns whether an error came of the hint, and whether the change is reported though no hint tells of it.
+fn follow_refused_look<R: Host>(rt: R, top: &str) -> (bool, bool) {
+    let file = entry(&rt, top, "/l/x");
+    let reports = start(rt, &path(&rt, rt.alloc(), file.as_str()));
+    let hints = reports.debouncer().watcher().hints().expect(&rt, "memory");
+    turn_link(&rt, top, "/l");
+    hint(rt, &hints, top, "/l/x");
+    let refused = matches!(reports.next_within(Duration::from_secs(10)), Some(Err(_)));
+    fs::write(&rt, entry(&rt, top, "/d/x").as_str(), "xx").expect(&rt, "a file");
+    turn_link(&rt, top, "/d");
+    let mut told = false;
+    for _ in 0..4u32 {
+        told = told || next_count(&reports) > 0;
+    }
+    reports.finish();
+    (refused, told)
+}
+
+#[test]
+fn a_refused_look_is_followed_by_a_round(rt: HostRuntime) {
+    let top = new_top(&rt, process::id(rt.process()), "refused");
+    make_tree(&rt, top.as_str());
+    let answer = follow_refused_look(rt, top.as_str());
+    fs::remove_dir_all(&rt, top.as_str()).expect(&rt, "it is there");
+    assert_eq!(rt; answer, (true, true));
+}
+
+/// Starts, hints, and stops while the watcher sleeps. Returns what hints answer before and after.
+fn stop_asleep<R: Host>(rt: R, top: &str) -> (bool, bool) {
+    let reports = start(rt, &path(&rt, rt.alloc(), top));
+    let hints = reports.debouncer().watcher().hints().expect(&rt, "memory");
+    let before = hints.look_at_all();
+    reports.finish();
+    (before, hint(rt, &hints, top, "/x"))
+}
+
+#[test]
+fn a_stop_ends_a_long_sleep(rt: HostRuntime) {
+    let top = new_top(&rt, process::id(rt.process()), "asleep");
+    fs::create_dir(&rt, top.as_str()).expect(&rt, "the top");
+    let begun = Instant::now(&rt).expect(&rt, "a clock");
+    let answers = stop_asleep(rt, top.as_str());
+    let took = begun.elapsed(&rt).expect(&rt, "a clock");
+    fs::remove_dir_all(&rt, top.as_str()).expect(&rt, "it is there");
+    assert_eq!(rt; answers, (true, false));
+    assert!(rt; took < Duration::from_secs(10));
+}
