@@ -39,7 +39,7 @@ is_seen roots path = list_any (λ root. is_nonempty root.0 && is_near root.0 roo
 abbrev pub seen : ListingValue → List (PathValue × RecursiveMode) → ListingValue
 seen listing roots = filter (λ entry. is_seen roots entry.0) listing
 
--- how many parts below a root are looked at behind these, if these are looked at
+-- how many parts below a root are looked at after these, if these are looked at
 abbrev pub levels_left : ℕ → List PartValue → Option ℕ
 levels_left depth [] = Some depth
 levels_left zero (part ∷ parts) = None

@@ -81,7 +81,7 @@ pub fn levels_left<A: Allocator>(
     levels_past(components_past(root, path), depth_of(mode))
 }
 
-/// How many of the levels are left behind these components, if each is a name.
+/// How many of the levels are left after these components, if each is a name.
 fn levels_past(components: Components<'_>, depth: u32) -> Option<u32>
     ensures { result ≡ levels_left depth (map part_of (components_remaining components.entry)) }
 {

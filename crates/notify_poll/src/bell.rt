@@ -17,7 +17,7 @@ struct Asked<A: Allocator> {
     round: bool,
     /// The end.
     stop: bool,
-    /// .. after one more round.
+    /// One more round before the end.
     looks_last: bool,
 }
 

@@ -8,8 +8,8 @@ use notify_paths::path::PathBuf;
 use std::alloc::{Allocator, Global};
 use std::sync::{Arc, Wait};
 
-/// Asks a polling watcher to look at paths soon, from any thread. It keeps the watcher from nothing: when the
-/// watcher is dropped, its calls answer false, and do nothing else.
+/// Asks a polling watcher to look at paths soon, from any thread. It doesn't keep the watcher alive: after the
+/// watcher is dropped its calls answer false, and nobody looks.
 #[derive(Drop)]
 pub struct Hints<R: Wait + Drop, A: Allocator = Global> {
     rt: R,

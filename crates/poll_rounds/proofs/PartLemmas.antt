@@ -33,7 +33,7 @@ abbrev pub names_within : Option ℕ → List PartValue → Bool
 names_within None parts = false
 names_within (Some levels) parts = are_names levels parts
 
--- behind the first parts the rest are names within the levels that are left there
+-- after the first parts the rest are names within the levels that are left there
 names-left : (d : ℕ) (a r : List PartValue) → are_names d (a ++ r) ≡ names_within (levels_left d a) r
 names-left d [] r = refl
 names-left zero (x ∷ a) r = refl
@@ -44,7 +44,7 @@ names-left (suc d) (x ∷ a) r = by (is_name_part x) (names-left d a r)
     by true h = h
     by false h = refl
 
--- parts behind a path that isn't empty
+-- parts after a path that isn't empty
 longer-nonempty : (p r : PathValue) → is_nonempty p ≡ true → is_nonempty (p ++ r) ≡ true
 longer-nonempty [] r h = absurd (true≢false (sym h))
 longer-nonempty (x ∷ p) r h = refl
@@ -58,7 +58,7 @@ module _ (tree : ListingValue) (mode : RecursiveMode) (root : PathValue) (n : is
   abbrev pub is_open : PathValue → Bool
   is_open p = list_all (is_passable tree root) (folders_of p)
 
-  -- what is shown at the root, behind a path that lies behind it
+  -- what is shown at the root, below a path that lies below it
   shown-behind : (a r : PathValue) → shows tree (root, mode) ((root ++ a) ++ r)
       ≡ (has_entry tree ((root ++ a) ++ r)
       && (names_within (levels_left (depth_of mode) a) r
@@ -175,7 +175,7 @@ pub part-empty : (tree : ListingValue) (mode : RecursiveMode) (root p q : PathVa
 part-empty tree mode root p q e = sym (ap (λ r. is_prefix p q && shows tree (r, mode) q) e
     ∙ (ap (λ b. is_prefix p q && b) (and_false (has_entry tree q)) ∙ and_false (is_prefix p q)))
 
--- what was found at a folder lets it be passed where the tree does
+-- what was found at a folder lets it be passed if the tree does
 passes-is : (tree : ListingValue) (root f : PathValue) (found : Option Found) → found ≡ entry_at tree f →
     passes root f found ≡ is_passable tree root f
 passes-is tree root f found h =
@@ -254,7 +254,7 @@ pub adds-none : (o : Option ListingValue) (root : PathValue × RecursiveMode) (p
 adds-none None root p es h = tt
 adds-none (Some tree) root p es h = Adds-none tree (shows_in tree p root) es (λ q. sym (h tree q))
 
--- .. for want of an open way
+-- .. since the way isn't open
 pub adds-closed : (o : Option ListingValue) (mode : RecursiveMode) (root p : PathValue) (es : ListingValue)
     (b : Bool) → is_nonempty root ≡ true → is_prefix root p ≡ true → b ≡ false →
     IfSome o (λ tree. b ≡ list_all (is_passable tree root) (folders_of p)) →

@@ -147,7 +147,7 @@ names-none : (d : ℕ) → are_names d [] ≡ true
 names-none zero = refl
 names-none (suc d) = refl
 
--- what is near a root behind it are names, as deep as the mode says
+-- what is near a root below it are names, as deep as the mode says
 pub near_behind : (mode : RecursiveMode) (root r : PathValue) → is_near root mode (root ++ r)
     ≡ are_names (depth_of mode) r
 near_behind mode root [] = ap (λ z. is_prefix z root

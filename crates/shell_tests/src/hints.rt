@@ -75,7 +75,7 @@ fn make_tree(rt: &(impl Abort + AllocGlobal + Files), top: &str) {
     turn_link(rt, top, "/d");
 }
 
-/// Hints at a file behind a link that leads to itself. Then the link leads back, and the file has changed.
+/// Hints at a file below a link that leads to itself. Then the link leads back, and the file has changed.
 /// Returns whether an error came of the hint, and whether the change is reported though no hint tells of it.
 fn follow_refused_look<R: Host>(rt: R, top: &str) -> (bool, bool) {
     let file = entry(&rt, top, "/l/x");
