@@ -58,6 +58,16 @@ fn a_failed_round_reports_its_error_and_nothing_else(rt: HostRuntime) {
     }
 }
 
+#[test]
+fn a_round_asks_for_each_entry_once(rt: HostRuntime) {
+    for (text, changes) in [(SIX, ""), (LAST, CHANGES)] {
+        // One more call would fail.
+        let mut folders = failing(&rt, CALLS);
+        let mut last = listing(&rt, rt.alloc(), text);
+        check_round(&rt, &mut folders, &mut last, (true, 6, changes), CALLS);
+    }
+}
+
 /// The first round fails at this call, and the second one reports all changes since the last listing.
 fn check_failed_round(rt: &(impl Abort + AllocGlobal), call: u64) {
     let mut folders = failing(rt, call);

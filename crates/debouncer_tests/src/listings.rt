@@ -13,6 +13,19 @@ const OLD: &str = "/ folder, /a folder, /a/x file 1, /b file 2, /c file 3";
 
 const NEW: &str = "/ folder, /a file 1, /b file 3, /d folder, /d/y file 1";
 
+/// What the folders hold in the round after the one that saw `OLD`.
+const ROUNDS: [&str; 6] = [
+    NEW,
+    // Nothing changed.
+    OLD,
+    // The last entry has another length; one more comes after it; it went.
+    "/ folder, /a folder, /a/x file 1, /b file 2, /c file 4",
+    "/ folder, /a folder, /a/x file 1, /b file 2, /c file 3, /d file 1",
+    "/ folder, /a folder, /a/x file 1, /b file 2",
+    // What went stood in the first folder.
+    "/ folder, /a folder, /b file 2, /c file 3",
+];
+
 /// How many of the first requests are refused one by one, at most.
 const MOST: u64 = 200;
 
@@ -180,13 +193,15 @@ fn a_refused_round_keeps_the_last_listing(rt: HostRuntime) {
 
 fn refuse_rounds<A: TestHeap, R: Abort + AllocGlobal>(rt: &R) {
     let heap: A = new_heap(rt);
-    let mut call = Polls {
-        folders: tree(rt, heap, NEW),
-        roots: root(rt, heap, "/"),
-        last: listing(rt, heap, OLD),
-        notes: Notes::new(rt),
-    };
-    check_refusals(rt, heap, "poll_round", &mut call);
+    for text in ROUNDS {
+        let mut call = Polls {
+            folders: tree(rt, heap, text),
+            roots: root(rt, heap, "/"),
+            last: listing(rt, heap, OLD),
+            notes: Notes::new(rt),
+        };
+        check_refusals(rt, heap, text, &mut call);
+    }
 }
 
 #[test]

@@ -5,3 +5,5 @@ pub mod RootLemmas
 pub mod RoundLemmas
 pub mod FirstLemmas
 pub mod PartLemmas
+pub mod BesideLemmas
+pub mod NewsLemmas

@@ -3,8 +3,11 @@ use Rattle.std.proofs.Common.{◌≡◌, ℕ, suc, ◌+◌, ◌<◌, ◌≤◌, 
 use Rattle.std.specs.Prelude.{Option, Result, Ok, Err, OnOk, IfSome, if◌then◌else◌}
 use Rattle.std.specs.Option.{option_map}
 use Rattle.std.specs.List.{list_any}
+use Rattle.std.specs.List.Sorted.{IsPermutation}
+use Rattle.std.specs.Str.{bytes_eq}
 use Rattle.std.specs.BTreeMap.{is_at, insert_entry}
 use Rattle.std.proofs.lemmas.List.Folds.{list_any_more}
+use Rattle.std.proofs.lemmas.List.Sorted.{list_any-IsPermutation}
 use Rattle.notify_paths.specs.Path.{PathValue, PartValue, NamePart, path_cmp}
 use Rattle.notify_paths.specs.PathText.{is_proper_name}
 use Rattle.notify_paths.specs.PathMoves.{child_of}
@@ -17,7 +20,7 @@ use Rattle.folder_listing.proofs.WalkLemmas.{or_false}
 use Rattle.poll_rounds.proofs.ReachLemmas.{Adds-alike, Adds-then, Adds-none, Adds-one, reaches-none, reaches-alone, reach-no_folder, in_child, reaches-folder}
 
 -- the tests of lists
-any-map : {X Y : Type 0} (p : Y → Bool) (f : X → Y) (xs : List X) → list_any p (map f xs)
+pub any-map : {X Y : Type 0} (p : Y → Bool) (f : X → Y) (xs : List X) → list_any p (map f xs)
     ≡ list_any (λ x. p (f x)) xs
 any-map p f [] = refl
 any-map p f (x ∷ xs) = ap (λ b. p (f x) || b) (any-map p f xs)
@@ -186,3 +189,16 @@ module _ {X : Type 0} (text : X → List ℕ) (o : Option ListingValue) (d : ℕ
             ∙ (ap (λ b. is_at (path_cmp q) p || b) (sym (any-map (in_child tree d p q) text xs))
             ∙ reaches-folder tree d p (map text xs) here are q))
             a
+
+-- names in another order
+pub names-permuted : {X V : Type 0} (text : X → List ℕ) (items : V → List X) (o : Option ListingValue)
+    (p : PathValue) (r : Option V) (v w : V) → r ≡ Some v → IsPermutation (items v) (items w) →
+    IfSome o (λ tree. NamesOf tree p (option_map (λ v. map text (items v)) r)) →
+    IfSome o (λ tree. NamesOf tree p (Some (map text (items w))))
+names-permuted text items None p r v w is h k = tt
+names-permuted text items (Some tree) p r v w is h k =
+    let are : AreNames tree p (map text (items v)) =
+    subst (λ z. NamesOf tree p (option_map (λ v. map text (items v)) z)) is k in
+    λ name. any-map (bytes_eq name) text (items w)
+    ∙ (sym (list_any-IsPermutation (λ x. bytes_eq name (text x)) (items v) (items w) h)
+    ∙ (sym (any-map (bytes_eq name) text (items v)) ∙ are name))

@@ -266,20 +266,24 @@ listed-next (Some tree) roots i root fs gs l is h k = λ t.
     (Adds-then tree (λ q. list_any (λ root. shows tree root q) (take i roots)) (shows tree root) [] fs gs (h t)
     (k t))
 
--- all: the listing is what is shown
-pub listed-all : (o : Option ListingValue) (roots : List (PathValue × RecursiveMode)) (i : ℕ)
-    (fs : ListingValue) → length roots ≤ i → IsListing fs → HasListed o (take i roots) fs →
-    IfSome o (λ tree. IsTree tree → fs ≡ shown tree roots)
-listed-all None roots i fs l law h = tt
-listed-all (Some tree) roots i fs l law h = λ t.
+-- all
+pub listed-roots : (o : Option ListingValue) (roots : List (PathValue × RecursiveMode)) (i : ℕ)
+    (fs : ListingValue) → length roots ≤ i → HasListed o (take i roots) fs → HasListed o roots fs
+listed-roots o roots i fs l h = subst (λ rs. HasListed o rs fs) (take_all i roots l) h
+
+-- the listing is what is shown
+pub listed-shown : (o : Option ListingValue) (roots : List (PathValue × RecursiveMode)) (fs : ListingValue) →
+    IsListing fs → HasListed o roots fs → IfSome o (λ tree. IsTree tree → fs ≡ shown tree roots)
+listed-shown None roots fs law h = tt
+listed-shown (Some tree) roots fs law h = λ t.
     same_entries path_cmp_total same_path fs (shown tree roots) law.ordered (sorted-shown tree roots t.ordered)
-    (λ q. h t q ∙ (ap (λ rs. if list_any (λ root. shows tree root q) rs then entry_at tree q else None)
-    (take_all i roots l) ∙ entry_at-shown tree roots q))
+    (λ q. h t q ∙ entry_at-shown tree roots q)
 
 -- one root alone
 pub listed-one : (o : Option ListingValue) (root : PathValue × RecursiveMode) (fs : ListingValue) →
     IsListing fs → IfSome o (λ tree. IsTree tree → Adds tree (shows tree root) [] fs) →
     IfSome o (λ tree. IsTree tree → fs ≡ shown tree (root ∷ []))
 listed-one o root fs law h =
-    listed-all o (root ∷ []) 1 fs (omega arith) law (listed-next o (root ∷ []) 0 root [] fs (omega arith) refl
-    (listed-none o) h)
+    listed-shown o (root ∷ []) fs law
+    (listed-roots o (root ∷ []) 1 fs (omega arith)
+    (listed-next o (root ∷ []) 0 root [] fs (omega arith) refl (listed-none o) h))

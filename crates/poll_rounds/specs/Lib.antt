@@ -1,3 +1,4 @@
+pub mod Beside
 pub mod Folders
 pub mod Parts
 pub mod Reports

@@ -1,6 +1,8 @@
 //! Rounds of polling: folders are listed, and what changed since the last listing is reported.
 #![tactic(auto)]
 
+mod beside;
+pub mod entries;
 pub mod folders;
 pub mod list;
 pub mod look;

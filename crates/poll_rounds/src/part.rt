@@ -67,8 +67,8 @@ fn list_part<A: Allocator + Copy, D: Folders<A>>(
     requires above { is_below root.now path.now ≡ false }
     ensures added { IfSome (D.told folders.old) (λ tree.
         OnOk result (Adds tree (shows_in tree path.now (root.now, mode)) listing.old listing.new)) }
-    ensures grows { (q : PathValue) → has_entry listing.old q ≡ true → has_entry listing.new q
-        ≡ true }
+    ensures grows { OnOk result ((q : PathValue) → has_entry listing.old q ≡ true →
+        has_entry listing.new q ≡ true) }
     ensures same { D.told folders.new ≡ D.told folders.old }
     ensures counted { D.failed folders.old ≤ D.failed folders.new }
     ensures err { IfErr result (λ e. IsRefusal e (D.failed folders.old) (D.failed folders.new)) }

@@ -2,10 +2,11 @@
 ghost use Rattle.std.specs.Prelude.{◌≡◌, ◌≤◌, true, false, IfErr, IfOk, IfSome};
 ghost use Rattle.poll_rounds.specs.Folders.{IsRefusal, IsTree, shown};
 ghost use Rattle.folder_listing.specs.Changes.{changes};
-ghost use Rattle.poll_rounds.specs.Rounds.{HandsEach, HandsRefusal};
+ghost use Rattle.folder_listing.specs.Listing.{IsListing};
+ghost use Rattle.poll_rounds.specs.Rounds.{HandsEach, HandsRefusal, next_of};
 
 use crate::folders::Folders;
-use crate::list::list;
+use crate::list::list_beside;
 use folder_listing::compare::compare;
 use folder_listing::listing::Listing;
 use notify_paths::error::Error;
@@ -28,23 +29,27 @@ pub fn hand_each<A: Allocator, H: EventHandler<Result<Event<A>, Error<A>>>>(
     }
 }
 
-/// The listing of the roots, and what changed since the last one.
+/// The listing of the roots, and what changed since the last one; `None` if nothing did.
 fn look_again<A: Allocator + Copy, D: Folders<A>>(
     alloc: A,
     folders: &mut D,
     roots: &[(PathBuf<A>, RecursiveMode)],
     last: &Listing<A>,
-) -> Result<(Listing<A>, Vec<Event<A>, A>), Error<A>>
+) -> Result<Option<(Listing<A>, Vec<Event<A>, A>)>, Error<A>>
     ensures shown { IfSome (D.told folders.old) (λ tree. IsTree tree →
-        IfOk result (λ pair. pair.0 ≡ shown tree roots.now)) }
-    ensures ok { IfOk result (λ pair. pair.1.items ≡ changes last.now pair.0) }
+        IfOk result (λ news. next_of last.now news ≡ shown tree roots.now)) }
+    ensures ok { IfOk result (λ news. IfSome news (λ pair. pair.1.items
+        ≡ changes last.now pair.0)) }
+    ensures law { IsListing last.now }
     ensures err { IfErr result (λ e. IsRefusal e (D.failed folders.old) (D.failed folders.new)) }
     ensures same { D.told folders.new ≡ D.told folders.old }
     ensures counted { D.failed folders.old ≤ D.failed folders.new }
 {
-    let listing = list(alloc, folders, roots)?;
+    let Some(listing) = list_beside(alloc, folders, roots, last)? else {
+        return Ok(None);
+    };
     let events = compare(alloc, last, &listing)?;
-    Ok((listing, events))
+    Ok(Some((listing, events)))
 }
 
 /// Lists the roots, reports what changed since the last listing, and keeps the new one. If listing or
@@ -72,7 +77,8 @@ pub fn poll_round<A: Allocator + Copy, D: Folders<A>, H: EventHandler<Result<Eve
     ensures counted { D.failed folders.old ≤ D.failed folders.new }
 {
     match look_again(alloc, folders, roots, last) {
-        Ok((listing, events)) => {
+        Ok(None) => true,
+        Ok(Some((listing, events))) => {
             hand_each(events, handler);
             *last = listing;
             true

@@ -17,10 +17,12 @@ abbrev pub invariant-loop-name : goal.invariant-loop-name
 invariant-loop-name g l = record {
   added : IfSome (g.D.Folders.told l.fn.folders) (λ tree. Adds tree (λ q. is_at (path_cmp q) l.path
       || list_any (λ name. in_child tree (l.depth - 1) l.path q (string_bytes name))
-      (take l.name-index l.name-items)) l.fn.listing l.listing);
-  grows : (q : PathValue) → has_entry l.fn.listing q ≡ true → has_entry l.listing q ≡ true;
-  here : has_entry l.listing l.path ≡ true;
-  folders : has_folders (keys_of l.listing) l.path ≡ true;
+      (take l.name-index l.name-items)) (g.L.Entries.entries l.fn.listing) (g.L.Entries.entries l.listing));
+  grows : (q : PathValue) → has_entry (g.L.Entries.entries l.fn.listing) q ≡ true →
+      has_entry (g.L.Entries.entries l.listing) q ≡ true;
+  here : has_entry (g.L.Entries.entries l.listing) l.path ≡ true;
+  folders : has_folders (keys_of (g.L.Entries.entries l.listing)) l.path ≡ true;
+  last : g.L.Entries.last l.listing ≡ g.L.Entries.last l.fn.listing;
   same : g.D.Folders.told l.folders ≡ g.D.Folders.told l.fn.folders;
   counted : g.D.Folders.failed l.fn.folders ≤ g.D.Folders.failed l.folders;
 }

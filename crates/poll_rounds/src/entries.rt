@@ -1,0 +1,50 @@
+//! Where a walk over folders puts what it finds.
+ghost use Rattle.std.specs.Prelude.{◌≡◌, [], true, IfErr, OnOk};
+ghost use Rattle.std.specs.BTreeMap.{insert_entry};
+ghost use Rattle.std.specs.List.Sorted.{IsPermutation};
+ghost use Rattle.std.specs.Map.{keys_of};
+ghost use Rattle.notify_paths.specs.Errors.{out_of_memory};
+ghost use Rattle.notify_paths.specs.Path.{path_cmp};
+ghost use Rattle.debounce_model.specs.Honest.{has_folders};
+ghost use Rattle.folder_listing.specs.Listing.{ListingValue, is_nonempty};
+
+use folder_listing::entry::Found;
+use folder_listing::listing::Listing;
+use notify_paths::error::Error;
+use notify_paths::path::PathBuf;
+use std::alloc::Allocator;
+
+/// What takes the entries of a listing, one after the other.
+pub trait Entries<A: Allocator> {
+    /// The entries that it has.
+    ghost entries: { Self → ListingValue };
+
+    /// The listing that they are put beside, which stays.
+    ghost last: { Self → ListingValue };
+
+    /// Puts the names of a folder in the order in which their entries had better come.
+    fn arrange(&self, names: &mut Vec<String<A>, A>)
+        ensures { IsPermutation names.old.items names.new.items };
+
+    /// Puts in what was found at the path. The folders above it are there. After an error entries may be
+    /// missing.
+    fn put(&mut self, alloc: A, path: &PathBuf<A>, found: Found) -> Result<(), Error<A>>
+        requires path { is_nonempty path.now ≡ true }
+        requires folders { has_folders (keys_of (entries self.old)) path.now ≡ true }
+        ensures ok { OnOk result (entries self.new
+            ≡ insert_entry path_cmp (entries self.old) path.now found) }
+        ensures same { last self.new ≡ last self.old }
+        ensures err { IfErr result (λ e. e ≡ out_of_memory) };
+}
+
+impl<A: Allocator + Copy> Entries<A> for Listing<A> {
+    ghost entries = { λ listing. listing };
+
+    ghost last = { λ _. [] };
+
+    fn arrange(&self, _names: &mut Vec<String<A>, A>) {}
+
+    fn put(&mut self, alloc: A, path: &PathBuf<A>, found: Found) -> Result<(), Error<A>> {
+        self.insert(alloc, path, found)
+    }
+}
