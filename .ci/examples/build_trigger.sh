@@ -104,7 +104,23 @@ report 'build_trigger: what waits is not lost' $well
 
 expect 'build_trigger: a quiet folder' 0 /dev/null 'build_trigger: watching src' "$trigger" src --ticks 1
 expect 'build_trigger: a missing folder' 5 /dev/null 'build_trigger: cannot watch missing: not there' "$trigger" missing --ticks 1
-expect 'build_trigger: no pattern' 2 /dev/null 'build_trigger: a pattern is not a regular expression' \
-    "$trigger" src --ignore '(' --ticks 1
+expect 'build_trigger: no pattern' 2 /dev/null "build_trigger: a pattern is not a regular expression: --ignore 'a(' at 1" \
+    "$trigger" src --ignore 'a(' --ticks 1
+expect 'build_trigger: a large pattern' 2 /dev/null "build_trigger: a pattern is too large: --ignore 'a{1000}{1000}'" \
+    "$trigger" src --ignore 'a{1000}{1000}' --ticks 1
+
+# The line of a burst can't be written, since the device is full, or the reader is gone.
+"$trigger" src --quiet 50 --timeout 50 --interval 10 --seconds 60 >/dev/full 2>err &
+running=$!
+watches src && : >src/full
+wait $running
+report 'build_trigger: a full device' "$([ $? = 6 ] && ! complains && echo yes)"
+: >err
+("$trigger" src --quiet 50 --timeout 50 --interval 10 --seconds 60 2>err; echo $? >status) | : &
+running=$!
+watches src && : >src/gone
+wait $running
+for _ in $(seq 600); do [ ! -s status ] || break; sleep 0.1; done
+report 'build_trigger: a reader that is gone' "$([ "$(cat status)" = 6 ] && ! complains && echo yes)"
 "$trigger" >out 2>err
 report 'build_trigger: no word' "$([ $? = 2 ] && [ ! -s out ] && [ -s err ] && echo yes)"

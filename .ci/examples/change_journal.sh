@@ -40,6 +40,7 @@ make_changes() {
 }
 
 # Three journals at once, of one folder. Patterns leave out the file b.o.
+begun=$(date +%s%N)
 "$journal" --timeout 100 --interval 20 --ticks 2000 --exclude '\.o$' watched >plain 2>complaints1 &
 first=$!
 "$journal" --timeout 100 --interval 20 --ticks 2000 --exclude '\.o$' --json watched >json 2>complaints2 &
@@ -58,23 +59,43 @@ report 'a journal in plain lines' $well
 
 # The same events as JSON, numbered from 1 without a gap.
 cat >wanted <<'END'
-{"flag":null,"info":null,"kind":"Create(File)","paths":["watched/a.txt"],"seq":N,"time":T,"tracker":null}
-{"flag":null,"info":null,"kind":"Create(Folder)","paths":["watched/notes"],"seq":N,"time":T,"tracker":null}
-{"flag":null,"info":null,"kind":"Create(File)","paths":["watched/two\tnames"],"seq":N,"time":T,"tracker":null}
-{"flag":null,"info":null,"kind":"Remove(Folder)","paths":["watched/notes"],"seq":N,"time":T,"tracker":null}
+{"at":W,"flag":null,"info":null,"kind":"Create(File)","paths":["watched/a.txt"],"seq":N,"time":T,"tracker":null}
+{"at":W,"flag":null,"info":null,"kind":"Create(Folder)","paths":["watched/notes"],"seq":N,"time":T,"tracker":null}
+{"at":W,"flag":null,"info":null,"kind":"Create(File)","paths":["watched/two\tnames"],"seq":N,"time":T,"tracker":null}
+{"at":W,"flag":null,"info":null,"kind":"Remove(Folder)","paths":["watched/notes"],"seq":N,"time":T,"tracker":null}
 END
-grep -v 'watched/end' json | sed 's/"seq":[0-9]*,"time":[0-9]*/"seq":N,"time":T/' >got
+grep -v 'watched/end' json | sed 's/"seq":[0-9]*,"time":[0-9]*/"seq":N,"time":T/; s/"at":"[^"]*"/"at":W/' >got
 cmp -s got wanted && cmp -s <(grep -o '"seq":[0-9]*' json) <(seq -f '"seq":%.0f' "$(wc -l <json)") || well=no
 report 'a journal in JSON' $well
+# Each line says when its batch came, by the wall clock: while the journal ran, and none before the one above it.
+report 'the time of day in a journal' "$(python3 - "$begun" "$(date +%s%N)" <<'END'
+import calendar, json, re, sys, time
+
+form = re.compile(r"(\d{4}-\d\d-\d\dT\d\d:\d\d:\d\d)\.(\d{9})Z")
+moments = [int(sys.argv[1])]
+for line in open("json"):
+    day, fraction = form.fullmatch(json.loads(line)["at"]).groups()
+    moments.append(calendar.timegm(time.strptime(day, "%Y-%m-%dT%H:%M:%S")) * 10**9 + int(fraction))
+moments.append(int(sys.argv[2]))
+print("yes" if len(moments) > 5 and moments == sorted(moments) else moments)
+END
+)"
 printf 'watched/%s\0' a.txt notes $'two\tnames' notes >wanted
 grep -zv 'watched/end' zero >got
 cmp -s got wanted || well=no
 report 'a journal of paths' $well
 
-# A pattern that is none, a folder that is not there, and a reader that is gone.
+# A pattern that is none, with its place in bytes, one that is too large, a folder that is not there, and a
+# device that is full.
 : >nothing
-expect 'a journal by no pattern' 2 nothing 'change_journal: a pattern is not a regular expression' \
-    "$journal" --include '(' watched
+expect 'a journal by no pattern' 2 nothing "change_journal: a pattern is not a regular expression: --include '(' at 0" \
+    "$journal" --include '(' --exclude a watched
+expect 'a journal without no pattern' 2 nothing "change_journal: a pattern is not a regular expression: --exclude 'é[z-a]' at 3" \
+    "$journal" --include a --exclude 'é[z-a]' watched
+expect 'a journal by a large pattern' 2 nothing "change_journal: a pattern is too large: --include 'a{1000}{1000}'" \
+    "$journal" --include 'a{1000}{1000}' watched
+"$journal" --timeout 50 --interval 20 --seconds 2 --initial watched >/dev/full 2>err
+report 'a journal on a full device' "$([ $? = 6 ] && ! complains err && echo yes)"
 expect 'a journal of a missing folder' 5 nothing 'change_journal: cannot watch missing: not there' "$journal" missing
 "$journal" --json -0 watched >out 2>err
 report 'a journal in two forms' "$([ $? = 2 ] && [ ! -s out ] && grep -q "cannot be used with" err && echo yes)"

@@ -6,7 +6,7 @@ mod bursts;
 
 use bursts::Bursts;
 use clap::{ArgMatches, Command};
-use journal_lines::{PathFilter, Patterns};
+use journal_lines::{PathFilter, Pattern, Patterns};
 use notify_debouncer_full::{DebouncerRuntime, RecursiveMode};
 use std::alloc::{AllocError, Global};
 use std::io::Write;
@@ -36,6 +36,17 @@ fn command_line<'a>(alloc: Global, name: &'a str) -> Result<Command<'a>, AllocEr
     line.arg(number(alloc, "quiet", "MS").help("a burst ends with such a pause [default: 500]"))
 }
 
+/// The pattern of what is left out, if a word gives one.
+fn ignored<'a>(matches: &ArgMatches<'a>) -> Option<Pattern<'a, 'a>> {
+    match matches.get_str("ignore") {
+        None => None,
+        Some(text) => Some(Pattern {
+            option: "--ignore",
+            text,
+        }),
+    }
+}
+
 /// Watches the folder, and prints a line for each burst.
 fn watch<R: DebouncerRuntime + AllocGlobal, O: Write + Drop, E: Write + Drop>(
     rt: R,
@@ -54,11 +65,14 @@ fn run<R: DebouncerRuntime + AllocGlobal, O: Write + Drop, E: Write + Drop>(
     rt: R,
     matches: &ArgMatches<'_>,
     out: O,
-    err: E,
+    mut err: E,
 ) -> Result<(), Fault> {
     let alloc = rt.alloc();
     let folder = folder_of(alloc, matches)?;
-    let patterns = Patterns::parse(alloc, None, matches.get_str("ignore"))?;
+    let patterns = match Patterns::parse(alloc, None, ignored(matches)) {
+        Ok(patterns) => patterns,
+        Err(fault) => return Err(fault.say(NAME, &mut err)),
+    };
     let filter: PathFilter<'_> = patterns.filter(alloc)?;
     let mut bursts = Bursts {
         alloc,

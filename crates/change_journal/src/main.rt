@@ -13,20 +13,24 @@ use std::io::Write;
 use std::process::ExitCode;
 use watch_loop::follow_folder;
 use watch_program::{Fault, folder_of, pace_of, place_of, run_with_words, write_missed};
-use words::{NAME, command_line, form_of};
+use words::{NAME, command_line, form_of, patterns_of};
 
 /// Watches the folder, and prints of it what passes the patterns.
 fn run<R: DebouncerRuntime + AllocGlobal, O: Write + Drop, E: Write + Drop>(
     rt: R,
     matches: &ArgMatches<'_>,
     out: O,
-    err: E,
+    mut err: E,
 ) -> Result<(), Fault> {
-    let (include, exclude) = (matches.get_str("include"), matches.get_str("exclude"));
-    let patterns = Patterns::parse(rt.alloc(), include, exclude)?;
+    let (include, exclude) = patterns_of(matches);
+    let patterns = match Patterns::parse(rt.alloc(), include, exclude) {
+        Ok(patterns) => patterns,
+        Err(fault) => return Err(fault.say(NAME, &mut err)),
+    };
     let filter: PathFilter<'_> = patterns.filter(rt.alloc())?;
     let place = place_of(matches);
     let mut printer = Printer {
+        clock: rt,
         alloc: rt.alloc(),
         place,
         journal: Journal::new(form_of(matches)),

@@ -1,6 +1,6 @@
 //! The words of the program.
 use clap::{Arg, ArgMatches, Command};
-use journal_lines::Form;
+use journal_lines::{Form, Pattern};
 use std::alloc::{AllocError, Global};
 use watch_program::{command, flag, option};
 
@@ -30,6 +30,22 @@ fn with_patterns<'a>(alloc: Global, line: Command<'a>) -> Result<Command<'a>, Al
     let include = option(alloc, "include", "RE").help("print events with such a path");
     let line = line.arg(include)?;
     line.arg(option(alloc, "exclude", "RE").help("leave out events with such paths alone"))
+}
+
+/// The patterns that the words give: of what is printed, and of what is left out.
+pub(crate) fn patterns_of<'a>(
+    matches: &ArgMatches<'a>,
+) -> (Option<Pattern<'a, 'a>>, Option<Pattern<'a, 'a>>) {
+    let include = pattern("--include", matches.get_str("include"));
+    let exclude = pattern("--exclude", matches.get_str("exclude"));
+    (include, exclude)
+}
+
+fn pattern<'a>(option: &'a str, text: Option<&'a str>) -> Option<Pattern<'a, 'a>> {
+    match text {
+        None => None,
+        Some(text) => Some(Pattern { option, text }),
+    }
 }
 
 /// The form that the words ask for.

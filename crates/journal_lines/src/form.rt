@@ -1,5 +1,5 @@
 //! The forms of a journal, and what an event is in each.
-ghost use Rattle.std.specs.Prelude.{◌≡◌, ◌++◌, Some, OnOk};
+ghost use Rattle.std.specs.Prelude.{◌≡◌, ◌++◌, None, Some, OnOk, option_map};
 ghost use Rattle.serde_json.specs.Read.{read};
 ghost use Rattle.journal_lines.specs.Json.{event_data, json_text};
 ghost use Rattle.journal_lines.specs.declared.form.Form.TheVariants.{Plain, Json};
@@ -22,26 +22,29 @@ pub enum Form {
     Zero,
 }
 
-/// Appends the event in this form. Its number is written in JSON alone.
+/// Appends the event in this form. Its number and when it was emitted are written in JSON alone.
 pub(crate) fn push_event(
     text: &mut Vec<u8>,
     form: Form,
+    at: Option<&str>,
     seq: u64,
     event: &DebouncedEvent,
 ) -> Result<(), AllocError>
-    ensures text { OnOk result (text.new.items ≡ text.old.items ++ entry_of form seq event.now) }
+    ensures text { OnOk result (text.new.items ≡ text.old.items
+        ++ entry_of form (option_map (λ s. s.now) at.entry) seq event.now) }
     ensures again { OnOk result (form ≡ Form.Json
-        → read (json_text seq event.now) ≡ Some (event_data seq event.now)) }
+        → read (json_text (option_map (λ s. s.now) at.entry) seq event.now)
+        ≡ Some (event_data (option_map (λ s. s.now) at.entry) seq event.now)) }
 {
     match form {
         Form::Plain => push_plain(text, event),
-        Form::Json => push_json(text, seq, event),
+        Form::Json => push_json(text, at, seq, event),
         Form::Zero => push_zero(text, event.event.paths.as_slice()),
     }
 }
 
 fn push_plain(text: &mut Vec<u8>, event: &DebouncedEvent) -> Result<(), AllocError>
-    ensures { OnOk result (text.new.items ≡ text.old.items ++ entry_of Plain 0 event.now) }
+    ensures { OnOk result (text.new.items ≡ text.old.items ++ entry_of Plain None 0 event.now) }
 {
     text.extend_from_slice(event.event.kind.word().as_bytes())?;
     push_tabs(text, event.event.paths.as_slice())?;
@@ -58,12 +61,18 @@ fn push_tabs(text: &mut Vec<u8>, paths: &[PathBuf]) -> Result<(), AllocError>
     Ok(())
 }
 
-fn push_json(text: &mut Vec<u8>, seq: u64, event: &DebouncedEvent) -> Result<(), AllocError>
-    ensures text { OnOk result (text.new.items ≡ text.old.items ++ entry_of Json seq event.now) }
-    ensures again { OnOk result (read (json_text seq event.now)
-        ≡ Some (event_data seq event.now)) }
+fn push_json(
+    text: &mut Vec<u8>,
+    at: Option<&str>,
+    seq: u64,
+    event: &DebouncedEvent,
+) -> Result<(), AllocError>
+    ensures text { OnOk result (text.new.items ≡ text.old.items
+        ++ entry_of Json (option_map (λ s. s.now) at.entry) seq event.now) }
+    ensures again { OnOk result (read (json_text (option_map (λ s. s.now) at.entry) seq event.now)
+        ≡ Some (event_data (option_map (λ s. s.now) at.entry) seq event.now)) }
 {
-    let line = json_line(*text.allocator(), seq, event)?;
+    let line = json_line(*text.allocator(), at, seq, event)?;
     text.extend_from_slice(line.as_bytes())?;
     Ok(text.push(b'\n')?)
 }

@@ -1,13 +1,13 @@
 //! The patterns of a filter.
-ghost use Rattle.std.specs.Prelude.{◌≡◌, ◌⊎◌, IfOk, IfErr, option_map};
+ghost use Rattle.std.specs.Prelude.{◌≡◌, Some, IfOk, IfErr, option_map};
 ghost use Rattle.regex.specs.Strings.{regex_pattern, matcher_pattern};
 ghost use Rattle.journal_lines.specs.KeptView.{IsPatternOf, filter_rule, patterns_rule};
-ghost use Rattle.watch_program.specs.declared.fault.Fault.TheVariants.{NotPattern, Memory};
+ghost use Rattle.journal_lines.specs.Patterns.{IsFaultOf, IsFaultOfOne};
 
 use crate::filter::PathFilter;
+use crate::pattern::{Pattern, PatternFault};
 use regex::{Error, Matcher, Regex};
 use std::alloc::{AllocError, Global};
-use watch_program::Fault;
 
 /// Two patterns, each of which may be missing: a path is wanted if it matches the first and doesn't
 /// match the second.
@@ -19,16 +19,16 @@ pub struct Patterns {
 
 impl Patterns {
     /// Reads the patterns.
-    pub fn parse(
+    pub fn parse<'o, 't>(
         alloc: Global,
-        include: Option<&str>,
-        exclude: Option<&str>,
-    ) -> Result<Patterns, Fault>
+        include: Option<Pattern<'o, 't>>,
+        exclude: Option<Pattern<'o, 't>>,
+    ) -> Result<Patterns, PatternFault<'o, 't>>
         ensures include { IfOk result (λ p.
-            IsPatternOf (option_map (λ s. s.now) include.entry) p.include) }
+            IsPatternOf (option_map (λ s. s.text.now) include.entry) p.include) }
         ensures exclude { IfOk result (λ p.
-            IsPatternOf (option_map (λ s. s.now) exclude.entry) p.exclude) }
-        ensures err { IfErr result (λ e. (e ≡ NotPattern) ⊎ (e ≡ Memory)) }
+            IsPatternOf (option_map (λ s. s.text.now) exclude.entry) p.exclude) }
+        ensures err { IfErr result (IsFaultOfOne include.entry exclude.entry) }
     {
         Ok(Patterns {
             include: pattern_of(alloc, include)?,
@@ -47,17 +47,30 @@ impl Patterns {
     }
 }
 
-fn pattern_of(alloc: Global, text: Option<&str>) -> Result<Option<Regex>, Fault>
-    ensures ok { IfOk result (IsPatternOf (option_map (λ s. s.now) text.entry)) }
-    ensures err { IfErr result (λ e. (e ≡ NotPattern) ⊎ (e ≡ Memory)) }
+fn pattern_of<'o, 't>(
+    alloc: Global,
+    given: Option<Pattern<'o, 't>>,
+) -> Result<Option<Regex>, PatternFault<'o, 't>>
+    ensures ok { IfOk result (IsPatternOf (option_map (λ s. s.text.now) given.entry)) }
+    ensures err { IfErr result (λ e. (pattern : _) × (given.entry ≡ Some pattern)
+        × IsFaultOf pattern e) }
 {
-    let Some(text) = text else {
-        return Ok(None);
-    };
-    match Regex::new(alloc, text) {
-        Ok(pattern) => Ok(Some(pattern)),
-        Err(Error::OutOfMemory) => Err(Fault::Memory),
-        Err(_) => Err(Fault::NotPattern),
+    match given {
+        None => Ok(None),
+        Some(pattern) => Ok(Some(read(alloc, pattern)?)),
+    }
+}
+
+/// Reads one pattern.
+fn read<'o, 't>(alloc: Global, pattern: Pattern<'o, 't>) -> Result<Regex, PatternFault<'o, 't>>
+    ensures ok { IfOk result (λ regex. IsPatternOf (Some pattern.entry.text.now) (Some regex)) }
+    ensures err { IfErr result (IsFaultOf pattern.entry) }
+{
+    match Regex::new(alloc, pattern.text) {
+        Ok(regex) => Ok(regex),
+        Err(Error::Syntax(error)) => Err(PatternFault::Wrong(pattern, error.span.start)),
+        Err(Error::OutOfMemory) => Err(PatternFault::Memory),
+        Err(Error::CompiledTooBig | Error::Internal) => Err(PatternFault::TooLarge(pattern)),
     }
 }
 

@@ -16,10 +16,11 @@ fault_status OutputFailed = 6
 fault_status NoThread = 8
 fault_status Incomplete = 1
 
--- the fault's line, for a program that watches this; there is none if the output failed
+-- the fault's line, for a program that watches this; there is none if the output failed, or if the line of a
+-- pattern was written already
 abbrev pub fault_line : List ℕ → List ℕ → Fault → List ℕ
 fault_line program watched NotUtf8 = program ++ codes ": an argument is not UTF-8\n"
-fault_line program watched NotPattern = program ++ codes ": a pattern is not a regular expression\n"
+fault_line program watched NotPattern = []
 fault_line program watched Memory = program ++ codes ": out of memory\n"
 fault_line program watched NotThere = program ++ (codes ": cannot watch " ++ (watched ++ codes ": not there\n"))
 fault_line program watched NotApart =

@@ -15,7 +15,7 @@ use whole_output::OutputFailed;
 pub enum Fault {
     /// A word after the program's name isn't UTF-8.
     NotUtf8,
-    /// A pattern isn't a regular expression.
+    /// A pattern isn't a regular expression. Who read it has said so, with the pattern and the place.
     NotPattern,
     /// An allocation failed.
     Memory,
@@ -70,16 +70,16 @@ impl Fault {
         }
     }
 
-    /// Writes the fault's line, for the program's name and what it watches. If the output failed, there
-    /// is none.
+    /// Writes the fault's line, for the program's name and what it watches. There is none if the output
+    /// failed, or a pattern isn't one.
     pub fn write<E: Write>(self, program: &str, watched: &str, err: &mut E) -> io::Result<()>
         ensures silent { self ≡ Fault.OutputFailed → E.contents err.new ≡ E.contents err.old }
+        ensures pattern { self ≡ Fault.NotPattern → E.contents err.new ≡ E.contents err.old }
         ensures line { OnOk result (Appends (E.contents err.old) (E.contents err.new)
             (fault_line program.now watched.now self)) }
     {
         match self {
             Fault::NotUtf8 => writeln!(err, "{program}: an argument is not UTF-8"),
-            Fault::NotPattern => writeln!(err, "{program}: a pattern is not a regular expression"),
             Fault::Memory => writeln!(err, "{program}: out of memory"),
             Fault::NotThere => writeln!(err, "{program}: cannot watch {watched}: not there"),
             Fault::NotApart => {
@@ -89,7 +89,7 @@ impl Fault {
                 )
             }
             Fault::CannotWatch => writeln!(err, "{program}: cannot watch {watched}"),
-            Fault::OutputFailed => Ok(()),
+            Fault::NotPattern | Fault::OutputFailed => Ok(()),
             Fault::NoThread => writeln!(err, "{program}: cannot start a thread"),
             Fault::Incomplete => writeln!(err, "{program}: not all could be done"),
         }

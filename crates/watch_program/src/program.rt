@@ -12,9 +12,9 @@ use std::io::Write;
 use std::rt::Env;
 
 /// Reads the program's words by its command line, and calls `run` with them, once. Returns the exit
-/// status: that of the run, or 0 for help, 2 if the words don't fit and 4 if an allocation failed. In these
-/// three cases what there is to say is printed, and `run` isn't called. The line of a fault is written to
-/// `err`.
+/// status: that of the run, or 0 for help and the version, 2 if the words don't fit and 4 if an allocation
+/// failed. In these three cases what there is to say is printed, and `run` isn't called. The line of a fault
+/// is written to `err`.
 pub fn run_with_words<
     R: Env + AllocGlobal + Print + Eprint,
     E: Write,

@@ -14,6 +14,9 @@ use std::alloc::{AllocError, Global};
 use std::rt::Env;
 use std::{env, io};
 
+/// The version of each program, which is that of the Rust crate.
+const VERSION: &str = "0.6.0";
+
 /// Returns a command line with one place, as `DIR`, and the options `--timeout`, `--interval`,
 /// `--seconds` and `--ticks`.
 pub fn command<'a>(
@@ -54,11 +57,11 @@ fn with_life<'a>(alloc: Global, line: Command<'a>) -> Result<Command<'a>, AllocE
     with(with(line, seconds)?, ticks)
 }
 
-/// A command line without a word.
+/// A command line without a word, but for `--help` and `--version`.
 fn without_words<'a>(alloc: Global, name: &'a str, about: &'a str) -> Command<'a>
     ensures { ids_of result ≡ [] }
 {
-    Command::new(alloc, name).about(about)
+    Command::new(alloc, name).about(about).version(VERSION)
 }
 
 /// Adds a word.
@@ -139,8 +142,8 @@ pub fn words_of<R: Env + AllocGlobal>(rt: &R) -> Result<Vec<String>, Fault>
     }
 }
 
-/// Reads the words by the command line. If they don't fit, or ask for help, what there is to say was
-/// printed, and the program ends with this status.
+/// Reads the words by the command line. If they don't fit, or ask for help or the version, what there is to
+/// say was printed, and the program ends with this status.
 pub fn matches_of<'a, R: Print + Eprint>(
     rt: &R,
     command: Result<Command<'a>, AllocError>,
@@ -159,14 +162,15 @@ pub fn matches_of<'a, R: Print + Eprint>(
     }
 }
 
-/// Prints what there is to say, and returns the status: 0 for help, 4 if an allocation failed, and else 2.
+/// Prints what there is to say, and returns the status: 0 for help and the version, 4 if an allocation
+/// failed, and else 2.
 fn print<R: Print + Eprint>(rt: &R, error: &Error) -> u8
     ensures { (result ≡ 0) ⊎ ((result ≡ 2) ⊎ (result ≡ 4)) }
 {
     let _ = error.print(rt);
     match error.kind() {
         WordFault::OutOfMemory => 4,
-        WordFault::DisplayHelp => 0,
+        WordFault::DisplayHelp | WordFault::DisplayVersion => 0,
         _ => 2,
     }
 }

@@ -1,0 +1,38 @@
+# shellcheck shell=bash disable=SC2154
+# A watcher's errors under each program of docs/examples that goes on watching: said with the program's name, and
+# what changed meanwhile is seen once the path is there again.
+mkdir -p errors && cd errors || return
+
+# says FILE PATTERN: the file has such a line, within a minute. The index looks only when it is asked.
+says() {
+    for _ in $(seq 600); do
+        ! grep -qE -- "$2" "$1" || return 0
+        [ $name != document_index ] || echo 8080 >&3
+        sleep 0.1
+    done
+    false
+}
+
+for name in build_trigger change_journal config_reloader document_index; do
+    program=$top/crates/$name/out/$name
+    rm -rf d l queries && mkdir -p d/x && ln -s d l && mkfifo queries
+    echo 'port = 80' >d/x/f.toml
+    place=l/x
+    seen='f\.toml$'
+    case $name in
+        config_reloader) place=l/x/f.toml && seen='port = 8080' ;;
+        document_index) seen='l/x/f\.toml' ;;
+    esac
+    : >err
+    "$program" $place --timeout 50 --interval 20 --seconds 60 <queries >out 2>err &
+    running=$!
+    exec 3>queries
+    well=no
+    # The path leads round in a circle, and then no longer.
+    says err "^$name: watching $place$" && ln -sfn l l && says err "^$name: Io$" &&
+        echo 'port = 8080' >d/x/f.toml && ln -sfn d l && says out "$seen" && well=yes
+    exec 3>&-
+    kill $running 2>/dev/null
+    wait $running 2>/dev/null
+    report "$name: a watcher's errors are said" "$(! grep -qvE "^$name: (watching $place|Io)$" err && echo $well)"
+done

@@ -1,0 +1,55 @@
+# shellcheck shell=bash disable=SC2154
+# The words of the five programs of docs/examples: what --help and --version say, and what isn't taken.
+mkdir -p words/watched words/copy && cd words || return
+echo 'port = 80' >watched/app.toml
+
+# is_refused WORD..: the program ends with status 2, prints nothing, and says something on standard error.
+is_refused() {
+    "$program" "$@" >out 2>err
+    [ $? = 2 ] && [ ! -s out ] && [ -s err ]
+}
+
+for name in build_trigger change_journal config_reloader document_index folder_mirror; do
+    program=$top/crates/$name/out/$name
+    places=(watched)
+    own=()
+    numbers=(timeout interval seconds ticks)
+    case $name in
+        build_trigger) own=(ignore) && numbers+=(quiet) ;;
+        change_journal) own=(initial json include exclude) ;;
+        config_reloader) places=(watched/app.toml) ;;
+        document_index) own=(query) && places+=(--query none) ;;
+        folder_mirror) own=(delete dry-run) && places+=(copy) ;;
+    esac
+
+    "$program" --help >out 2>err
+    well=$([ $? = 0 ] && [ ! -s err ] && echo yes)
+    for word in "${own[@]}" "${numbers[@]}" help version; do
+        # Each has a text beside it, or below it.
+        grep -A 1 -E -- "--$word( <[A-Z]+>)?( |$)" out | tr '\n' ' ' | grep -qE -- "--$word( <[A-Z]+>)? +[A-Za-z]" || well=no
+    done
+    report "$name: --help has each word" "$well"
+    echo "$name 0.6.0" >wanted
+    expect "$name: --version" 0 wanted '' "$program" --version
+    expect "$name: -V" 0 wanted '' "$program" -V
+
+    well=yes
+    for number in "${numbers[@]}"; do
+        for value in 0 100000000 18446744073709551616 -1 1.5 ten ''; do
+            is_refused "${places[@]}" "--$number=$value" && grep -qF -- "--$number" err || well=no
+        done
+        is_refused "${places[@]}" "--$number" || well=no
+    done
+    report "$name: numbers that are none, or too small or large" $well
+    case $name in
+        config_reloader) printf 'loaded\n  port = 80\n' ;;
+        folder_mirror) echo copy watched/app.toml ;;
+    esac >wanted
+    expect "$name: the largest numbers" 0 wanted "$name: watching ${places[0]}" \
+        "$program" "${places[@]}" --timeout 99999999 --interval 99999999 --ticks 1
+    well=no
+    is_refused "${places[@]}" --nothing && is_refused && is_refused --ticks 1 && is_refused "${places[@]}" one more &&
+        is_refused "${places[@]}" --ticks 1 --ticks 2 && well=yes
+    report "$name: words that don't fit" $well
+    expect "$name: a word that is not UTF-8" 2 /dev/null "$name: an argument is not UTF-8" "$program" $'\xff'
+done
