@@ -1,0 +1,19 @@
+//! Hints that are read: each is a path, on a line of its own or with a zero byte after it.
+//!
+//! ```text
+//! let lines = HintLines::new(rt.alloc(), Ends::Lines)?;
+//! read_hints(&mut rt.reader(), lines, &mut sink)?;
+//! ```
+//!
+//! The sink is told of each line, and finds by a [`HintedFolder`] which path it names.
+#![tactic(auto)]
+
+mod folder;
+mod lines;
+mod reading;
+#[cfg(test)]
+mod tests;
+
+pub use folder::HintedFolder;
+pub use lines::{Ends, HintLines};
+pub use reading::{TakesHints, read_hints};
