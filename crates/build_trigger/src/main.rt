@@ -15,7 +15,7 @@ use trigger_lines::Trigger;
 use watch_loop::follow_folder;
 use watch_program::{
     Fault, Pace, command, folder_of, milliseconds_of, number, option, pace_of, run_with_words,
-    write_missed,
+    with_until_eof, write_missed,
 };
 
 /// The program's name.
@@ -29,7 +29,7 @@ const QUIET: u64 = 500;
 
 /// The command line.
 fn command_line<'a>(alloc: Global, name: &'a str) -> Result<Command<'a>, AllocError> {
-    let line = command(alloc, name, ABOUT, "DIR")?;
+    let line = with_until_eof(alloc, command(alloc, name, ABOUT, "DIR")?)?;
     let line = line.arg(option(alloc, "ignore", "RE").help(
         "leave out events with such paths alone",
     ))?;
@@ -50,7 +50,7 @@ fn ignored<'a>(matches: &ArgMatches<'a>) -> Option<Pattern<'a, 'a>> {
 /// Watches the folder, and prints a line for each burst.
 fn watch<R: DebouncerRuntime + AllocGlobal, O: Write + Drop, E: Write + Drop>(
     rt: R,
-    pace: Pace,
+    pace: Pace<'_>,
     bursts: &mut Bursts<'_, O, E>,
 ) -> Result<(), Fault> {
     let folder = bursts.folder;

@@ -2,7 +2,7 @@
 use clap::{Arg, ArgMatches, Command};
 use journal_lines::{Form, Pattern};
 use std::alloc::{AllocError, Global};
-use watch_program::{command, flag, option};
+use watch_program::{command, flag, option, with_until_eof};
 
 /// The program's name.
 pub(crate) const NAME: &str = "change_journal";
@@ -10,6 +10,7 @@ pub(crate) const NAME: &str = "change_journal";
 /// The command line.
 pub(crate) fn command_line<'a>(alloc: Global, name: &'a str) -> Result<Command<'a>, AllocError> {
     let line = command(alloc, name, "Prints the changes below a folder.", "DIR")?;
+    let line = with_until_eof(alloc, line)?;
     let initial = flag(alloc, "initial").long("initial");
     let line = line.arg(initial.help("print what is there first, as created"))?;
     let line = line.arg(flag(alloc, "json").long("json").help("print JSON objects"))?;

@@ -12,7 +12,9 @@ use std::alloc::{AllocError, Global};
 use std::io::Write;
 use std::process::ExitCode;
 use watch_loop::follow_folder;
-use watch_program::{Fault, Pace, command, pace_of, place_of, run_with_words, write_missed};
+use watch_program::{
+    Fault, Pace, command, pace_of, place_of, run_with_words, with_until_eof, write_missed,
+};
 
 /// The program's name.
 const NAME: &str = "config_reloader";
@@ -22,7 +24,7 @@ const ABOUT: &str = "Reads a TOML file when it changes.";
 
 /// The command line.
 fn command_line<'a>(alloc: Global, name: &'a str) -> Result<Command<'a>, AllocError> {
-    command(alloc, name, ABOUT, "FILE")
+    with_until_eof(alloc, command(alloc, name, ABOUT, "FILE")?)
 }
 
 /// Reads the file, and then whenever its folder's reports may be about it. If events were missed, it is
@@ -30,7 +32,7 @@ fn command_line<'a>(alloc: Global, name: &'a str) -> Result<Command<'a>, AllocEr
 fn watch<R: DebouncerRuntime + AllocGlobal, O: Write + Drop, E: Write + Drop>(
     rt: R,
     folder: &PathBuf,
-    pace: Pace,
+    pace: Pace<'_>,
     follower: &mut Follower<R, O, E>,
 ) -> Result<(), Fault> {
     let missed = follow_folder(rt, folder, RecursiveMode::NonRecursive, pace, follower)?;

@@ -13,7 +13,7 @@ use std::alloc::{AllocError, Global};
 use std::io::Write;
 use std::process::ExitCode;
 use watch_loop::FolderReports;
-use watch_program::{Fault, command, folder_of, option, pace_of, run_with_words};
+use watch_program::{Fault, command, folder_of, hints_of, option, pace_of, run_with_words};
 
 /// The program's name.
 const NAME: &str = "document_index";
@@ -76,10 +76,19 @@ fn serve<R: DebouncerRuntime + AllocGlobal + Input, O: Write + Drop, E: Write + 
 ) -> Result<(), Fault> {
     let folder = &service.documents.folder;
     // The folder is watched first, so that no change after the first look is missed.
-    let reports = FolderReports::start(rt, folder, RecursiveMode::Recursive, pace_of(matches))?;
+    let pace = pace_of(matches);
+    let reports = FolderReports::start(rt, folder, RecursiveMode::Recursive, pace)?;
     answer(rt, matches, service, &reports)?;
     service.say_missed(reports.finish()?.missed);
     Ok(())
+}
+
+/// Refuses hints by standard input, which has the queries.
+fn check_words(matches: &ArgMatches<'_>) -> Result<(), Fault> {
+    match hints_of(matches) {
+        Some(words) if words.is_input() => Err(Fault::InputTaken),
+        _ => Ok(()),
+    }
 }
 
 /// Serves the folder that the words name.
@@ -89,6 +98,7 @@ fn run<R: DebouncerRuntime + AllocGlobal + Input, O: Write + Drop, E: Write + Dr
     out: O,
     err: E,
 ) -> Result<(), Fault> {
+    check_words(matches)?;
     let documents = Documents::new(rt, folder_of(rt.alloc(), matches)?);
     let mut service = Service::new(rt.alloc(), documents, out, err);
     serve(rt, matches, &mut service)

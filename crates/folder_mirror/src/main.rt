@@ -18,7 +18,9 @@ use std::fs;
 use std::io::Write;
 use std::process::ExitCode;
 use watch_loop::follow_folder;
-use watch_program::{Fault, Pace, command, flag, folder_of, pace_of, place_of, run_with_words};
+use watch_program::{
+    Fault, Pace, command, flag, folder_of, pace_of, place_of, run_with_words, with_until_eof,
+};
 
 /// The program's name.
 const NAME: &str = "folder_mirror";
@@ -27,6 +29,7 @@ const NAME: &str = "folder_mirror";
 fn command_line<'a>(alloc: Global, name: &'a str) -> Result<Command<'a>, AllocError> {
     let line = command(alloc, name, "Keeps the folder TO a copy of FROM.", "FROM")?;
     let line = line.arg(Arg::new(alloc, "to").value_name("TO").required(true))?;
+    let line = with_until_eof(alloc, line)?;
     let delete = flag(alloc, "delete").long("delete");
     let line = line.arg(delete.help("remove what TO has and FROM never had"))?;
     let dry_run = flag(alloc, "dry-run").long("dry-run");
@@ -73,7 +76,7 @@ fn make_folder<R: DebouncerRuntime + AllocGlobal>(rt: &R, folder: &str) -> Resul
 fn keep<R: DebouncerRuntime + AllocGlobal, O: Write + Drop, E: Write + Drop>(
     rt: R,
     mirror: &mut Mirror<R, O, E>,
-    pace: Pace,
+    pace: Pace<'_>,
 ) -> Result<(), Fault> {
     let from = mirror.from().clone()?;
     let pace = Pace {

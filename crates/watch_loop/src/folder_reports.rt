@@ -1,15 +1,17 @@
 //! What is reported of a folder.
 ghost use Rattle.std.specs.Prelude.{◌≡◌, ◌≢◌, ◌⊎◌, None, IfErr, IfSome};
 ghost use Rattle.std.specs.Duration.{as_nanos};
-ghost use Rattle.watch_program.specs.declared.fault.Fault.TheVariants.{CannotWatch, Memory, NoThread, NotThere};
+ghost use Rattle.watch_program.specs.declared.fault.Fault.TheVariants.{CannotWatch, Memory, NoHints, NoThread, NotThere};
 
+use crate::hint_reader::{check_hints, start_hints, start_skipping};
+use crate::input_end::InputEnd;
 use notify_debouncer_full::{
     Config, DebounceEventResult, DebouncerRuntime, LastReports, PathBuf, RecommendedReports,
     RecursiveMode, Reports,
 };
 use std::sync::Wait;
 use std::time::{Clock, Duration, Instant};
-use watch_program::{Fault, Pace};
+use watch_program::{Fault, HintWords, Pace};
 
 /// The reports of a folder, until a program's life is over.
 #[derive(Drop)]
@@ -17,6 +19,7 @@ pub struct FolderReports<R: DebouncerRuntime> {
     rt: R,
     reports: RecommendedReports<R>,
     end: Option<Instant>,
+    input: InputEnd,
 }
 
 /// A program that follows the reports of a folder.
@@ -50,29 +53,76 @@ pub struct Rest {
 }
 
 impl<R: DebouncerRuntime + AllocGlobal> FolderReports<R> {
-    /// Watches the folder from now on. What is there already is reported if `pace.initial` says so, as
-    /// created. The life begins with this call.
+    /// Watches the folder from now on, and reads hints if `pace.hints` says so. What is there already is
+    /// reported if `pace.initial` says so, as created. The life begins with this call.
     pub fn start(
         rt: R,
         folder: &PathBuf,
         mode: RecursiveMode,
-        pace: Pace,
+        pace: Pace<'_>,
     ) -> Result<FolderReports<R>, Fault>
         ensures err { IfErr result (λ e. ((e ≡ Memory) ⊎ (e ≡ NotThere))
-            ⊎ ((e ≡ CannotWatch) ⊎ (e ≡ NoThread))) }
+            ⊎ ((e ≡ CannotWatch) ⊎ ((e ≡ NoThread) ⊎ (e ≡ NoHints)))) }
     {
+        check_hints(&rt, pace.hints)?;
         let mut started = begin(rt, pace)?;
-        match started.reports.watch(folder, mode) {
-            Ok(()) => Ok(started),
-            Err(error) => Err(Fault::of_watch(&error)),
+        if let Err(error) = started.reports.watch(folder, mode) {
+            return Err(Fault::of_watch(&error));
+        }
+        started.start_reading(folder, pace)?;
+        Ok(started)
+    }
+
+    /// Starts the thread that reads hints, or standard input to its end, if the program wants one. Hints that
+    /// come by standard input have its end.
+    fn start_reading(&self, folder: &PathBuf, pace: Pace<'_>) -> Result<(), Fault>
+        ensures err { IfErr result (λ e. (e ≡ Memory) ⊎ (e ≡ NoThread)) }
+    {
+        match pace.hints {
+            Some(words) if words.is_input() => {
+                self.read_hints(folder, words, self.input.share()?)
+            }
+            Some(words) => {
+                self.read_hints(folder, words, InputEnd::new(self.rt.alloc(), false)?)?;
+                self.skip_input(pace.until_eof)
+            }
+            None => self.skip_input(pace.until_eof),
         }
     }
 
-    /// Waits for the next report. `None` says that the life is over, or that the clock can't be read.
+    /// Starts the thread that reads hints.
+    fn read_hints(
+        &self,
+        folder: &PathBuf,
+        words: HintWords<'_>,
+        input: InputEnd,
+    ) -> Result<(), Fault>
+        ensures err { IfErr result (λ e. (e ≡ Memory) ⊎ (e ≡ NoThread)) }
+    {
+        match self.reports.debouncer().watcher().hints() {
+            Ok(hints) => start_hints(self.rt, self.rt.alloc(), folder, words, hints, input),
+            Err(_) => Err(Fault::Memory),
+        }
+    }
+
+    /// Starts the thread that passes over standard input, if its end is the program's.
+    fn skip_input(&self, until_eof: bool) -> Result<(), Fault>
+        ensures err { IfErr result (λ e. (e ≡ Memory) ⊎ (e ≡ NoThread)) }
+    {
+        if !until_eof {
+            return Ok(());
+        }
+        start_skipping(self.rt, self.rt.alloc(), self.input.share()?)
+    }
+}
+
+impl<R: DebouncerRuntime + AllocGlobal> FolderReports<R> {
+    /// Waits for the next report. `None` says that the life is over, as by the end of the input, or that the
+    /// clock can't be read.
     pub fn next(&self) -> Option<DebounceEventResult> {
         match self.end {
-            None => self.reports.next(),
-            Some(end) => self.reports.next_within(left(&self.rt, end)?),
+            None => self.wait(None),
+            Some(end) => self.wait(Some(left(&self.rt, end)?)),
         }
     }
 
@@ -82,11 +132,36 @@ impl<R: DebouncerRuntime + AllocGlobal> FolderReports<R> {
             None => pause,
             Some(end) => pause.min(left(&self.rt, end)?),
         };
-        self.reports.next_within(pause)
+        self.wait(Some(pause))
+    }
+
+    /// Waits for the next report, so long at most if that is said, and no longer than the input goes on.
+    fn wait(&self, pause: Option<Duration>) -> Option<DebounceEventResult> {
+        let mut left = pause;
+        for _ in self.rt.forever() {
+            if self.input.has_come() {
+                return None;
+            }
+            let Some(nap) = self.input.nap(left) else {
+                return self.reports.next();
+            };
+            let report = self.reports.next_within(nap);
+            if report.is_some() || left == Some(nap) {
+                return report;
+            }
+            left = match left {
+                Some(left) => Some(left.saturating_sub(nap)),
+                None => None,
+            };
+        }
+        None
     }
 
     /// Returns whether the life is over, or the clock can't be read.
     fn is_over(&self) -> bool {
+        if self.input.has_come() {
+            return true;
+        }
         match self.end {
             None => false,
             Some(end) => left(&self.rt, end).is_none(),
@@ -135,7 +210,7 @@ pub fn follow_folder<R: DebouncerRuntime + AllocGlobal, S: TakesReports>(
     rt: R,
     folder: &PathBuf,
     mode: RecursiveMode,
-    pace: Pace,
+    pace: Pace<'_>,
     program: &mut S,
 ) -> Result<u64, Fault> {
     let reports = FolderReports::start(rt, folder, mode, pace)?;
@@ -149,15 +224,24 @@ pub fn follow_folder<R: DebouncerRuntime + AllocGlobal, S: TakesReports>(
 }
 
 /// Starts the debouncer, which watches nothing yet.
-fn begin<R: DebouncerRuntime + AllocGlobal>(rt: R, pace: Pace) -> Result<FolderReports<R>, Fault>
+fn begin<R: DebouncerRuntime + AllocGlobal>(
+    rt: R,
+    pace: Pace<'_>,
+) -> Result<FolderReports<R>, Fault>
     ensures err { IfErr result (λ e. (e ≡ Memory) ⊎ (e ≡ NoThread)) }
 {
     let config = Config::default()
         .with_poll_interval(pace.interval)
         .with_initial_events(pace.initial);
     let end = end_of(&rt, pace.life);
+    let input = InputEnd::new(rt.alloc(), pace.until_eof)?;
     match Reports::start(rt, rt.alloc(), pace.timeout, None, config) {
-        Ok(reports) => Ok(FolderReports { rt, reports, end }),
+        Ok(reports) => Ok(FolderReports {
+            rt,
+            reports,
+            end,
+            input,
+        }),
         Err(error) => Err(Fault::of(&error, Fault::NoThread)),
     }
 }

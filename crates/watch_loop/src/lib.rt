@@ -10,6 +10,8 @@
 #![tactic(auto)]
 
 mod folder_reports;
+mod hint_reader;
+mod input_end;
 mod whole_program;
 
 pub use folder_reports::{FolderReports, Rest, TakesReports, follow_folder};

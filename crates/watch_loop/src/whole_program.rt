@@ -2,13 +2,14 @@
 ghost use Rattle.std.specs.Prelude.{◌≡◌, ◌⊎◌};
 
 use crate::folder_reports::{TakesReports, follow_folder};
-use clap::ArgMatches;
+use clap::{ArgMatches, Command};
 use notify_debouncer_full::{DebounceEventResult, DebouncedEvent, DebouncerRuntime, RecursiveMode};
+use std::alloc::{AllocError, Global};
 use std::io::Write;
 use std::rt::Env;
 use watch_program::{
-    Fault, Pace, command, end, folder_of, matches_of, pace_of, place_of, words_of, write_errors,
-    write_missed, write_watching,
+    Fault, Pace, command, end, folder_of, matches_of, pace_of, place_of, with_until_eof, words_of,
+    write_errors, write_missed, write_watching,
 };
 
 /// What a program does with the batches of a folder.
@@ -22,7 +23,8 @@ pub trait TakesBatches: Drop {
     fn take(&mut self, batch: Vec<DebouncedEvent>) -> Result<(), Fault>;
 }
 
-/// Runs a program whose words are `DIR`, `--timeout`, `--interval`, `--seconds`, `--ticks` and `--help`:
+/// Runs a program whose words are `DIR`, `--timeout`, `--interval`, `--hints`, `--hints-zero`, `--seconds`,
+/// `--ticks`, `--until-eof` and `--help`:
 /// watches the folder with all below it, says so on `err` (`NAME: watching DIR`), and hands on each batch
 /// until the program's life is over, and then, as one batch, all that waits. Returns the exit status.
 /// Faults, errors of the watcher and the number of lost events are written to `err`; what there is to say of
@@ -39,8 +41,7 @@ pub fn run_program<
         Ok(words) => words,
         Err(fault) => return end(Err(fault), name, "", &mut err),
     };
-    let line = command(rt.alloc(), name, about, "DIR");
-    let matches = match matches_of(&rt, line, words.as_slice()) {
+    let matches = match matches_of(&rt, line_of(rt.alloc(), name, about), words.as_slice()) {
         Ok(matches) => matches,
         Err(status) => return status,
     };
@@ -53,6 +54,11 @@ pub fn run_program<
     };
     let run = watch(rt, &matches, &mut printer);
     end(run, name, place, &mut printer.err)
+}
+
+/// The command line.
+fn line_of<'a>(alloc: Global, name: &'a str, about: &'a str) -> Result<Command<'a>, AllocError> {
+    with_until_eof(alloc, command(alloc, name, about, "DIR")?)
 }
 
 /// A program, what it watches, and where its errors are written to.

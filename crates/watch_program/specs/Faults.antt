@@ -2,7 +2,7 @@
 use Rattle.std.specs.Prelude.{ℕ, List, [], ◌∷◌, ◌++◌, codes, Result, Ok, Err}
 use Rattle.notify_paths.specs.Errors.{ErrorKindValue, MemoryKind, PathNotFoundKind}
 use Rattle.watch_program.specs.declared.fault.Fault.{Fault}
-use Rattle.watch_program.specs.declared.fault.Fault.TheVariants.{NotUtf8, NotPattern, Memory, NotThere, NotApart, CannotWatch, OutputFailed, NoThread, Incomplete}
+use Rattle.watch_program.specs.declared.fault.Fault.TheVariants.{NotUtf8, NotPattern, Memory, NotThere, NotApart, CannotWatch, NoHints, InputTaken, OutputFailed, NoThread, Incomplete}
 
 -- the exit status of a program that ends by this fault
 abbrev pub fault_status : Fault → ℕ
@@ -12,6 +12,8 @@ fault_status Memory = 4
 fault_status NotThere = 5
 fault_status NotApart = 5
 fault_status CannotWatch = 5
+fault_status NoHints = 5
+fault_status InputTaken = 2
 fault_status OutputFailed = 6
 fault_status NoThread = 8
 fault_status Incomplete = 1
@@ -26,6 +28,8 @@ fault_line program watched NotThere = program ++ (codes ": cannot watch " ++ (wa
 fault_line program watched NotApart =
     program ++ (codes ": " ++ (watched ++ codes " and its copy lie one in the other\n"))
 fault_line program watched CannotWatch = program ++ (codes ": cannot watch " ++ (watched ++ (10 ∷ [])))
+fault_line program watched NoHints = program ++ codes ": the file of hints is not there\n"
+fault_line program watched InputTaken = program ++ codes ": hints cannot come by standard input\n"
 fault_line program watched OutputFailed = []
 fault_line program watched NoThread = program ++ codes ": cannot start a thread\n"
 fault_line program watched Incomplete = program ++ codes ": not all could be done\n"

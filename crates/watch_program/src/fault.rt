@@ -25,6 +25,10 @@ pub enum Fault {
     NotApart,
     /// The folder or file can't be watched.
     CannotWatch,
+    /// The file of hints isn't there.
+    NoHints,
+    /// Hints are to be read from standard input, which the program reads for something else.
+    InputTaken,
     /// The output can't be written, for instance since its reader is gone.
     OutputFailed,
     /// A thread can't be started.
@@ -61,9 +65,9 @@ impl Fault {
         ensures { result ≡ fault_status self }
     {
         match self {
-            Fault::NotUtf8 | Fault::NotPattern => 2,
+            Fault::NotUtf8 | Fault::NotPattern | Fault::InputTaken => 2,
             Fault::Memory => 4,
-            Fault::NotThere | Fault::NotApart | Fault::CannotWatch => 5,
+            Fault::NotThere | Fault::NotApart | Fault::CannotWatch | Fault::NoHints => 5,
             Fault::OutputFailed => 6,
             Fault::NoThread => 8,
             Fault::Incomplete => 1,
@@ -89,6 +93,8 @@ impl Fault {
                 )
             }
             Fault::CannotWatch => writeln!(err, "{program}: cannot watch {watched}"),
+            Fault::NoHints => writeln!(err, "{program}: the file of hints is not there"),
+            Fault::InputTaken => writeln!(err, "{program}: hints cannot come by standard input"),
             Fault::NotPattern | Fault::OutputFailed => Ok(()),
             Fault::NoThread => writeln!(err, "{program}: cannot start a thread"),
             Fault::Incomplete => writeln!(err, "{program}: not all could be done"),

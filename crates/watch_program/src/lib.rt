@@ -16,6 +16,7 @@
 mod ends;
 mod fault;
 mod field;
+mod hints;
 mod output;
 mod pace;
 mod program;
@@ -24,9 +25,11 @@ mod words;
 pub use ends::{end, write_errors, write_missed, write_watching};
 pub use fault::Fault;
 pub use field::push_field;
+pub use hints::{HintWords, hints_of};
 pub use output::write_now;
 pub use pace::{Pace, milliseconds_of, pace_of};
 pub use program::run_with_words;
 pub use words::{
-    command, flag, folder_of, matches_of, number, number_of, option, place_of, words_of,
+    command, flag, folder_of, matches_of, number, number_of, option, place_of, with_until_eof,
+    words_of,
 };

@@ -1,11 +1,13 @@
 //! How a program watches.
-ghost use Rattle.std.specs.Prelude.{◌≡◌, ◌*◌, ◌<◌, ◌^◌, ℕ, Some, None, true, false, codes};
+ghost use Rattle.std.specs.Prelude.{◌≡◌, ◌*◌, ◌<◌, ◌^◌, ℕ, Some, None, true, false, codes, option_map, IfSome};
 ghost use Rattle.std.specs.Duration.{as_nanos};
-ghost use Rattle.clap.specs.Words.{found_of, one_text};
+ghost use Rattle.clap.specs.Words.{first_value, found_of, one_text};
 ghost use Rattle.watch_program.specs.Words.{Gives, IsLife};
 
+use crate::hints::{HintWords, hints_of};
 use crate::words::number_of;
 use clap::ArgMatches;
+use hint_lines::Ends;
 use std::time::Duration;
 
 /// How old an event is when it is emitted, at least, in milliseconds, if no word says it.
@@ -19,7 +21,7 @@ const TICK: u64 = 250;
 
 /// How a program watches.
 #[derive(Clone, Copy, Debug)]
-pub struct Pace {
+pub struct Pace<'a> {
     /// How old an event is when it is emitted, at least.
     pub timeout: Duration,
     /// How long the watcher sleeps between two looks at the folder.
@@ -28,12 +30,16 @@ pub struct Pace {
     pub life: Option<Duration>,
     /// Whether what is there already is reported first, as created.
     pub initial: bool,
+    /// Where hints are read, if they are.
+    pub hints: Option<HintWords<'a>>,
+    /// Whether the program ends when its standard input does.
+    pub until_eof: bool,
 }
 
-/// Returns the pace that the words give by `--timeout`, `--interval`, `--seconds`, `--ticks`, and
-/// `--initial` if the program has it. What no word gives is half a second, a quarter of a second, no end,
-/// and only what changes.
-pub fn pace_of(matches: &ArgMatches<'_>) -> Pace
+/// Returns the pace that the words give by `--timeout`, `--interval`, `--hints`, `--hints-zero`, `--seconds`,
+/// `--ticks`, and `--initial` and `--until-eof` if the program has them. What no word gives is half a second,
+/// a quarter of a second, no hints, no end, and only what changes.
+pub fn pace_of<'a>(matches: &ArgMatches<'a>) -> Pace<'a>
     ensures timeout { one_text (found_of matches.now) (codes "timeout") ≡ None
         → as_nanos result.timeout ≡ 500 * 10 ^ 6 }
     ensures timeout_given { (n : ℕ) → Gives matches.now (codes "timeout") n
@@ -53,12 +59,24 @@ pub fn pace_of(matches: &ArgMatches<'_>) -> Pace
         → result.initial ≡ false }
     ensures initial { one_text (found_of matches.now) (codes "initial") ≡ Some (codes "true")
         → result.initial ≡ true }
+    ensures hints { option_map (λ h. h.file.now) result.hints
+        ≡ first_value (found_of matches.now) (codes "hints") }
+    ensures lines { one_text (found_of matches.now) (codes "hints-zero") ≡ None
+        → IfSome result.hints (λ h. h.ends ≡ Ends.Lines) }
+    ensures zeros { one_text (found_of matches.now) (codes "hints-zero") ≡ Some (codes "true")
+        → IfSome result.hints (λ h. h.ends ≡ Ends.Zeros) }
+    ensures ignores_eof { one_text (found_of matches.now) (codes "until-eof") ≡ None
+        → result.until_eof ≡ false }
+    ensures until_eof { one_text (found_of matches.now) (codes "until-eof") ≡ Some (codes "true")
+        → result.until_eof ≡ true }
 {
     Pace {
         timeout: milliseconds_of(matches, "timeout", TIMEOUT),
         interval: milliseconds_of(matches, "interval", INTERVAL),
         life: life_of(matches),
         initial: matches.get_flag("initial"),
+        hints: hints_of(matches),
+        until_eof: matches.get_flag("until-eof"),
     }
 }
 

@@ -17,8 +17,8 @@ use std::{env, io};
 /// The version of each program, which is that of the Rust crate.
 const VERSION: &str = "0.6.0";
 
-/// Returns a command line with one place, as `DIR`, and the options `--timeout`, `--interval`,
-/// `--seconds` and `--ticks`.
+/// Returns a command line with one place, as `DIR`, and the options `--timeout`, `--interval`, `--hints`,
+/// `--hints-zero`, `--seconds` and `--ticks`.
 pub fn command<'a>(
     alloc: Global,
     name: &'a str,
@@ -26,11 +26,12 @@ pub fn command<'a>(
     place: &'a str,
 ) -> Result<Command<'a>, AllocError>
     ensures words { IfOk result (λ c. ids_of c ≡ codes "place" ∷ codes "timeout"
-        ∷ codes "interval" ∷ codes "seconds" ∷ codes "ticks" ∷ []) }
+        ∷ codes "interval" ∷ codes "hints" ∷ codes "hints-zero" ∷ codes "seconds"
+        ∷ codes "ticks" ∷ []) }
 {
     let place = Arg::new(alloc, "place").value_name(place).required(true);
     let line = with(without_words(alloc, name, about), place)?;
-    with_life(alloc, with_pace(alloc, line)?)
+    with_life(alloc, with_hints(alloc, with_pace(alloc, line)?)?)
 }
 
 /// Adds the options that say how often the program looks, and how old an event is when it is emitted.
@@ -45,6 +46,30 @@ fn with_pace<'a>(alloc: Global, line: Command<'a>) -> Result<Command<'a>, AllocE
         "look at the folder so often [default: 250]",
     );
     with(with(line, timeout)?, interval)
+}
+
+/// Adds the words that say where hints are read, and what stands after each.
+fn with_hints<'a>(alloc: Global, line: Command<'a>) -> Result<Command<'a>, AllocError>
+    ensures words { IfOk result (λ c. ids_of c ≡ ids_of line.entry ++ codes "hints"
+        ∷ codes "hints-zero" ∷ []) }
+{
+    let hints = option(alloc, "hints", "FILE").help(
+        "look at once at the paths that this file says; - is standard input",
+    );
+    let zero = flag(alloc, "hints-zero")
+        .long("hints-zero")
+        .help("a zero byte stands after each of them, and no line feed");
+    with(with(line, hints)?, zero)
+}
+
+/// Adds the word `--until-eof`.
+pub fn with_until_eof<'a>(alloc: Global, line: Command<'a>) -> Result<Command<'a>, AllocError>
+    ensures words { IfOk result (λ c. ids_of c ≡ ids_of line.entry ++ codes "until-eof" ∷ []) }
+{
+    let word = flag(alloc, "until-eof")
+        .long("until-eof")
+        .help("end when standard input ends");
+    with(line, word)
 }
 
 /// Adds the options that say when the program ends.
@@ -100,6 +125,7 @@ pub fn number<'a>(alloc: Global, name: &'a str, value: &'a str) -> Arg<'a>
 pub fn flag<'a>(alloc: Global, name: &'a str) -> Arg<'a>
     ensures id { result.id ≡ name.entry }
     ensures sets { result.action ≡ Some ArgAction.SetTrue }
+    ensures local { result.global ≡ false }
 {
     Arg::new(alloc, name).action(ArgAction::SetTrue)
 }
