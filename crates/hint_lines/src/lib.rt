@@ -5,7 +5,7 @@
 //! read_hints(&mut rt.reader(), lines, &mut sink)?;
 //! ```
 //!
-//! The sink is told of each line, and finds by a [`HintedFolder`] which path it names.
+//! The sink gets each hint, and finds by a [`HintedFolder`] which path it names.
 #![tactic(auto)]
 
 mod folder;

@@ -32,8 +32,9 @@ impl Journal {
     }
 
     /// Writes the events of the batch that pass the filter, in order, each once, and flushes the writer. In
-    /// JSON each says that it was emitted at this time, if that is known. If memory is refused, nothing was written; if the output fails, a beginning was. Each line of JSON
-    /// is read as its event, as `json_line` says.
+    /// JSON each says that it was emitted at this time, if that is known. If memory is refused, nothing was
+    /// written; if the output fails, a beginning was. Each line of JSON is read as its event, as `json_line`
+    /// says.
     pub fn write_passing<O: Write>(
         &mut self,
         alloc: Global,

@@ -2,8 +2,9 @@
 //! that each end in a zero byte.
 //!
 //! [`Patterns::parse`] reads the regular expressions of a filter; [`PatternFault::say`] says which can't be
-//! read and why. [`Patterns::filter`] lends a [`PathFilter`]. A [`Journal`] numbers the events that pass and writes those of each batch at once, by
-//! [`Journal::write_passing`].
+//! read and why. [`Patterns::filter`] lends a [`PathFilter`]. A [`Journal`] numbers the events that pass and
+//! writes those of each batch at once, by [`Journal::write_timed`], or by [`Journal::write_passing`] if the
+//! caller has the time.
 #![tactic(auto)]
 
 mod clock;

@@ -41,11 +41,6 @@ impl InputEnd {
         Ok(InputEnd { ended })
     }
 
-    /// Whether the end of the input is the program's.
-    pub(crate) fn is_asked(&self) -> bool {
-        self.ended.is_some()
-    }
-
     /// The input has ended.
     pub(crate) fn set(&self) {
         if let Some(ended) = &self.ended {
