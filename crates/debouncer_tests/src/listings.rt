@@ -1,10 +1,11 @@
 //! Each request for memory refused in turn.
 use crate::build::{new_heap, path};
-use crate::trees::{Notes, entries, listing, root, tree};
+use crate::trees::{Notes, entries, listing, root, roots, tree};
 use fake_folders::tree::TreeFolders;
 use notify_debouncer_full::{
     Error, ErrorKind, Listing, PathBuf, Polled, RecursiveMode, compare, list, poll_round,
 };
+use poll_rounds::look::look_round;
 use refusing_allocator::{Heap, TestHeap};
 use std::alloc::Allocator;
 use std::process::Abort;
@@ -13,18 +14,38 @@ const OLD: &str = "/ folder, /a folder, /a/x file 1, /b file 2, /c file 3";
 
 const NEW: &str = "/ folder, /a file 1, /b file 3, /d folder, /d/y file 1";
 
-/// What the folders hold in the round after the one that saw `OLD`.
-const ROUNDS: [&str; 6] = [
-    NEW,
+/// What the folders hold in the round after the one that saw `OLD`, and what it reports.
+const ROUNDS: [&str; 8] = [
+    // A folder became a file, a file has another length, one went, and a folder with a file came.
+    "/ folder, /a file 1, /b file 3, /d folder, /d/y file 1
+Remove(Folder) /a, Remove(File) /c, Create(File) /a, Create(Folder) /d, Create(File) /d/y, \
+Modify(Data(Any)) /b",
     // Nothing changed.
-    OLD,
+    "/ folder, /a folder, /a/x file 1, /b file 2, /c file 3
+",
     // The last entry has another length; one more comes after it; it went.
-    "/ folder, /a folder, /a/x file 1, /b file 2, /c file 4",
-    "/ folder, /a folder, /a/x file 1, /b file 2, /c file 3, /d file 1",
-    "/ folder, /a folder, /a/x file 1, /b file 2",
+    "/ folder, /a folder, /a/x file 1, /b file 2, /c file 4
+Modify(Data(Any)) /c",
+    "/ folder, /a folder, /a/x file 1, /b file 2, /c file 3, /d file 1
+Create(File) /d",
+    "/ folder, /a folder, /a/x file 1, /b file 2
+Remove(File) /c",
     // What went stood in the first folder.
-    "/ folder, /a folder, /b file 2, /c file 3",
+    "/ folder, /a folder, /b file 2, /c file 3
+Remove(File) /a/x",
+    // All went.
+    "/ folder
+Remove(Folder) /a, Remove(File) /b, Remove(File) /c",
+    // More came than one node of a map holds.
+    "/ folder, /a folder, /a/x file 2, /a0 file 1, /a1 file 1, /a2 file 1, /a3 file 1, /a4 file 1, \
+/b other, /b0 file 1, /b1 file 1, /b2 file 1, /b3 file 1, /c file 3
+Remove(File) /b, Create(File) /a0, Create(File) /a1, Create(File) /a2, Create(File) /a3, \
+Create(File) /a4, Create(Other) /b, Create(File) /b0, Create(File) /b1, Create(File) /b2, \
+Create(File) /b3, Modify(Data(Any)) /a/x",
 ];
+
+/// Roots that show all, some of them in others.
+const ROOTS: [&str; 4] = ["/", "/ /a", "/a /", "/d /a /"];
 
 /// How many of the first requests are refused one by one, at most.
 const MOST: u64 = 200;
@@ -114,32 +135,59 @@ impl<A: TestHeap> Call<A> for Listed<A> {
     }
 }
 
+/// Paths that are looked at in place of a round, as a list each; they are looked at one after the other.
+const LOOKS: [&str; 2] = ["/", "/d /c /a0 /b /a /"];
+
+/// A round, or a look at some paths, the last listing before it and after it, and what it reports.
 #[derive(Drop)]
-struct Polls<A: Allocator> {
+struct Polls<'a, A: Allocator> {
     folders: TreeFolders<A>,
     roots: Vec<(PathBuf<A>, RecursiveMode), A>,
+    looks: Vec<PathBuf<A>, A>,
     last: Listing<A>,
     notes: Notes,
+    before: Listing<A>,
+    after: Listing<A>,
+    reported: &'a str,
 }
 
-impl<A: TestHeap> Call<A> for Polls<A> {
-    fn answer(&mut self, rt: &impl Abort, heap: A, _n: u64) -> Answer {
-        let before = self.last.len();
-        let taken = poll_round(
-            heap,
-            &mut self.folders,
-            self.roots.as_slice(),
-            &mut self.last,
-            &mut self.notes,
-        );
+impl<'a, A: TestHeap> Call<A> for Polls<'a, A> {
+    fn answer(&mut self, rt: &impl Abort, heap: A, n: u64) -> Answer {
+        let roots = self.roots.as_slice();
+        let looks = self.looks.as_slice();
+        let last = &mut self.last;
+        let taken = if looks.is_empty() {
+            poll_round(heap, &mut self.folders, roots, last, &mut self.notes)
+        } else {
+            look_round(heap, &mut self.folders, roots, last, looks, &mut self.notes)
+        };
+        let is_wanted = if taken {
+            is_same(&self.last, &self.after)
+        } else {
+            is_same(&self.last, &self.before)
+        };
+        assert!(rt; is_wanted, "{}, request {n}", self.reported);
         let notes = self.notes.take();
-        assert!(rt; taken || self.last.len() == before);
         match (taken, notes.as_str()) {
-            (true, _) => Answer::Done,
+            (true, text) if text == self.reported => Answer::Done,
             (false, "error Memory") => Answer::Memory,
-            (false, _) => Answer::OtherError,
+            _ => Answer::OtherError,
         }
     }
+}
+
+/// Whether the two listings have the same entries.
+fn is_same<A: Allocator>(one: &Listing<A>, other: &Listing<A>) -> bool {
+    let mut rest = other.iter();
+    for (path, found) in one.iter() {
+        let Some((place, there)) = rest.next() else {
+            return false;
+        };
+        if *path != *place || *found != *there {
+            return false;
+        }
+    }
+    rest.next().is_none()
 }
 
 #[derive(Drop)]
@@ -188,17 +236,44 @@ fn refuse_lists<A: TestHeap, R: Abort + AllocGlobal>(rt: &R) {
 
 #[test]
 fn a_refused_round_keeps_the_last_listing(rt: HostRuntime) {
-    refuse_rounds::<Heap, _>(&rt);
+    for places in ROOTS {
+        refuse_rounds::<Heap, _>(&rt, places, "");
+    }
 }
 
-fn refuse_rounds<A: TestHeap, R: Abort + AllocGlobal>(rt: &R) {
+#[test]
+fn a_refused_look_keeps_the_last_listing(rt: HostRuntime) {
+    for looks in LOOKS {
+        refuse_rounds::<Heap, _>(&rt, "/", looks);
+        refuse_rounds::<Heap, _>(&rt, "/a /", looks);
+    }
+}
+
+/// The paths of a text, as `/a /b`.
+fn paths<A: TestHeap>(rt: &impl Abort, heap: A, text: &str) -> Vec<PathBuf<A>, A> {
+    let mut paths = Vec::new(heap);
+    for place in text.split(' ') {
+        if !place.is_empty() {
+            paths.push(path(rt, heap, place)).expect(rt, "memory");
+        }
+    }
+    paths
+}
+
+/// Refuses rounds at these roots, or looks at these paths if there are some.
+fn refuse_rounds<A: TestHeap, R: Abort + AllocGlobal>(rt: &R, places: &str, looks: &str) {
     let heap: A = new_heap(rt);
-    for text in ROUNDS {
+    for round in ROUNDS {
+        let (text, reported) = round.split_once('\n').expect(rt, round);
         let mut call = Polls {
             folders: tree(rt, heap, text),
-            roots: root(rt, heap, "/"),
+            roots: roots(rt, heap, places),
+            looks: paths(rt, heap, looks),
             last: listing(rt, heap, OLD),
             notes: Notes::new(rt),
+            before: listing(rt, heap, OLD),
+            after: listing(rt, heap, text),
+            reported,
         };
         check_refusals(rt, heap, text, &mut call);
     }

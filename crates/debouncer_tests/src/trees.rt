@@ -25,6 +25,21 @@ pub fn root<A: Allocator + Copy + Debug>(
     roots
 }
 
+/// The roots of a text, as `/a /b`, each of which is watched so.
+pub fn roots<A: Allocator + Copy + Debug>(
+    rt: &impl Abort,
+    alloc: A,
+    text: &str,
+) -> Vec<(PathBuf<A>, RecursiveMode), A> {
+    let mut roots = Vec::new(alloc);
+    for place in text.split(' ') {
+        roots
+            .push((path(rt, alloc, place), RecursiveMode::Recursive))
+            .expect(rt, "memory");
+    }
+    roots
+}
+
 /// The entries of a text, as `/ folder, /f file 3`.
 pub fn entries<A: Allocator + Copy + Debug>(
     rt: &impl Abort,

@@ -7,3 +7,6 @@ pub mod ParentLemmas
 pub mod NearLemmas
 pub mod BehindLemmas
 pub mod MergeLemmas
+pub mod UpdateLemmas
+pub mod UpdatedPairs
+pub mod SameLemmas

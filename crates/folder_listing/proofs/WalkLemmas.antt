@@ -371,36 +371,40 @@ module _ (old new : ListingValue) where
       fact) in
       rw (walk_finds (top_after top p) ps (go_on old new top p ps h), first, second, third) refl
 
-  -- at the start of the walk
-  start : IsStrictlySortedBy path_cmp (keys_of old) → IsStrictlySortedBy path_cmp (keys_of new) →
-      IsAhead old new None (paired old new)
-  start s t =
-      let ascend = ascend-paired old new s t in
+  -- at the start of a walk over pairs whose sides are the listings
+  start : (ps : List PairValue) → Ascend ps → olds_of ps ≡ old → news_of ps ≡ new → IsAhead old new None ps
+  start ps ascend olds news =
       record {
-        olds = subst (λ es. AllByRecursion (λ p. entry_at es p.path ≡ p.before) (paired old new))
-            (olds_of-paired old new) (entry_at-side (λ p. p.before) (paired old new) ascend);
-        news = subst (λ es. AllByRecursion (λ p. entry_at es p.path ≡ p.after) (paired old new))
-            (news_of-paired old new) (entry_at-side (λ p. p.after) (paired old new) ascend);
+        olds = subst (λ es. AllByRecursion (λ p. entry_at es p.path ≡ p.before) ps) olds
+            (entry_at-side (λ p. p.before) ps ascend);
+        news = subst (λ es. AllByRecursion (λ p. entry_at es p.path ≡ p.after) ps) news
+            (entry_at-side (λ p. p.after) ps ascend);
         ascend = ascend;
         behind = tt;
-        ins = all is_prefix (paired old new);
-        belows = all (λ g q. is_below q g) (paired old new);
+        ins = all is_prefix ps;
+        belows = all (λ g q. is_below q g) ps;
       }
     where
       all : (R : PathValue → PathValue → Bool) (qs : List PairValue) →
-          AllByRecursion (λ q. hits R (gone old new) q.path
-          ≡ (false || hits R (gone_of old new (paired old new)) q.path)) qs
+          AllByRecursion (λ q. hits R (gone old new) q.path ≡ (false || hits R (gone_of old new ps) q.path)) qs
       all R [] = tt
       all R (q ∷ qs) = (
-        ap (λ es. hits R (filter (λ e. not (is_kept new e)) es) q.path) (sym (olds_of-paired old new)),
+        ap (λ es. hits R (filter (λ e. not (is_kept new e)) es) q.path) (sym olds),
         all R qs,
       )
+
+  -- the walk over such pairs finds what changed
+  pub walk_finds_pairs : (ps : List PairValue) → Ascend ps → olds_of ps ≡ old → news_of ps ≡ new → walk None ps
+      ≡ parts_between old new
+  walk_finds_pairs ps ascend olds news = walk_finds None ps (start ps ascend olds news)
+      ∙ rw (olds, news) refl
 
   -- the walk over both listings finds what changed
   pub walk_finds_all : IsStrictlySortedBy path_cmp (keys_of old) → IsStrictlySortedBy path_cmp (keys_of new) →
       walk None (paired old new) ≡ parts_between old new
-  walk_finds_all s t = walk_finds None (paired old new) (start s t)
-      ∙ rw (olds_of-paired old new, news_of-paired old new) refl
+  walk_finds_all s t =
+      walk_finds_pairs (paired old new) (ascend-paired old new s t) (olds_of-paired old new)
+      (news_of-paired old new)
 
 -- behind the last pair nothing is added
 pub joined-none : (parts : PartsValue) → joined parts no_parts ≡ parts

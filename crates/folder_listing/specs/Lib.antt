@@ -4,3 +4,4 @@ pub mod Pairs
 pub mod Parents
 pub mod Near
 pub mod MergedListings
+pub mod Updates

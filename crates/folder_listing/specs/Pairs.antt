@@ -6,7 +6,9 @@ use Rattle.notify_paths.specs.Path.{PathValue, path_cmp, is_prefix}
 use Rattle.folder_listing.specs.declared.entry.Found.{Found}
 use Rattle.folder_listing.specs.declared.pairs.Change.{Change}
 use Rattle.folder_listing.specs.declared.pairs.Change.TheVariants.{Removed, Created, Replaced, Rewritten, Same}
+use Rattle.folder_listing.specs.declared.updates.Update.{Update}
 use Rattle.folder_listing.specs.Listing.{ListingValue, is_same_kind}
+use Rattle.folder_listing.specs.Updates.{UpdatesValue, found_after}
 use Rattle.folder_listing.specs.Changes.{event_at, is_same_state, removal_of, creation_of, rewriting}
 
 -- a path, and what stands there before and after
@@ -39,8 +41,28 @@ abbrev pub paired : ListingValue → ListingValue → List PairValue
 paired [] ns = map only_new ns
 paired (o ∷ os) ns = paired_into o (paired os) ns
 
+-- an entry and what becomes of it
+abbrev pub with_update : PathValue × Found → PathValue × Update → PairValue
+with_update o u = record { path = o.0; before = Some o.1; after = found_after u.1 }
+
+-- an update of a path that has no entry
+abbrev pub only_update : PathValue × Update → PairValue
+only_update u = record { path = u.0; before = None; after = found_after u.1 }
+
+-- the entry in its place among the updates, if `next` pairs the other entries
+abbrev pub updated_into : PathValue × Found → (UpdatesValue → List PairValue) → UpdatesValue → List PairValue
+updated_into o next [] = both o o ∷ next []
+updated_into o next (u ∷ us) =
+    match_ordering (path_cmp o.0 u.0) (both o o ∷ next (u ∷ us)) (with_update o u ∷ next us)
+    (only_update u ∷ updated_into o next us)
+
+-- the entries and what becomes of them, in the order of their paths
+abbrev pub updated_pairs : ListingValue → UpdatesValue → List PairValue
+updated_pairs [] us = map only_update us
+updated_pairs (o ∷ os) us = updated_into o (updated_pairs os) us
+
 -- the entry in front of the others; if there is none, there are no others
-abbrev pub with_head : Option (PathValue × Found) → ListingValue → ListingValue
+abbrev pub with_head : {X : Type 0} → Option X → List X → List X
 with_head None es = []
 with_head (Some e) es = e ∷ es
 

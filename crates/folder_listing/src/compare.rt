@@ -5,10 +5,12 @@ ghost use Rattle.notify_paths.specs.Errors.{out_of_memory};
 ghost use Rattle.folder_listing.specs.Changes.{changes, event_at, LeadsTo};
 ghost use Rattle.folder_listing.specs.Listing.{IsListing};
 ghost use Rattle.folder_listing.specs.Pairs.{no_parts, joined, parts_of};
+ghost use Rattle.folder_listing.specs.Updates.{IsUpdate, updated};
 
 use crate::entry::Found;
 use crate::listing::Listing;
-use crate::pairs::{Change, Pairs};
+use crate::pairs::{Change, Pairs, UpdatedPairs};
+use crate::updates::Updates;
 use notify_paths::error::Error;
 use notify_paths::path::PathBuf;
 use notify_types::event::Event;
@@ -128,6 +130,46 @@ fn compare_entries<A: Allocator + Copy>(
 {
     let mut parts = Parts::new(alloc);
     let mut pairs = Pairs::new(old, new);
+    let mut top = None;
+    while let Some(pair) = pairs.next() {
+        let change = pair.change(top);
+        parts.add(change, pair.path())?;
+        if change.goes() {
+            top = Some(pair.path());
+        }
+    }
+    parts.into_events()
+}
+
+/// Returns what the updates change of the listing, as [`compare`] does with the listing after them. Without
+/// updates no entry is looked at.
+pub fn compare_updates<A: Allocator + Copy>(
+    alloc: A,
+    old: &Listing<A>,
+    updates: &Updates<A>,
+) -> Result<Vec<Event<A>, A>, Error<A>>
+    requires { IsUpdate old.now updates.now.entries }
+    ensures ok { IfOk result (λ events. events.items
+        ≡ changes old.now (updated old.now updates.now.entries)) }
+    ensures err { IfErr result (λ e. e ≡ out_of_memory) }
+{
+    update_events(alloc, &old.entries, updates).map_err(|_| Error::out_of_memory(alloc))
+}
+
+fn update_events<A: Allocator + Copy>(
+    alloc: A,
+    old: &BTreeMap<PathBuf<A>, Found, A>,
+    updates: &Updates<A>,
+) -> Result<Vec<Event<A>, A>, AllocError>
+    requires { IsListing old.now.entries × IsUpdate old.now.entries updates.now.entries }
+    ensures { IfOk result (λ events. events.items
+        ≡ changes old.now.entries (updated old.now.entries updates.now.entries)) }
+{
+    if updates.len() == 0 {
+        return Ok(Vec::new(alloc));
+    }
+    let mut parts = Parts::new(alloc);
+    let mut pairs = UpdatedPairs::new(old, updates);
     let mut top = None;
     while let Some(pair) = pairs.next() {
         let change = pair.change(top);

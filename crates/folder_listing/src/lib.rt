@@ -15,3 +15,4 @@ pub mod entry;
 pub mod listing;
 pub mod near;
 mod pairs;
+pub mod updates;

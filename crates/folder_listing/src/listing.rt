@@ -10,9 +10,11 @@ ghost use Rattle.folder_listing.specs.Listing.{IsListing, entry_at, has_entry, i
 ghost use Rattle.folder_listing.specs.MergedListings.{IsMerged, put_over};
 ghost use Rattle.folder_listing.specs.Near.{outside, seen};
 ghost use Rattle.folder_listing.specs.Parents.{has_parent, have_parents};
+ghost use Rattle.folder_listing.specs.Updates.{IsUpdate, updated};
 
 use crate::entry::{EntryKind, Found};
 use crate::near::is_seen;
+use crate::updates::{Updates, update_entries};
 use notify_paths::error::Error;
 use notify_paths::path::PathBuf;
 use notify_types::event::RecursiveMode;
@@ -149,6 +151,18 @@ impl<A: Allocator> Listing<A> {
     {
         self.entries
             .retain(|other, _found| !other.starts_with(path));
+    }
+}
+
+impl<A: Allocator + Copy> Listing<A> {
+    /// Carries the updates out, in place. Only a path that is added takes memory.
+    pub fn update(&mut self, alloc: A, updates: &Updates<A>) -> Result<(), Error<A>>
+        requires { IsUpdate self.old updates.now.entries }
+        ensures ok { OnOk result (self.new ≡ updated self.old updates.now.entries) }
+        ensures unchanged { OnErr result (self.new ≡ self.old) }
+        ensures err { IfErr result (λ e. e ≡ out_of_memory) }
+    {
+        update_entries(&mut self.entries, updates).map_err(|_| Error::out_of_memory(alloc))
     }
 }
 

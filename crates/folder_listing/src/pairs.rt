@@ -1,9 +1,11 @@
-//! Two listings side by side.
-ghost use Rattle.std.specs.Prelude.{◌≡◌, ◌∷◌, [], MatchOption};
+//! Two listings side by side, and a listing and its updates.
+ghost use Rattle.std.specs.Prelude.{◌≡◌, ◌∷◌, [], MatchOption, Some};
 ghost use Rattle.std.specs.Option.{option_copied};
-ghost use Rattle.folder_listing.specs.Pairs.{paired, change_at, change_of, is_under, goes};
+ghost use Rattle.folder_listing.specs.Pairs.{paired, change_at, change_of, is_under, goes, updated_pairs};
+ghost use Rattle.folder_listing.specs.Updates.{found_after};
 
 use crate::entry::{EntryKind, Found};
+use crate::updates::{Update, Updates};
 use notify_paths::path::PathBuf;
 use std::alloc::Allocator;
 use std::cmp::Ordering;
@@ -183,5 +185,105 @@ impl<'a, A: Allocator> Pairs<'a, A> {
                 }
             },
         }
+    }
+}
+
+/// A listing and its updates side by side: a walk over the paths of both, in their order, which looks at
+/// each entry and each update once.
+#[derive(Drop)]
+pub(crate) struct UpdatedPairs<'a, A: Allocator> {
+    olds: Iter<'a, PathBuf<A>, Found>,
+    updates: Iter<'a, PathBuf<A>, Update>,
+    before: Option<(&'a PathBuf<A>, &'a Found)>,
+    update: Option<(&'a PathBuf<A>, &'a Update)>,
+}
+
+impl<'a, A: Allocator> Model for UpdatedPairs<'a, A> {
+    ghost use Rattle.std.specs.Prelude.{List};
+    ghost use Rattle.std.specs.Option.{option_map};
+    ghost use Rattle.std.specs.Map.Iter.{deref_pair};
+    ghost use Rattle.folder_listing.specs.Pairs.{PairValue, updated_pairs, with_head};
+
+    ghost Value = { List PairValue };
+
+    ghost view = { λ a. updated_pairs (with_head (option_map deref_pair a.before) a.olds)
+        (with_head (option_map deref_pair a.update) a.updates) };
+}
+
+impl<'a, A: Allocator> UpdatedPairs<'a, A> {
+    pub(crate) fn new(
+        old: &'a BTreeMap<PathBuf<A>, Found, A>,
+        updates: &'a Updates<A>,
+    ) -> UpdatedPairs<'a, A>
+        ensures { result ≡ updated_pairs old.now.entries updates.now.entries }
+    {
+        let mut olds = old.iter();
+        let mut updates = updates.iter();
+        let before = olds.next();
+        let update = updates.next();
+        UpdatedPairs {
+            olds,
+            updates,
+            before,
+            update,
+        }
+    }
+
+    /// Returns the next pair.
+    pub(crate) fn next(&mut self) -> Option<Pair<'a, A>>
+        ensures { MatchOption result (self.old ≡ []) (λ pair. self.old ≡ pair ∷ self.new) }
+    {
+        match (self.before, self.update) {
+            (None, None) => None,
+            (Some(old), None) => {
+                self.before = self.olds.next();
+                Some(unchanged(old.0, *old.1))
+            },
+            (None, Some(update)) => {
+                self.update = self.updates.next();
+                Some(updated(update.0, None, *update.1))
+            },
+            (Some(old), Some(update)) => match old.0.cmp(update.0) {
+                Ordering::Less => {
+                    self.before = self.olds.next();
+                    Some(unchanged(old.0, *old.1))
+                },
+                Ordering::Greater => {
+                    self.update = self.updates.next();
+                    Some(updated(update.0, None, *update.1))
+                },
+                Ordering::Equal => {
+                    self.before = self.olds.next();
+                    self.update = self.updates.next();
+                    Some(updated(old.0, Some(*old.1), *update.1))
+                }
+            },
+        }
+    }
+}
+
+/// The pair of what stays as it is.
+fn unchanged<'a, A: Allocator>(path: &'a PathBuf<A>, found: Found) -> Pair<'a, A>
+    ensures { result ≡ record { path = path.now; before = Some found; after = Some found } }
+{
+    Pair {
+        path,
+        before: Some(found),
+        after: Some(found),
+    }
+}
+
+/// The pair of what stood at the path, and what the update leaves.
+fn updated<'a, A: Allocator>(
+    path: &'a PathBuf<A>,
+    before: Option<Found>,
+    update: Update,
+) -> Pair<'a, A>
+    ensures { result ≡ record { path = path.now; before = before; after = found_after update } }
+{
+    Pair {
+        path,
+        before,
+        after: update.found(),
     }
 }

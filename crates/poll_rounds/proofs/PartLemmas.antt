@@ -14,7 +14,7 @@ use Rattle.debounce_model.specs.Play.{Paths, has_path}
 use Rattle.debounce_model.specs.Honest.{folders_of, has_folders}
 use Rattle.folder_listing.specs.declared.entry.EntryKind.TheVariants.{File, Folder}
 use Rattle.folder_listing.specs.declared.entry.Found.{Found}
-use Rattle.folder_listing.specs.Listing.{ListingValue, entry_at, has_entry, is_nonempty}
+use Rattle.folder_listing.specs.Listing.{ListingValue, IsListing, entry_at, has_entry, is_nonempty}
 use Rattle.folder_listing.specs.Changes.{is_of_kind}
 use Rattle.folder_listing.specs.Near.{is_name_part, are_names, depth_of, is_near, levels_left, outside}
 use Rattle.folder_listing.proofs.PrefixLemmas.{prefix-trans}
@@ -26,7 +26,7 @@ use Rattle.poll_rounds.specs.Folders.{IsTree, is_passable, shows, shown, reach, 
 use Rattle.poll_rounds.specs.Parts.{has_folder, passes, shows_in, has_root_below, LooksAt, IsTop}
 use Rattle.poll_rounds.proofs.ReachLemmas.{Adds-alike, Adds-then, Adds-none}
 use Rattle.poll_rounds.proofs.ShownLemmas.{way, folders-split, reach-is, way-folders, all-push, prefix-shorter, near_behind, is_folder_at, entry_at-shown}
-use Rattle.poll_rounds.proofs.RootLemmas.{folders-more, nonempty-first, take-split}
+use Rattle.poll_rounds.proofs.RootLemmas.{listed-shown, folders-more, nonempty-first, take-split}
 
 -- these are names within the levels, if there are levels
 abbrev pub names_within : Option ℕ → List PartValue → Bool
@@ -450,4 +450,24 @@ pub looks-parts : {E : Type 0} (r : Result (Unit {0}) E) (o : Option ListingValu
 looks-parts r None roots p es fs gs h same k = tt
 looks-parts (Err e) (Some tree) roots p es fs gs h same k = λ t. tt
 looks-parts (Ok x) (Some tree) roots p es fs gs h same k =
+    looks-part (Some tree) roots p es gs h (subst (λ l. HasParts (Some tree) p roots l gs) same k)
+
+-- where a root lies below the path, what all roots show was put in
+pub looks-roots : {T E : Type 0} (r : Result T E) (o : Option ListingValue) (roots : List (PathValue × RecursiveMode))
+    (p : PathValue) (es fs : ListingValue) → has_root_below roots p ≡ true → IsListing fs →
+    IfSome o (λ tree. IsTree tree → Adds tree (λ q. list_any (λ root. shows tree root q) roots) [] fs) →
+    IfSome o (λ tree. IsTree tree → OnOk r (LooksAt tree roots p es fs))
+looks-roots r None roots p es fs h law k = tt
+looks-roots (Err e) (Some tree) roots p es fs h law k = λ t. tt
+looks-roots (Ok x) (Some tree) roots p es fs h law k =
+    looks-all (Some tree) roots p es fs h (listed-shown (Some tree) roots fs law k)
+
+-- where none does, what the roots show there was put in the place of what was there
+pub looks-there : {T E : Type 0} (r : Result T E) (o : Option ListingValue) (roots : List (PathValue × RecursiveMode))
+    (p : PathValue) (es fs gs : ListingValue) → has_root_below roots p ≡ false → fs ≡ outside es p →
+    IfSome o (λ tree. Adds tree (λ q. list_any (λ root. shows_in tree p root q) roots) fs gs) →
+    IfSome o (λ tree. IsTree tree → OnOk r (LooksAt tree roots p es gs))
+looks-there r None roots p es fs gs h same k = tt
+looks-there (Err e) (Some tree) roots p es fs gs h same k = λ t. tt
+looks-there (Ok x) (Some tree) roots p es fs gs h same k =
     looks-part (Some tree) roots p es gs h (subst (λ l. HasParts (Some tree) p roots l gs) same k)

@@ -1,7 +1,6 @@
 -- What a round of polling reports to its handler.
-use Rattle.std.specs.Prelude.{◌≡◌, ℕ, List, [], ◌∷◌, Option, None, Some, Result, Ok, Err}
+use Rattle.std.specs.Prelude.{◌≡◌, ℕ, List, [], ◌∷◌, Result, Ok, Err}
 use Rattle.notify_paths.specs.Errors.{ErrorValue}
-use Rattle.folder_listing.specs.Listing.{ListingValue}
 use Rattle.poll_rounds.specs.Folders.{IsRefusal}
 
 -- the events are reported, each by one call, in order
@@ -14,8 +13,3 @@ HandsEach {H} handles (x ∷ xs) before after = (between : H) × handles before 
 abbrev pub HandsRefusal : {H X : Type 0} → (H → Result X ErrorValue → H → Type 0) → ℕ → ℕ → H → H → Type 0
 HandsRefusal handles failed failed_now before after =
     (e : ErrorValue) × IsRefusal e failed failed_now × handles before (Err e) after
-
--- the listing after a round: the new one, or the last one if nothing changed
-abbrev pub next_of : {X : Type 0} → ListingValue → Option (ListingValue × X) → ListingValue
-next_of last None = last
-next_of last (Some news) = news.0

@@ -4,9 +4,9 @@ ghost use Rattle.std.specs.BTreeMap.{insert_entry};
 ghost use Rattle.std.specs.List.Sorted.{IsPermutation};
 ghost use Rattle.std.specs.Map.{keys_of};
 ghost use Rattle.notify_paths.specs.Errors.{out_of_memory};
-ghost use Rattle.notify_paths.specs.Path.{path_cmp};
+ghost use Rattle.notify_paths.specs.Path.{PathValue, path_cmp};
 ghost use Rattle.debounce_model.specs.Honest.{has_folders};
-ghost use Rattle.folder_listing.specs.Listing.{ListingValue, is_nonempty};
+ghost use Rattle.folder_listing.specs.Listing.{ListingValue, has_entry, is_nonempty};
 
 use folder_listing::entry::Found;
 use folder_listing::listing::Listing;
@@ -26,13 +26,15 @@ pub trait Entries<A: Allocator> {
     fn arrange(&self, names: &mut Vec<String<A>, A>)
         ensures { IsPermutation names.old.items names.new.items };
 
-    /// Puts in what was found at the path. The folders above it are there. After an error entries may be
-    /// missing.
+    /// Puts in what was found at the path. The folders above it are there. No entry is lost, even after an
+    /// error.
     fn put(&mut self, alloc: A, path: &PathBuf<A>, found: Found) -> Result<(), Error<A>>
         requires path { is_nonempty path.now ≡ true }
         requires folders { has_folders (keys_of (entries self.old)) path.now ≡ true }
         ensures ok { OnOk result (entries self.new
             ≡ insert_entry path_cmp (entries self.old) path.now found) }
+        ensures grows { (q : PathValue) → has_entry (entries self.old) q ≡ true →
+            has_entry (entries self.new) q ≡ true }
         ensures same { last self.new ≡ last self.old }
         ensures err { IfErr result (λ e. e ≡ out_of_memory) };
 }

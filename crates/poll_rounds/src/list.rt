@@ -8,8 +8,8 @@ ghost use Rattle.std.specs.Map.{keys_of};
 ghost use Rattle.notify_paths.specs.Errors.{out_of_memory};
 ghost use Rattle.notify_paths.specs.Path.{PathValue};
 ghost use Rattle.debounce_model.specs.Honest.{has_folders};
-ghost use Rattle.folder_listing.specs.Listing.{IsListing, has_entry, is_nonempty};
-ghost use Rattle.poll_rounds.specs.Beside.{listing_or};
+ghost use Rattle.folder_listing.specs.Listing.{has_entry, is_nonempty};
+ghost use Rattle.folder_listing.specs.Updates.{IsUpdate, updated};
 ghost use Rattle.poll_rounds.specs.Folders.{Adds, IsRefusal, IsTree, NamesOf, reaches, shown, shows};
 
 use crate::beside::Beside;
@@ -17,6 +17,7 @@ use crate::entries::Entries;
 use crate::folders::Folders;
 use folder_listing::listing::Listing;
 use folder_listing::near::depth_of;
+use folder_listing::updates::Updates;
 use notify_paths::error::Error;
 use notify_paths::path::PathBuf;
 use notify_types::event::RecursiveMode;
@@ -41,27 +42,28 @@ pub fn list<A: Allocator + Copy, D: Folders<A>>(
     Ok(listing)
 }
 
-/// Lists the roots beside their last listing. It is `None` if nothing changed; then nothing was copied.
+/// Lists the roots beside their last listing, and returns what becomes of that.
 pub(crate) fn list_beside<A: Allocator + Copy, D: Folders<A>>(
     alloc: A,
     folders: &mut D,
     roots: &[(PathBuf<A>, RecursiveMode)],
     last: &Listing<A>,
-) -> Result<Option<Listing<A>>, Error<A>>
+) -> Result<Updates<A>, Error<A>>
     ensures shown { IfSome (D.told folders.old) (λ tree. IsTree tree →
-        IfOk result (λ news. listing_or last.now news ≡ shown tree roots.now)) }
-    ensures law { IsListing last.now }
+        IfOk result (λ updates. updated last.now updates.entries ≡ shown tree roots.now)) }
+    ensures update { IfOk result (λ updates. IsUpdate last.now updates.entries) }
     ensures same { D.told folders.new ≡ D.told folders.old }
     ensures counted { D.failed folders.old ≤ D.failed folders.new }
     ensures err { IfErr result (λ e. IsRefusal e (D.failed folders.old) (D.failed folders.new)) }
 {
-    let mut beside = Beside::new(last);
+    let mut beside = Beside::new(alloc, last);
+    beside.drop_at(alloc, &PathBuf::empty(alloc))?;
     list_roots(alloc, folders, roots, &mut beside)?;
-    beside.into_news(alloc)
+    beside.into_updates(alloc)
 }
 
 /// Puts in what the roots show, where nothing is yet. After an error it may have a part of it.
-fn list_roots<A: Allocator + Copy, D: Folders<A>, L: Entries<A>>(
+pub(crate) fn list_roots<A: Allocator + Copy, D: Folders<A>, L: Entries<A>>(
     alloc: A,
     folders: &mut D,
     roots: &[(PathBuf<A>, RecursiveMode)],
@@ -151,8 +153,8 @@ pub(crate) fn list_at<A: Allocator + Copy, D: Folders<A>, L: Entries<A>>(
         × (has_folders (keys_of (L.entries listing.old)) path.now ≡ true) }
     ensures added { IfSome (D.told folders.old) (λ tree. OnOk result (
         Adds tree (reaches tree depth path.now) (L.entries listing.old) (L.entries listing.new))) }
-    ensures grows { OnOk result ((q : PathValue) → has_entry (L.entries listing.old) q ≡ true →
-        has_entry (L.entries listing.new) q ≡ true) }
+    ensures grows { (q : PathValue) → has_entry (L.entries listing.old) q ≡ true →
+        has_entry (L.entries listing.new) q ≡ true }
     ensures beside { L.last listing.new ≡ L.last listing.old }
     ensures same { D.told folders.new ≡ D.told folders.old }
     ensures counted { D.failed folders.old ≤ D.failed folders.new }

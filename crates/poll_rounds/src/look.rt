@@ -1,15 +1,19 @@
 //! Rounds of polling that look at some paths alone.
-ghost use Rattle.std.specs.Prelude.{◌≡◌, ◌≤◌, true, false, IfErr, IfOk, OnOk};
+ghost use Rattle.std.specs.Prelude.{◌≡◌, ◌≤◌, [], true, false, IfErr, IfOk, OnErr, OnOk};
 ghost use Rattle.poll_rounds.specs.Folders.{IsRefusal};
 ghost use Rattle.folder_listing.specs.Changes.{changes};
+ghost use Rattle.folder_listing.specs.Updates.{IsUpdate, updated};
+ghost use Rattle.poll_rounds.specs.Beside.{put_in};
 ghost use Rattle.poll_rounds.specs.Parts.{Looks, LooksEach};
 ghost use Rattle.poll_rounds.specs.Rounds.{HandsEach, HandsRefusal};
 
+use crate::beside::Beside;
 use crate::folders::Folders;
 use crate::part::{list_anew, top_of};
 use crate::round::hand_each;
-use folder_listing::compare::compare;
+use folder_listing::compare::compare_updates;
 use folder_listing::listing::Listing;
+use folder_listing::updates::Updates;
 use notify_paths::error::Error;
 use notify_paths::path::PathBuf;
 use notify_types::event::{Event, RecursiveMode};
@@ -21,11 +25,14 @@ fn look_in<A: Allocator + Copy, D: Folders<A>>(
     alloc: A,
     folders: &mut D,
     roots: &[(PathBuf<A>, RecursiveMode)],
-    listing: &mut Listing<A>,
+    listing: &mut Beside<'_, A>,
     path: &PathBuf<A>,
 ) -> Result<(), Error<A>>
-    ensures shown { OnOk result
-        (Looks (D.told folders.old) roots.now path.now listing.old listing.new) }
+    requires { listing.old.left ≡ [] }
+    ensures shown { OnOk result (Looks (D.told folders.old) roots.now path.now (put_in listing.old)
+        (put_in listing.new)) }
+    ensures left { OnOk result (listing.new.left ≡ []) }
+    ensures beside { listing.new.last ≡ listing.old.last }
     ensures err { IfErr result (λ e. IsRefusal e (D.failed folders.old) (D.failed folders.new)) }
     ensures same { D.told folders.new ≡ D.told folders.old }
     ensures counted { D.failed folders.old ≤ D.failed folders.new }
@@ -39,11 +46,13 @@ fn look_in_each<A: Allocator + Copy, D: Folders<A>>(
     alloc: A,
     folders: &mut D,
     roots: &[(PathBuf<A>, RecursiveMode)],
-    listing: &mut Listing<A>,
+    listing: &mut Beside<'_, A>,
     paths: &[PathBuf<A>],
 ) -> Result<(), Error<A>>
-    ensures shown { OnOk result
-        (LooksEach (D.told folders.old) roots.now paths.now listing.old listing.new) }
+    requires { listing.old.left ≡ [] }
+    ensures shown { OnOk result (LooksEach (D.told folders.old) roots.now paths.now
+        (put_in listing.old) (put_in listing.new)) }
+    ensures beside { listing.new.last ≡ listing.old.last }
     ensures err { IfErr result (λ e. IsRefusal e (D.failed folders.old) (D.failed folders.new)) }
     ensures same { D.told folders.new ≡ D.told folders.old }
     ensures counted { D.failed folders.old ≤ D.failed folders.new }
@@ -54,25 +63,68 @@ fn look_in_each<A: Allocator + Copy, D: Folders<A>>(
     Ok(())
 }
 
-/// The listing with what stands at the paths and below them now, and what changed since the last one.
+/// What becomes of the last listing by what stands at the paths and below them now.
+fn list_near<A: Allocator + Copy, D: Folders<A>>(
+    alloc: A,
+    folders: &mut D,
+    roots: &[(PathBuf<A>, RecursiveMode)],
+    last: &Listing<A>,
+    paths: &[PathBuf<A>],
+) -> Result<Updates<A>, Error<A>>
+    ensures shown { IfOk result (λ updates. LooksEach (D.told folders.old) roots.now paths.now
+        last.now (updated last.now updates.entries)) }
+    ensures update { IfOk result (λ updates. IsUpdate last.now updates.entries) }
+    ensures err { IfErr result (λ e. IsRefusal e (D.failed folders.old) (D.failed folders.new)) }
+    ensures same { D.told folders.new ≡ D.told folders.old }
+    ensures counted { D.failed folders.old ≤ D.failed folders.new }
+{
+    let mut beside = Beside::new(alloc, last);
+    look_in_each(alloc, folders, roots, &mut beside, paths)?;
+    beside.into_updates(alloc)
+}
+
+/// What becomes of the last listing, and the events that tell of it.
 fn look_near<A: Allocator + Copy, D: Folders<A>>(
     alloc: A,
     folders: &mut D,
     roots: &[(PathBuf<A>, RecursiveMode)],
     last: &Listing<A>,
     paths: &[PathBuf<A>],
-) -> Result<(Listing<A>, Vec<Event<A>, A>), Error<A>>
-    ensures shown { IfOk result (λ pair.
-        LooksEach (D.told folders.old) roots.now paths.now last.now pair.0) }
-    ensures ok { IfOk result (λ pair. pair.1.items ≡ changes last.now pair.0) }
+) -> Result<(Updates<A>, Vec<Event<A>, A>), Error<A>>
+    ensures shown { IfOk result (λ pair. LooksEach (D.told folders.old) roots.now paths.now last.now
+        (updated last.now pair.0.entries)) }
+    ensures ok { IfOk result (λ pair. pair.1.items
+        ≡ changes last.now (updated last.now pair.0.entries)) }
+    ensures update { IfOk result (λ pair. IsUpdate last.now pair.0.entries) }
     ensures err { IfErr result (λ e. IsRefusal e (D.failed folders.old) (D.failed folders.new)) }
     ensures same { D.told folders.new ≡ D.told folders.old }
     ensures counted { D.failed folders.old ≤ D.failed folders.new }
 {
-    let mut listing = last.try_clone(alloc)?;
-    look_in_each(alloc, folders, roots, &mut listing, paths)?;
-    let events = compare(alloc, last, &listing)?;
-    Ok((listing, events))
+    let updates = list_near(alloc, folders, roots, last, paths)?;
+    let events = compare_updates(alloc, last, &updates)?;
+    Ok((updates, events))
+}
+
+/// Brings the last listing up to date, in place, at the paths and below them, and returns the events that
+/// tell of it. After an error nothing has changed.
+fn renew_near<A: Allocator + Copy, D: Folders<A>>(
+    alloc: A,
+    folders: &mut D,
+    roots: &[(PathBuf<A>, RecursiveMode)],
+    last: &mut Listing<A>,
+    paths: &[PathBuf<A>],
+) -> Result<Vec<Event<A>, A>, Error<A>>
+    ensures shown { OnOk result
+        (LooksEach (D.told folders.old) roots.now paths.now last.old last.new) }
+    ensures ok { IfOk result (λ events. events.items ≡ changes last.old last.new) }
+    ensures unchanged { OnErr result (last.new ≡ last.old) }
+    ensures err { IfErr result (λ e. IsRefusal e (D.failed folders.old) (D.failed folders.new)) }
+    ensures same { D.told folders.new ≡ D.told folders.old }
+    ensures counted { D.failed folders.old ≤ D.failed folders.new }
+{
+    let (updates, events) = look_near(alloc, folders, roots, last, paths)?;
+    last.update(alloc, &updates)?;
+    Ok(events)
 }
 
 /// Lists anew what the roots show at each of the paths and below it; or at and below the first path above it
@@ -101,10 +153,9 @@ pub fn look_round<A: Allocator + Copy, D: Folders<A>, H: EventHandler<Result<Eve
     ensures same { D.told folders.new ≡ D.told folders.old }
     ensures counted { D.failed folders.old ≤ D.failed folders.new }
 {
-    match look_near(alloc, folders, roots, last, paths) {
-        Ok((listing, events)) => {
+    match renew_near(alloc, folders, roots, last, paths) {
+        Ok(events) => {
             hand_each(events, handler);
-            *last = listing;
             true
         }
         Err(error) => {

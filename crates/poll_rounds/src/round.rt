@@ -1,14 +1,15 @@
 //! One round of polling.
-ghost use Rattle.std.specs.Prelude.{◌≡◌, ◌≤◌, true, false, IfErr, IfOk, IfSome};
+ghost use Rattle.std.specs.Prelude.{◌≡◌, ◌≤◌, true, false, IfErr, IfOk, IfSome, OnErr, OnOk};
 ghost use Rattle.poll_rounds.specs.Folders.{IsRefusal, IsTree, shown};
 ghost use Rattle.folder_listing.specs.Changes.{changes};
-ghost use Rattle.folder_listing.specs.Listing.{IsListing};
-ghost use Rattle.poll_rounds.specs.Rounds.{HandsEach, HandsRefusal, next_of};
+ghost use Rattle.folder_listing.specs.Updates.{IsUpdate, updated};
+ghost use Rattle.poll_rounds.specs.Rounds.{HandsEach, HandsRefusal};
 
 use crate::folders::Folders;
 use crate::list::list_beside;
-use folder_listing::compare::compare;
+use folder_listing::compare::compare_updates;
 use folder_listing::listing::Listing;
+use folder_listing::updates::Updates;
 use notify_paths::error::Error;
 use notify_paths::path::PathBuf;
 use notify_types::event::{Event, RecursiveMode};
@@ -29,27 +30,46 @@ pub fn hand_each<A: Allocator, H: EventHandler<Result<Event<A>, Error<A>>>>(
     }
 }
 
-/// The listing of the roots, and what changed since the last one; `None` if nothing did.
+/// What becomes of the last listing of the roots, and the events that tell of it.
 fn look_again<A: Allocator + Copy, D: Folders<A>>(
     alloc: A,
     folders: &mut D,
     roots: &[(PathBuf<A>, RecursiveMode)],
     last: &Listing<A>,
-) -> Result<Option<(Listing<A>, Vec<Event<A>, A>)>, Error<A>>
+) -> Result<(Updates<A>, Vec<Event<A>, A>), Error<A>>
     ensures shown { IfSome (D.told folders.old) (λ tree. IsTree tree →
-        IfOk result (λ news. next_of last.now news ≡ shown tree roots.now)) }
-    ensures ok { IfOk result (λ news. IfSome news (λ pair. pair.1.items
-        ≡ changes last.now pair.0)) }
-    ensures law { IsListing last.now }
+        IfOk result (λ pair. updated last.now pair.0.entries ≡ shown tree roots.now)) }
+    ensures ok { IfOk result (λ pair. pair.1.items
+        ≡ changes last.now (updated last.now pair.0.entries)) }
+    ensures update { IfOk result (λ pair. IsUpdate last.now pair.0.entries) }
     ensures err { IfErr result (λ e. IsRefusal e (D.failed folders.old) (D.failed folders.new)) }
     ensures same { D.told folders.new ≡ D.told folders.old }
     ensures counted { D.failed folders.old ≤ D.failed folders.new }
 {
-    let Some(listing) = list_beside(alloc, folders, roots, last)? else {
-        return Ok(None);
-    };
-    let events = compare(alloc, last, &listing)?;
-    Ok(Some((listing, events)))
+    let updates = list_beside(alloc, folders, roots, last)?;
+    let events = compare_updates(alloc, last, &updates)?;
+    Ok((updates, events))
+}
+
+/// Brings the last listing of the roots up to date, in place, and returns the events that tell of it. After
+/// an error nothing has changed.
+fn renew<A: Allocator + Copy, D: Folders<A>>(
+    alloc: A,
+    folders: &mut D,
+    roots: &[(PathBuf<A>, RecursiveMode)],
+    last: &mut Listing<A>,
+) -> Result<Vec<Event<A>, A>, Error<A>>
+    ensures shown { IfSome (D.told folders.old) (λ tree. IsTree tree →
+        OnOk result (last.new ≡ shown tree roots.now)) }
+    ensures ok { IfOk result (λ events. events.items ≡ changes last.old last.new) }
+    ensures unchanged { OnErr result (last.new ≡ last.old) }
+    ensures err { IfErr result (λ e. IsRefusal e (D.failed folders.old) (D.failed folders.new)) }
+    ensures same { D.told folders.new ≡ D.told folders.old }
+    ensures counted { D.failed folders.old ≤ D.failed folders.new }
+{
+    let (updates, events) = look_again(alloc, folders, roots, last)?;
+    last.update(alloc, &updates)?;
+    Ok(events)
 }
 
 /// Lists the roots, reports what changed since the last listing, and keeps the new one. If listing or
@@ -76,11 +96,9 @@ pub fn poll_round<A: Allocator + Copy, D: Folders<A>, H: EventHandler<Result<Eve
     ensures same { D.told folders.new ≡ D.told folders.old }
     ensures counted { D.failed folders.old ≤ D.failed folders.new }
 {
-    match look_again(alloc, folders, roots, last) {
-        Ok(None) => true,
-        Ok(Some((listing, events))) => {
+    match renew(alloc, folders, roots, last) {
+        Ok(events) => {
             hand_each(events, handler);
-            *last = listing;
             true
         }
         Err(error) => {

@@ -6,7 +6,7 @@ use Rattle.debounce_model.specs.Honest.{has_folders}
 use Rattle.folder_listing.specs.Listing.{ListingValue, entry_at, is_nonempty}
 use Rattle.poll_rounds.specs.Folders.{Adds, reach, reaches, NamesOf}
 use Rattle.folder_listing.proofs.ListingLemmas.{folders-grow, folders-child, nonempty-child, child-is}
-use Rattle.poll_rounds.proofs.BesideLemmas.{put-grows, put-grows-if, put-there}
+use Rattle.poll_rounds.proofs.BesideLemmas.{put-grows, put-there}
 use Rattle.poll_rounds.proofs.ListLemmas.{missing, alone, no_level, no_folder, begun, goes_on, passes_over, ended}
 use Rattle.poll_rounds.proofs.list.+list_at.Goals.{then-depth-eq0-via-then-depth-eq0, then-depth-eq0-via-else-depth-eq0+then-not-is_folder}
 use Rattle.poll_rounds.proofs.list.+list_at.Goals as goal
@@ -104,12 +104,6 @@ returns-then-depth-eq0-clause-added g t c =
     alone (g.D.Folders.told c.args.folders.now) c.put.result c.in_ok-found.field-0 c.in-Some.found
     c.args.depth c.args.path.now (at c.args.listing.now) (at c.put.new.self) c.in_ok-found.ensures.found
     c.in-Some.is last c.put.ensures.ok
-
-pub returns-then-depth-eq0-clause-grows : goal.returns-then-depth-eq0-clause-grows
-returns-then-depth-eq0-clause-grows g t c =
-    let at = g.L.Entries.entries in
-    put-grows-if c.put.result (at c.args.listing.now) (at c.put.new.self)
-    c.args.path.now c.in-Some.found c.put.ensures.ok
 
 pub returns-clause-added : goal.returns-clause-added
 returns-clause-added g t c =

@@ -1,0 +1,28 @@
+use Rattle.std.proofs.Common.{◌≡◌, ◌∙◌, refl, ap, sym, subst, Some}
+use Rattle.std.specs.List.{AllByRecursion}
+use Rattle.folder_listing.specs.Updates.{added_at, after_each, update_at}
+use Rattle.folder_listing.proofs.UpdateLemmas.{differ-next, updates-found}
+use Rattle.folder_listing.proofs.updates.add_each.Goals as goal
+
+pub loop-path-init : goal.loop-path-init
+loop-path-init g c = record {
+  added = ap (after_each added_at c.args.entries.now.entries) c.iter-rest.ensures.rest;
+  others = (c.len-count.ensures.ordered, λ q h. refl);
+  found = subst (AllByRecursion (λ u. update_at c.args.updates.now.entries u.0 ≡ Some u.1))
+      (sym c.iter-rest.ensures.rest) (updates-found c.args.updates.now.entries c.iter-rest.ensures.ordered);
+}
+
+pub loop-path-preserved : goal.loop-path-preserved
+loop-path-preserved g c =
+    let us = c.args.updates.now.entries in
+    let i = c.loop-path.invariant in
+    let next = c.in-Some.ensures.steps in
+    let found = subst (AllByRecursion (λ u. update_at us u.0 ≡ Some u.1)) next i.found in
+    let is = c.in_ok-add.ensures.ok in
+    record {
+      added = ap (λ es. after_each added_at es c.next.new.self) is
+          ∙ (ap (after_each added_at c.loop-path.entries.entries) (sym next) ∙ i.added);
+      others = differ-next us c.args.entries.now.entries c.loop-path.entries.entries c.add.new.entries.entries
+          c.in-Some.path.now c.in-Some.update.now found.0 is i.others;
+      found = found.1;
+    }

@@ -1,0 +1,157 @@
+//! Updates of a listing.
+ghost use Rattle.std.specs.Prelude.{◌≡◌, OnErr, OnOk};
+ghost use Rattle.folder_listing.specs.Updates.{DifferInAdded, IsUpdate, added_at, after_each, changed_at, dropped_at, found_after, updated};
+ghost use Rattle.folder_listing.specs.Listing.{IsListing};
+
+use crate::entry::Found;
+use notify_paths::path::PathBuf;
+use std::alloc::{AllocError, Allocator};
+use std::collections::BTreeMap;
+
+/// What becomes of a path.
+#[derive(Clone, Copy, Debug, PartialEq, Eq)]
+pub enum Update {
+    /// Nothing stands there any longer.
+    Gone,
+    /// Something else stands there now, or the same with another length or modified time.
+    Changed(Found),
+    /// Something stands there now, and nothing did before.
+    Added(Found),
+}
+
+impl Update {
+    /// Returns what stands there after it.
+    pub fn found(self) -> Option<Found>
+        ensures { result ≡ found_after self }
+    {
+        match self {
+            Update::Gone => None,
+            Update::Changed(found) | Update::Added(found) => Some(found),
+        }
+    }
+}
+
+/// What becomes of some paths.
+pub type Updates<A> = BTreeMap<PathBuf<A>, Update, A>;
+
+/// What stands at some paths.
+type Entries<A> = BTreeMap<PathBuf<A>, Found, A>;
+
+/// Puts in what the update adds, if it adds something.
+fn add<A: Allocator + Copy>(
+    entries: &mut Entries<A>,
+    path: &PathBuf<A>,
+    update: Update,
+) -> Result<(), AllocError>
+    ensures ok { OnOk result (entries.new.entries
+        ≡ added_at entries.old.entries (path.now, update)) }
+    ensures unchanged { OnErr result (entries.new.entries ≡ entries.old.entries) }
+{
+    if let Update::Added(found) = update {
+        entries.insert(path.clone()?, found)?;
+    }
+    Ok(())
+}
+
+/// Takes out what the update adds, if it is there.
+fn drop_added<A: Allocator>(entries: &mut Entries<A>, path: &PathBuf<A>, update: Update)
+    ensures { entries.new.entries ≡ dropped_at entries.old.entries (path.now, update) }
+{
+    if let Update::Added(_) = update {
+        entries.remove(path);
+    }
+}
+
+/// Changes or takes out what the update tells of, if it adds nothing.
+fn change<A: Allocator>(entries: &mut Entries<A>, path: &PathBuf<A>, update: Update)
+    ensures { entries.new.entries ≡ changed_at entries.old.entries (path.now, update) }
+{
+    match update {
+        Update::Added(_) => {}
+        Update::Changed(found) => {
+            if let Some(place) = entries.get_mut(path) {
+                *place = found;
+            }
+        }
+        Update::Gone => {
+            entries.remove(path);
+        }
+    }
+}
+
+/// Puts in all that is added. After an error a part of it may be there.
+fn add_each<A: Allocator + Copy>(
+    entries: &mut Entries<A>,
+    updates: &Updates<A>,
+) -> Result<(), AllocError>
+    ensures ok { OnOk result (entries.new.entries
+        ≡ after_each added_at entries.old.entries updates.now.entries) }
+    ensures others { OnErr result
+        (DifferInAdded updates.now.entries entries.old.entries entries.new.entries) }
+{
+    // The proof reads here that the paths ascend.
+    let _count = entries.len();
+    let mut rest = updates.iter();
+    while let Some((path, update)) = rest.next() {
+        add(entries, path, *update)?;
+    }
+    Ok(())
+}
+
+/// Takes out all that is added.
+fn drop_each_added<A: Allocator>(entries: &mut Entries<A>, updates: &Updates<A>)
+    ensures { entries.new.entries ≡ after_each dropped_at entries.old.entries updates.now.entries }
+{
+    let mut rest = updates.iter();
+    while let Some((path, update)) = rest.next() {
+        drop_added(entries, path, *update);
+    }
+}
+
+/// Changes or takes out all that isn't added.
+fn change_each<A: Allocator>(entries: &mut Entries<A>, updates: &Updates<A>)
+    ensures { entries.new.entries ≡ after_each changed_at entries.old.entries updates.now.entries }
+{
+    let mut rest = updates.iter();
+    while let Some((path, update)) = rest.next() {
+        change(entries, path, *update);
+    }
+}
+
+/// Puts in all that is added, or leaves all as it was.
+fn add_all<A: Allocator + Copy>(
+    entries: &mut Entries<A>,
+    updates: &Updates<A>,
+) -> Result<(), AllocError>
+    requires listing { IsListing entries.old.entries }
+    requires update { IsUpdate entries.old.entries updates.now.entries }
+    ensures ok { OnOk result (entries.new.entries
+        ≡ after_each added_at entries.old.entries updates.now.entries) }
+    ensures unchanged { OnErr result (entries.new.entries ≡ entries.old.entries) }
+{
+    match add_each(entries, updates) {
+        Ok(()) => Ok(()),
+        Err(refused) => {
+            // A tree can't be asked for room beforehand, so what it has got is taken out again.
+            drop_each_added(entries, updates);
+            Err(refused)
+        }
+    }
+}
+
+/// Updates the entries in place. If an allocation fails, nothing has changed.
+pub(crate) fn update_entries<A: Allocator + Copy>(
+    entries: &mut Entries<A>,
+    updates: &Updates<A>,
+) -> Result<(), AllocError>
+    requires listing { IsListing entries.old.entries }
+    requires update { IsUpdate entries.old.entries updates.now.entries }
+    ensures ok { OnOk result (entries.new.entries
+        ≡ updated entries.old.entries updates.now.entries) }
+    ensures unchanged { OnErr result (entries.new.entries ≡ entries.old.entries) }
+{
+    // What can be refused comes first: only a path that is added takes memory.
+    add_all(entries, updates)?;
+    change_each(entries, updates);
+    Ok(())
+}

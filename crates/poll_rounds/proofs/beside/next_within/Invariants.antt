@@ -1,0 +1,10 @@
+use Rattle.std.proofs.Common.{◌≡◌, length}
+use Rattle.poll_rounds.specs.Beside.{within}
+use Rattle.poll_rounds.proofs.beside.next_within.Given as goal
+
+abbrev pub decreases-loop-path : goal.decreases-loop-path
+decreases-loop-path g l = length l.entries
+
+-- nothing that was passed lies there
+abbrev pub invariant-loop-path : goal.invariant-loop-path
+invariant-loop-path g l = within l.entries l.top ≡ within l.fn.entries l.top
