@@ -31,6 +31,13 @@ impl<D: Drop, A: Allocator + Copy> NotingFolders<D, A> {
         }
     }
 
+    /// Returns the folders that these stand around.
+    pub fn inner(&self) -> &D
+        ensures { result.now ≡ self.now.inner }
+    {
+        &self.inner
+    }
+
     /// Returns the path of the last call that failed, and forgets it. It is `None` if none failed since
     /// the path was taken, or if memory for a copy of the path was refused.
     pub fn take_failed_path(&mut self) -> Option<PathBuf<A>>

@@ -1,5 +1,7 @@
 //! The real file system.
-ghost use Rattle.std.specs.Prelude.{◌≡◌, ◌≤◌, None, true, IfErr, IfOk, IfSome};
+ghost use Rattle.std.specs.Prelude.{◌≡◌, ◌≢◌, ◌≤◌, ◌+◌, ◌-◌, ◌^◌, min, None, true, IfErr, IfOk, IfSome, IsOk};
+ghost use Rattle.std.specs.IoError.{error_kind};
+ghost use Rattle.std.specs.declared.io.ErrorKind.TheVariants.{InvalidFilename};
 ghost use Rattle.folder_listing.specs.Listing.{is_same_kind};
 ghost use Rattle.folder_listing.specs.declared.entry.EntryKind.TheVariants.{Folder};
 ghost use Rattle.notify_paths.specs.Errors.{out_of_memory};
@@ -21,6 +23,8 @@ pub struct RealFolders<R: Drop, A: Allocator = Global> {
     rt: R,
     alloc: A,
     failures: u64,
+    /// How many names were left out.
+    left_out: u64,
     /// How modified times are asked for, if they are.
     times: Option<ModifiedTimes>,
 }
@@ -29,12 +33,14 @@ impl<R: Drop, A: Allocator + Copy> RealFolders<R, A> {
     /// Returns the real file system, which tells no modified times. Relative paths begin at the folder that
     /// the program runs in.
     pub fn new(rt: R, alloc: A) -> RealFolders<R, A>
-        ensures { result.failures ≡ 0 }
+        ensures counted { result.failures ≡ 0 }
+        ensures none { result.left_out ≡ 0 }
     {
         RealFolders {
             rt,
             alloc,
             failures: 0,
+            left_out: 0,
             times: None,
         }
     }
@@ -44,19 +50,30 @@ impl<R: Drop, A: Allocator + Copy> RealFolders<R, A> {
     /// waits so long, and looks again. If something was written meanwhile, the time isn't told, and so is
     /// asked for again by the next look.
     pub fn with_modified_times(rt: R, alloc: A) -> RealFolders<R, A>
-        ensures { result.failures ≡ 0 }
+        ensures counted { result.failures ≡ 0 }
+        ensures none { result.left_out ≡ 0 }
     {
         RealFolders {
             rt,
             alloc,
             failures: 0,
+            left_out: 0,
             times: Some(ModifiedTimes::new()),
         }
+    }
+
+    /// Returns how many names were left out of what [`names`](Folders::names) answered so far, since they aren't
+    /// UTF-8. It never falls, and stays at the greatest number that it can count to.
+    pub fn left_out(&self) -> u64
+        ensures { result ≡ self.now.left_out }
+    {
+        self.left_out
     }
 
     /// The error of a call that failed so, which is counted, unless it failed for want of memory.
     fn refusal(&mut self, error: &io::Error) -> Error<A>
         ensures counted { self.old.failures ≤ self.new.failures }
+        ensures same { self.new.left_out ≡ self.old.left_out }
         ensures err { IsRefusal result self.old.failures self.new.failures }
     {
         if error.kind() == io::ErrorKind::OutOfMemory && error.raw_os_error().is_none() {
@@ -158,7 +175,7 @@ impl<R: Files + Clock + Drop, A: Allocator> RealFolders<R, A> {
 }
 
 impl<R: Files + Alloc + Clone + Drop, A: Allocator + Copy> RealFolders<R, A> {
-    /// The names of these entries. One that is no text is left out.
+    /// The names of these entries. One that is no text is left out, and counted.
     fn read_names(&mut self, entries: ReadDir<R, R::A>) -> Result<Vec<String<A>, A>, Error<A>>
         ensures counted { self.old.failures ≤ self.new.failures }
         ensures err { IfErr result (λ e. IsRefusal e self.old.failures self.new.failures) }
@@ -170,18 +187,26 @@ impl<R: Files + Alloc + Clone + Drop, A: Allocator + Copy> RealFolders<R, A> {
         Ok(names)
     }
 
-    /// Adds the name of the entry.
+    /// Adds the name of the entry, or counts it, if it is no text.
     fn add_entry(
         &mut self,
         names: &mut Vec<String<A>, A>,
         entry: io::Result<DirEntry<R, R::A>>,
     ) -> Result<(), Error<A>>
         ensures counted { self.old.failures ≤ self.new.failures }
+        ensures left_out { IfErr entry (λ e. error_kind e ≡ InvalidFilename →
+            IsOk result × (self.new.left_out ≡ min (self.old.left_out + 1) (2 ^ 64 - 1))) }
+        ensures same { IfErr entry (λ e. error_kind e ≢ InvalidFilename →
+            self.new.left_out ≡ self.old.left_out) }
+        ensures named { IfOk entry (λ _. self.new.left_out ≡ self.old.left_out) }
         ensures err { IfErr result (λ e. IsRefusal e self.old.failures self.new.failures) }
     {
         match entry {
             Ok(entry) => add_name(names, entry.file_name()),
-            Err(error) if error.kind() == io::ErrorKind::InvalidFilename => Ok(()),
+            Err(error) if error.kind() == io::ErrorKind::InvalidFilename => {
+                self.left_out = self.left_out.saturating_add(1);
+                Ok(())
+            }
             Err(error) => Err(self.refusal(&error)),
         }
     }

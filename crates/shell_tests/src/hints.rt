@@ -1,7 +1,10 @@
 //! Hints: a watcher that looks each hour, and is asked to look at once.
 use crate::build::{Host, path};
 use crate::reports::{entry, new_top};
-use notify_debouncer_full::{Config, Hints, PathBuf, RecommendedReports, RecursiveMode, Reports};
+use notify_debouncer_full::{
+    Config, DebounceEventResult, DebouncedEvent, Hints, PathBuf, RecommendedReports, RecursiveMode,
+    Reports,
+};
 use std::fs::Files;
 use std::os::unix::fs::symlink;
 use std::process::Abort;
@@ -25,39 +28,59 @@ fn hint<R: Host>(rt: R, hints: &Hints<R>, top: &str, name: &str) -> bool {
     hints.look_at(path(&rt, rt.alloc(), entry(&rt, top, name).as_str()))
 }
 
-/// How many events the next batch has, or 0 if an error or nothing comes within some seconds.
-fn next_count<R: Host>(reports: &RecommendedReports<R>) -> usize {
-    match reports.next_within(Duration::from_secs(10)) {
-        Some(Ok(batch)) => batch.len(),
-        _ => 0,
+/// How long a test waits for what has to come, at most, in seconds.
+const LIMIT: u64 = 100;
+
+/// What is reported next. `None` says that nothing comes.
+fn next<R: Host>(reports: &RecommendedReports<R>) -> Option<DebounceEventResult> {
+    reports.next_within(Duration::from_secs(LIMIT))
+}
+
+/// The last letters of the paths of the next events, in order: so many, or fewer if no more come.
+fn next_letters<R: Host>(rt: R, reports: &RecommendedReports<R>, count: usize) -> Vec<u8> {
+    let mut letters = Vec::new(rt.alloc());
+    // A batch has an event at least.
+    for _ in 0..count {
+        if letters.len() < count
+            && let Some(Ok(batch)) = next(reports)
+        {
+            push_letters(rt, &mut letters, batch.as_slice());
+        }
+    }
+    letters
+}
+
+/// Appends the last letter of each event's path.
+fn push_letters<R: Host>(rt: R, letters: &mut Vec<u8>, batch: &[DebouncedEvent]) {
+    for event in batch {
+        let path = event.first_path().expect(&rt, "a path");
+        let letter = path.as_str().as_bytes().last().expect(&rt, "a letter");
+        letters.push(*letter).expect(&rt, "memory");
     }
 }
 
-/// Makes three files, and hints at the first one. Returns how many events come with the hint, and how many
-/// after it.
-fn follow_hint<R: Host>(rt: R, top: &str) -> (usize, usize) {
+/// Makes three files, and hints at the last one. Returns the letters of their events, in order.
+fn follow_hint<R: Host>(rt: R, top: &str) -> Vec<u8> {
     let reports = start(rt, &path(&rt, rt.alloc(), top));
     let hints = reports.debouncer().watcher().hints().expect(&rt, "memory");
     for name in ["/x", "/y", "/z"] {
         fs::write(&rt, entry(&rt, top, name).as_str(), "x").expect(&rt, "a file");
     }
-    hint(rt, &hints, top, "/x");
-    let first = next_count(&reports);
-    let mut rest = next_count(&reports);
-    if rest < 2 {
-        rest = rest.saturating_add(next_count(&reports));
-    }
+    hint(rt, &hints, top, "/z");
+    let letters = next_letters(rt, &reports, 3);
     reports.finish();
-    (first, rest)
+    letters
 }
 
 #[test]
 fn a_hint_is_looked_at_and_a_round_follows(rt: HostRuntime) {
     let top = new_top(&rt, process::id(rt.process()), "hinted");
     fs::create_dir(&rt, top.as_str()).expect(&rt, "the top");
-    let counts = follow_hint(rt, top.as_str());
+    let letters = follow_hint(rt, top.as_str());
     fs::remove_dir_all(&rt, top.as_str()).expect(&rt, "it is there");
-    assert_eq!(rt; counts, (1, 2));
+    // A round alone reports all three in the order of their names. A look at the last one comes before it,
+    // however long a thread waits, and so its event has the least time.
+    assert_eq!(rt; letters.as_slice(), b"zxy".as_slice());
 }
 
 /// Lets the link `l` of the folder lead to this entry.
@@ -75,6 +98,18 @@ fn make_tree(rt: &(impl Abort + AllocGlobal + Files), top: &str) {
     turn_link(rt, top, "/d");
 }
 
+/// Whether a batch comes, after errors of rounds that were made before the link led back.
+fn tells<R: Host>(reports: &RecommendedReports<R>) -> bool {
+    for _ in 0..LIMIT {
+        match next(reports) {
+            Some(Ok(batch)) => return !batch.is_empty(),
+            Some(Err(_)) => {}
+            None => return false,
+        }
+    }
+    false
+}
+
 /// Hints at a file below a link that leads to itself. Then the link leads back, and the file has changed.
 /// Returns whether an error came of the hint, and whether the change is reported though no hint tells of it.
 fn follow_refused_look<R: Host>(rt: R, top: &str) -> (bool, bool) {
@@ -83,13 +118,10 @@ fn follow_refused_look<R: Host>(rt: R, top: &str) -> (bool, bool) {
     let hints = reports.debouncer().watcher().hints().expect(&rt, "memory");
     turn_link(&rt, top, "/l");
     hint(rt, &hints, top, "/l/x");
-    let refused = matches!(reports.next_within(Duration::from_secs(10)), Some(Err(_)));
+    let refused = matches!(next(&reports), Some(Err(_)));
     fs::write(&rt, entry(&rt, top, "/d/x").as_str(), "xx").expect(&rt, "a file");
     turn_link(&rt, top, "/d");
-    let mut told = false;
-    for _ in 0..4u32 {
-        told = told || next_count(&reports) > 0;
-    }
+    let told = tells(&reports);
     reports.finish();
     (refused, told)
 }
@@ -121,5 +153,5 @@ fn a_stop_ends_a_long_sleep(rt: HostRuntime) {
     let took = begun.elapsed(&rt).expect(&rt, "a clock");
     fs::remove_dir_all(&rt, top.as_str()).expect(&rt, "it is there");
     assert_eq!(rt; answers, (true, false));
-    assert!(rt; took < Duration::from_secs(10));
+    assert!(rt; took < Duration::from_secs(LIMIT));
 }

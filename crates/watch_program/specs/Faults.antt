@@ -1,8 +1,9 @@
 -- How a program that watches ends: its exit status, and its line on standard error.
-use Rattle.std.specs.Prelude.{ℕ, List, [], ◌∷◌, ◌++◌, codes, Result, Ok, Err}
+use Rattle.std.specs.Prelude.{ℕ, List, [], ◌∷◌, ◌++◌, codes, Result, Ok, Err, ◌==◌, if◌then◌else◌}
+use Rattle.std.specs.Fmt.{decimal}
 use Rattle.notify_paths.specs.Errors.{ErrorKindValue, MemoryKind, PathNotFoundKind}
 use Rattle.watch_program.specs.declared.fault.Fault.{Fault}
-use Rattle.watch_program.specs.declared.fault.Fault.TheVariants.{NotUtf8, NotPattern, Memory, NotThere, NotApart, CannotWatch, NoHints, InputTaken, OutputFailed, NoThread, Incomplete}
+use Rattle.watch_program.specs.declared.fault.Fault.TheVariants.{NotUtf8, NotPattern, Memory, NotThere, NotApart, CannotWatch, NotWatched, NoHints, InputTaken, OutputFailed, NoThread, Incomplete}
 
 -- the exit status of a program that ends by this fault
 abbrev pub fault_status : Fault → ℕ
@@ -12,6 +13,7 @@ fault_status Memory = 4
 fault_status NotThere = 5
 fault_status NotApart = 5
 fault_status CannotWatch = 5
+fault_status NotWatched = 5
 fault_status NoHints = 5
 fault_status InputTaken = 2
 fault_status OutputFailed = 6
@@ -19,7 +21,7 @@ fault_status NoThread = 8
 fault_status Incomplete = 1
 
 -- the fault's line, for a program that watches this; there is none if the output failed, or if the line of a
--- pattern was written already
+-- pattern or of one of several folders was written already
 abbrev pub fault_line : List ℕ → List ℕ → Fault → List ℕ
 fault_line program watched NotUtf8 = program ++ codes ": an argument is not UTF-8\n"
 fault_line program watched NotPattern = []
@@ -28,6 +30,7 @@ fault_line program watched NotThere = program ++ (codes ": cannot watch " ++ (wa
 fault_line program watched NotApart =
     program ++ (codes ": " ++ (watched ++ codes " and its copy lie one in the other\n"))
 fault_line program watched CannotWatch = program ++ (codes ": cannot watch " ++ (watched ++ (10 ∷ [])))
+fault_line program watched NotWatched = []
 fault_line program watched NoHints = program ++ codes ": the file of hints is not there\n"
 fault_line program watched InputTaken = program ++ codes ": hints cannot come by standard input\n"
 fault_line program watched OutputFailed = []
@@ -45,9 +48,22 @@ fault_of_watch MemoryKind = Memory
 fault_of_watch PathNotFoundKind = NotThere
 fault_of_watch kind = CannotWatch
 
+-- the fault that is left once a program has said which of its folders it is about
+abbrev pub said_fault : Fault → Fault
+said_fault NotThere = NotWatched
+said_fault CannotWatch = NotWatched
+said_fault fault = fault
+
 -- the line of a program that watches this from now on
 abbrev pub watching_line : List ℕ → List ℕ → List ℕ
 watching_line program watched = program ++ (codes ": watching " ++ (watched ++ (10 ∷ [])))
+
+-- the line of a program that leaves out so many names; there is none if it leaves out none
+abbrev pub left_out_line : List ℕ → ℕ → List ℕ
+left_out_line program names =
+    if names == 0 then []
+    else (if names == 1 then program ++ codes ": 1 name is not UTF-8 and is left out\n"
+    else program ++ (codes ": " ++ (decimal names ++ codes " names are not UTF-8 and are left out\n")))
 
 -- the exit status of a run that ended so
 abbrev pub end_status : {T : Type 0} → Result T Fault → ℕ

@@ -1,7 +1,7 @@
 //! What a program says on standard error, and how it ends.
 ghost use Rattle.std.specs.Prelude.{◌≡◌, [], OnOk};
 ghost use Rattle.std.specs.Io.KnownBytes.{Appends};
-ghost use Rattle.watch_program.specs.Faults.{end_status, watching_line};
+ghost use Rattle.watch_program.specs.Faults.{end_status, left_out_line, watching_line};
 
 use crate::fault::Fault;
 use notify_paths::error::Error;
@@ -49,4 +49,22 @@ pub fn write_missed<E: Write>(missed: u64, program: &str, err: &mut E)
     if missed > 0 {
         let _ = writeln!(err, "{program}: {missed} missed");
     }
+}
+
+/// Writes how many names are left out, if any is: `NAME: 3 names are not UTF-8 and are left out`.
+pub fn write_left_out<E: Write>(names: u64, program: &str, err: &mut E) -> io::Result<()>
+    ensures none { names ≡ 0 → E.contents err.new ≡ E.contents err.old }
+    ensures line { OnOk result (Appends (E.contents err.old) (E.contents err.new)
+        (left_out_line program.now names)) }
+{
+    if names == 0 {
+        return Ok(());
+    }
+    if names == 1 {
+        return writeln!(err, "{program}: 1 name is not UTF-8 and is left out");
+    }
+    writeln!(
+        err,
+        "{program}: {names} names are not UTF-8 and are left out"
+    )
 }

@@ -1,7 +1,7 @@
 //! Why a program that watches ends.
 ghost use Rattle.std.specs.Prelude.{◌≡◌, OnOk};
 ghost use Rattle.std.specs.Io.KnownBytes.{Appends};
-ghost use Rattle.watch_program.specs.Faults.{fault_status, fault_line, fault_of, fault_of_watch};
+ghost use Rattle.watch_program.specs.Faults.{fault_status, fault_line, fault_of, fault_of_watch, said_fault};
 ghost use Rattle.watch_program.specs.declared.fault.Fault.TheVariants.{Memory, OutputFailed};
 
 use notify_paths::error::{Error, ErrorKind};
@@ -25,6 +25,8 @@ pub enum Fault {
     NotApart,
     /// The folder or file can't be watched.
     CannotWatch,
+    /// One of several folders can't be watched. Who tried has said which one, and why.
+    NotWatched,
     /// The file of hints isn't there.
     NoHints,
     /// Hints are to be read from standard input, which the program reads for something else.
@@ -67,18 +69,39 @@ impl Fault {
         match self {
             Fault::NotUtf8 | Fault::NotPattern | Fault::InputTaken => 2,
             Fault::Memory => 4,
-            Fault::NotThere | Fault::NotApart | Fault::CannotWatch | Fault::NoHints => 5,
+            Fault::NotThere
+            | Fault::NotApart
+            | Fault::CannotWatch
+            | Fault::NotWatched
+            | Fault::NoHints => 5,
             Fault::OutputFailed => 6,
             Fault::NoThread => 8,
             Fault::Incomplete => 1,
         }
     }
 
+    /// Writes the line of a fault that is about what the program watches, one of several folders, and returns
+    /// the fault by which it ends then. Any other fault is returned as it is, and has its line at the end.
+    pub fn say_watched<E: Write>(self, program: &str, watched: &str, err: &mut E) -> Fault
+        ensures fault { result ≡ said_fault self }
+        ensures silent { said_fault self ≡ self → E.contents err.new ≡ E.contents err.old }
+    {
+        match self {
+            Fault::NotThere | Fault::CannotWatch => {
+                // If the line can't be written, the status still tells of the fault.
+                let _ = self.write(program, watched, err);
+                Fault::NotWatched
+            }
+            fault => fault,
+        }
+    }
+
     /// Writes the fault's line, for the program's name and what it watches. There is none if the output
-    /// failed, or a pattern isn't one.
+    /// failed, or if it was written already: of a pattern that isn't one, or of one of several folders.
     pub fn write<E: Write>(self, program: &str, watched: &str, err: &mut E) -> io::Result<()>
         ensures silent { self ≡ Fault.OutputFailed → E.contents err.new ≡ E.contents err.old }
         ensures pattern { self ≡ Fault.NotPattern → E.contents err.new ≡ E.contents err.old }
+        ensures watched { self ≡ Fault.NotWatched → E.contents err.new ≡ E.contents err.old }
         ensures line { OnOk result (Appends (E.contents err.old) (E.contents err.new)
             (fault_line program.now watched.now self)) }
     {
@@ -95,7 +118,7 @@ impl Fault {
             Fault::CannotWatch => writeln!(err, "{program}: cannot watch {watched}"),
             Fault::NoHints => writeln!(err, "{program}: the file of hints is not there"),
             Fault::InputTaken => writeln!(err, "{program}: hints cannot come by standard input"),
-            Fault::NotPattern | Fault::OutputFailed => Ok(()),
+            Fault::NotPattern | Fault::NotWatched | Fault::OutputFailed => Ok(()),
             Fault::NoThread => writeln!(err, "{program}: cannot start a thread"),
             Fault::Incomplete => writeln!(err, "{program}: not all could be done"),
         }

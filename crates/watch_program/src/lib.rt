@@ -13,6 +13,7 @@
 //! ```
 #![tactic(auto)]
 
+mod complaints;
 mod ends;
 mod fault;
 mod field;
@@ -20,9 +21,12 @@ mod hints;
 mod output;
 mod pace;
 mod program;
+#[cfg(test)]
+mod tests;
 mod words;
 
-pub use ends::{end, write_errors, write_missed, write_watching};
+pub use complaints::Complaints;
+pub use ends::{end, write_errors, write_left_out, write_missed, write_watching};
 pub use fault::Fault;
 pub use field::push_field;
 pub use hints::{HintWords, hints_of};
@@ -30,6 +34,6 @@ pub use output::write_now;
 pub use pace::{Pace, milliseconds_of, pace_of};
 pub use program::run_with_words;
 pub use words::{
-    command, flag, folder_of, matches_of, number, number_of, option, place_of, with_until_eof,
-    words_of,
+    command, command_of_places, flag, folder_of, folders_of, matches_of, number, number_of, option,
+    place_of, places_of, with_until_eof, words_of,
 };

@@ -3,7 +3,7 @@ ghost use Rattle.std.specs.Prelude.{◌≡◌, ◌⊎◌, ℕ, [], ◌∷◌, �
 ghost use Rattle.std.specs.String.{string_bytes};
 ghost use Rattle.clap.specs.Words.{HasMatchesOf, app_of, first_value, found_of, one_text};
 ghost use Rattle.notify_paths.specs.PathText.{parts_of};
-ghost use Rattle.watch_program.specs.Words.{Gives, ids_of};
+ghost use Rattle.watch_program.specs.Words.{Gives, ids_of, places_in};
 ghost use Rattle.watch_program.specs.declared.fault.Fault.TheVariants.{NotUtf8, Memory};
 
 use crate::fault::Fault;
@@ -30,7 +30,34 @@ pub fn command<'a>(
         ∷ codes "ticks" ∷ []) }
 {
     let place = Arg::new(alloc, "place").value_name(place).required(true);
-    let line = with(without_words(alloc, name, about), place)?;
+    with_options(alloc, with(without_words(alloc, name, about), place)?)
+}
+
+/// Returns a command line as [`command`], with one place or several, as `DIR...`.
+pub fn command_of_places<'a>(
+    alloc: Global,
+    name: &'a str,
+    about: &'a str,
+    place: &'a str,
+) -> Result<Command<'a>, AllocError>
+    ensures words { IfOk result (λ c. ids_of c ≡ codes "place" ∷ codes "timeout"
+        ∷ codes "interval" ∷ codes "hints" ∷ codes "hints-zero" ∷ codes "seconds"
+        ∷ codes "ticks" ∷ []) }
+{
+    let place = Arg::new(alloc, "place").value_name(place).required(true);
+    with_options(
+        alloc,
+        with(without_words(alloc, name, about), place.num_args(1..))?,
+    )
+}
+
+/// Adds the options of each program that watches to a line with a place.
+fn with_options<'a>(alloc: Global, line: Command<'a>) -> Result<Command<'a>, AllocError>
+    requires place { ids_of line ≡ codes "place" ∷ [] }
+    ensures words { IfOk result (λ c. ids_of c ≡ codes "place" ∷ codes "timeout"
+        ∷ codes "interval" ∷ codes "hints" ∷ codes "hints-zero" ∷ codes "seconds"
+        ∷ codes "ticks" ∷ []) }
+{
     with_life(alloc, with_hints(alloc, with_pace(alloc, line)?)?)
 }
 
@@ -155,6 +182,44 @@ pub fn folder_of(alloc: Global, matches: &ArgMatches<'_>) -> Result<PathBuf, Fau
         Ok(path) => Ok(path),
         Err(_) => Err(Fault::Memory),
     }
+}
+
+/// Returns the places, in order: all that the program watches.
+pub fn places_of<'a>(alloc: Global, matches: &ArgMatches<'a>) -> Result<Vec<&'a str>, Fault>
+    ensures ok { IfOk result (λ places. map (λ place. place.now) places.items
+        ≡ places_in matches.now) }
+    ensures err { IfErr result (λ e. e ≡ Memory) }
+{
+    let mut places = Vec::new(alloc);
+    if let Some(named) = matches.get_strs("place") {
+        places.extend_from_slice(named)?;
+    }
+    Ok(places)
+}
+
+/// Returns the places as paths, in order.
+pub fn folders_of(alloc: Global, matches: &ArgMatches<'_>) -> Result<Vec<PathBuf>, Fault>
+    ensures ok { IfOk result (λ paths. paths.items ≡ map parts_of (places_in matches.now)) }
+    ensures err { IfErr result (λ e. e ≡ Memory) }
+{
+    let places = places_of(alloc, matches)?;
+    parse_each(alloc, places.as_slice())
+}
+
+/// The texts as paths, in order.
+fn parse_each(alloc: Global, places: &[&str]) -> Result<Vec<PathBuf>, Fault>
+    ensures ok { IfOk result (λ paths. paths.items
+        ≡ map parts_of (map (λ place. place.now) places.entry.now)) }
+    ensures err { IfErr result (λ e. e ≡ Memory) }
+{
+    let mut paths = Vec::new(alloc);
+    for place in places {
+        match PathBuf::parse(alloc, place) {
+            Ok(path) => paths.push(path)?,
+            Err(_) => return Err(Fault::Memory),
+        }
+    }
+    Ok(paths)
 }
 
 /// Returns the program's words, its name first.

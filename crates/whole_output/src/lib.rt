@@ -8,6 +8,8 @@
 //! ```
 #![tactic(auto)]
 
+#[cfg(test)]
+mod tests;
 mod whole;
 
 pub use whole::{OutputFailed, write_bytes};

@@ -6,5 +6,5 @@ use Rattle.notify_poll.proofs.watcher.PollWatcher.watch_silently.Goals as goal
 
 pub returns : goal.returns
 returns g c =
-    let err : IfErr c.watch.result IsWatchError = search rules in
-    watched (c.args.path.now, c.args.mode) _ _ c.watch.result c.watch.ensures.ok err
+    let err : IfErr c.watch-done.result IsWatchError = search rules in
+    watched (c.args.path.now, c.args.mode) _ _ c.watch-done.result c.watch-done.ensures.ok err

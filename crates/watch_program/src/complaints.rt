@@ -1,0 +1,56 @@
+//! What a program says on standard error of the folders that it watches.
+ghost use Rattle.std.specs.Prelude.{◌≡◌, ◌||◌, ◌==◌, true, false, not};
+ghost use Rattle.watch_program.specs.Faults.{said_fault};
+
+use crate::ends::write_left_out;
+use crate::fault::Fault;
+use std::io::Write;
+
+/// A program's name, and where it says what goes wrong with what it watches.
+#[derive(Drop)]
+pub struct Complaints<'n, E: Drop> {
+    program: &'n str,
+    err: E,
+    /// It has said that names are left out.
+    has_left_out: bool,
+}
+
+impl<'n, E: Write + Drop> Complaints<'n, E> {
+    /// Returns those of this program, which has said nothing yet.
+    pub fn new(program: &'n str, err: E) -> Complaints<'n, E>
+        ensures program { result.program ≡ program.entry }
+        ensures output { result.err ≡ err }
+        ensures none { result.has_left_out ≡ false }
+    {
+        Complaints {
+            program,
+            err,
+            has_left_out: false,
+        }
+    }
+
+    /// Says which one of several folders can't be watched, if the fault is about that, and returns the fault by
+    /// which the program ends, as [`Fault::say_watched`].
+    pub fn refuse(&mut self, fault: Fault, folder: &str) -> Fault
+        ensures fault { result ≡ said_fault fault }
+        ensures silent { said_fault fault ≡ fault → E.contents self.new.err
+            ≡ E.contents self.old.err }
+        ensures same { self.new.has_left_out ≡ self.old.has_left_out }
+    {
+        fault.say_watched(self.program, folder, &mut self.err)
+    }
+
+    /// Says by [`write_left_out`] how many names are left out, the first time that any is.
+    pub fn leave_out(&mut self, names: u64)
+        ensures none { names ≡ 0 → self.new ≡ self.old }
+        ensures once { self.old.has_left_out ≡ true → self.new ≡ self.old }
+        ensures said { self.new.has_left_out ≡ (self.old.has_left_out || not (names == 0)) }
+    {
+        if names == 0 || self.has_left_out {
+            return;
+        }
+        self.has_left_out = true;
+        // If the line can't be written, there is nobody to tell.
+        let _ = write_left_out(names, self.program, &mut self.err);
+    }
+}
