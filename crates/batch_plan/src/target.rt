@@ -1,15 +1,17 @@
 //! Where in a copy an action is carried out.
-ghost use Rattle.std.specs.Prelude.{◌≡◌, map, IfOk};
+ghost use Rattle.std.specs.Prelude.{◌≡◌, map, option_map, IfOk, IfSome};
 ghost use Rattle.std.specs.List.{list_all};
 ghost use Rattle.std.specs.Path.{components_remaining, IsWellFormedComponent};
-ghost use Rattle.notify_paths.specs.PathText.{part_of};
+ghost use Rattle.notify_paths.specs.PathMoves.{child_of};
+ghost use Rattle.notify_paths.specs.PathText.{part_of, text_of};
 ghost use Rattle.notify_paths.specs.PathView.{component_part};
 ghost use Rattle.folder_listing.specs.Near.{is_name_part};
-ghost use Rattle.batch_plan.specs.Target.{target_of};
+ghost use Rattle.batch_plan.specs.Target.{IsInCopy, target_of};
 
 use folder_listing::near::components_past;
 use notify_paths::path::PathBuf;
-use std::alloc::{AllocError, Allocator};
+use std::alloc::{AllocError, Allocator, Global};
+use std::marker::Model;
 use std::path::{Component, Components};
 
 /// Returns the path in the copy `to` that stands for this path of the original `from`. It is `None` if
@@ -47,5 +49,77 @@ fn is_name(component: Component<'_>) -> bool
     match component {
         Component::RootDir | Component::CurDir | Component::ParentDir => false,
         Component::Normal(_) => true,
+    }
+}
+
+/// A path of a copy: what takes it can't act outside of the copy.
+#[derive(Drop)]
+pub struct Target<'c, A: Allocator = Global> {
+    to: &'c PathBuf<A>,
+    path: PathBuf<A>,
+}
+
+impl<'c, A: Allocator> Model for Target<'c, A> {
+    ghost use Rattle.batch_plan.specs.Target.{TargetValue, IsInCopy};
+
+    ghost Value = { TargetValue };
+
+    ghost view = { λ a. record { to = a.to.now; path = a.path } };
+
+    ghost invariant = { λ a. IsInCopy a.to.now a.path };
+}
+
+impl<'c, A: Allocator + Copy> Target<'c, A> {
+    /// Returns the path in the copy `to` that stands for this path of the original `from`, as
+    /// [`target_of`] does.
+    pub fn of(
+        from: &PathBuf<A>,
+        to: &'c PathBuf<A>,
+        path: &PathBuf<A>,
+    ) -> Result<Option<Target<'c, A>>, AllocError>
+        ensures ok { IfOk result (λ r. option_map (λ t. t.path) r
+            ≡ target_of from.now to.now path.now) }
+        ensures copy { IfOk result (λ r. IfSome r (λ t. t.to ≡ to.now)) }
+    {
+        match target_of(from, to, path)? {
+            Some(path) => Ok(Some(Target { to, path })),
+            None => Ok(None),
+        }
+    }
+
+    /// Returns the path of this name in the copy, or `None` if it is no name.
+    pub fn named(to: &'c PathBuf<A>, name: &str) -> Result<Option<Target<'c, A>>, AllocError>
+        ensures ok { IfOk result (λ r. option_map (λ t. t.path) r ≡ child_of to.now name.now) }
+        ensures copy { IfOk result (λ r. IfSome r (λ t. t.to ≡ to.now)) }
+    {
+        let Some(path) = to.child(name)? else {
+            return Ok(None);
+        };
+        Ok(Some(Target { to, path }))
+    }
+}
+
+impl<'c, A: Allocator> Target<'c, A> {
+    /// Returns the path, which lies at or below the copy by names alone.
+    pub fn path(&self) -> &PathBuf<A>
+        ensures value { result.now ≡ self.now.path }
+        ensures inside { IsInCopy self.now.to self.now.path }
+    {
+        &self.path
+    }
+
+    /// Returns the copy.
+    pub fn to(&self) -> &'c PathBuf<A>
+        ensures { result.now ≡ self.now.to }
+    {
+        self.to
+    }
+
+    /// Returns the path's text.
+    pub fn as_str(&self) -> &str
+        ensures value { result.now ≡ text_of self.now.path }
+        ensures inside { IsInCopy self.now.to self.now.path }
+    {
+        self.path.as_str()
     }
 }

@@ -1,35 +1,32 @@
-//! The program `build_trigger`: it prints one line for each burst of changes below a folder, as for
+//! The program `build_trigger`: it prints one line for each burst of changes below some folders, as for
 //! `while read`. docs/examples/build_trigger.md is its page.
 #![tactic(auto)]
 
-mod bursts;
-
-use bursts::Bursts;
 use clap::{ArgMatches, Command};
 use journal_lines::{PathFilter, Pattern, Patterns};
-use notify_debouncer_full::{DebouncerRuntime, RecursiveMode};
+use notify_debouncer_full::{DebouncerRuntime, PathBuf, RecursiveMode};
 use std::alloc::{AllocError, Global};
 use std::io::Write;
 use std::process::ExitCode;
-use trigger_lines::Trigger;
-use watch_loop::follow_folder;
+use trigger_lines::{Bursts, Trigger, only_folder};
+use watch_loop::follow_folders;
 use watch_program::{
-    Fault, Pace, command, folder_of, milliseconds_of, number, option, pace_of, run_with_words,
-    with_until_eof, write_missed,
+    Complaints, Fault, command_of_places, folders_of, milliseconds_of, number, option, pace_of,
+    places_of, run_with_words, with_until_eof, write_missed,
 };
 
 /// The program's name.
 const NAME: &str = "build_trigger";
 
 /// What the program does, for its help.
-const ABOUT: &str = "Prints a line for each burst of changes below a folder.";
+const ABOUT: &str = "Prints a line for each burst of changes below folders.";
 
 /// How long nothing is reported after a burst, in milliseconds, if no word says it.
 const QUIET: u64 = 500;
 
 /// The command line.
 fn command_line<'a>(alloc: Global, name: &'a str) -> Result<Command<'a>, AllocError> {
-    let line = with_until_eof(alloc, command(alloc, name, ABOUT, "DIR")?)?;
+    let line = with_until_eof(alloc, command_of_places(alloc, name, ABOUT, "DIR")?)?;
     let line = line.arg(option(alloc, "ignore", "RE").help(
         "leave out events with such paths alone",
     ))?;
@@ -47,14 +44,22 @@ fn ignored<'a>(matches: &ArgMatches<'a>) -> Option<Pattern<'a, 'a>> {
     }
 }
 
-/// Watches the folder, and prints a line for each burst.
+/// The folder as which the lines write `.`.
+fn folder_of_lines(alloc: Global, matches: &ArgMatches<'_>) -> Result<PathBuf, Fault> {
+    let folders = folders_of(alloc, matches)?;
+    Ok(only_folder(alloc, folders.as_slice())?)
+}
+
+/// Watches the folders that the words name, and prints a line for each burst.
 fn watch<R: DebouncerRuntime + AllocGlobal, O: Write + Drop, E: Write + Drop>(
     rt: R,
-    pace: Pace<'_>,
-    bursts: &mut Bursts<'_, O, E>,
+    matches: &ArgMatches<'_>,
+    complaints: Complaints<'_, E>,
+    bursts: &mut Bursts<'_, '_, O, E>,
 ) -> Result<(), Fault> {
-    let folder = bursts.folder;
-    let missed = follow_folder(rt, folder, RecursiveMode::Recursive, pace, bursts)?;
+    let folders = folders_of(rt.alloc(), matches)?;
+    let (mode, pace) = (RecursiveMode::Recursive, pace_of(matches));
+    let missed = follow_folders(rt, folders.as_slice(), mode, pace, complaints, bursts)?;
     write_missed(missed, NAME, &mut bursts.err);
     // What came last has no pause after it.
     bursts.write()
@@ -66,9 +71,10 @@ fn run<R: DebouncerRuntime + AllocGlobal, O: Write + Drop, E: Write + Drop>(
     matches: &ArgMatches<'_>,
     out: O,
     mut err: E,
+    complaints: Complaints<'_, E>,
 ) -> Result<(), Fault> {
     let alloc = rt.alloc();
-    let folder = folder_of(alloc, matches)?;
+    let folder = folder_of_lines(alloc, matches)?;
     let patterns = match Patterns::parse(alloc, None, ignored(matches)) {
         Ok(patterns) => patterns,
         Err(fault) => return Err(fault.say(NAME, &mut err)),
@@ -76,6 +82,8 @@ fn run<R: DebouncerRuntime + AllocGlobal, O: Write + Drop, E: Write + Drop>(
     let filter: PathFilter<'_> = patterns.filter(alloc)?;
     let mut bursts = Bursts {
         alloc,
+        name: NAME,
+        places: places_of(alloc, matches)?,
         folder: &folder,
         quiet: milliseconds_of(matches, "quiet", QUIET),
         filter,
@@ -83,12 +91,13 @@ fn run<R: DebouncerRuntime + AllocGlobal, O: Write + Drop, E: Write + Drop>(
         out,
         err,
     };
-    watch(rt, pace_of(matches), &mut bursts)
+    watch(rt, matches, complaints, &mut bursts)
 }
 
 fn main(rt: HostRuntime) -> ExitCode {
     let status = run_with_words(&rt, NAME, command_line, &mut rt.stderr(), |matches| {
-        run(rt, matches, rt.stdout(), rt.stderr())
+        let complaints = Complaints::new(NAME, rt.stderr());
+        run(rt, matches, rt.stdout(), rt.stderr(), complaints)
     });
     ExitCode::from(status)
 }

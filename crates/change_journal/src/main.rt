@@ -1,26 +1,27 @@
-//! The program `change_journal`: it prints each change below a folder, as the debouncer emits it, until it
-//! is stopped. docs/examples/change_journal.md is its page.
+//! The program `change_journal`: it prints each change below some folders, as the debouncer emits it, until
+//! it is stopped. docs/examples/change_journal.md is its page.
 #![tactic(auto)]
 
-mod printer;
 mod words;
 
 use clap::ArgMatches;
-use journal_lines::{Journal, PathFilter, Patterns};
+use journal_lines::{Journal, PathFilter, Patterns, Printer};
 use notify_debouncer_full::{DebouncerRuntime, RecursiveMode};
-use printer::Printer;
 use std::io::Write;
 use std::process::ExitCode;
-use watch_loop::follow_folder;
-use watch_program::{Fault, folder_of, pace_of, place_of, run_with_words, write_missed};
+use watch_loop::follow_folders;
+use watch_program::{
+    Complaints, Fault, folders_of, pace_of, places_of, run_with_words, write_missed,
+};
 use words::{NAME, command_line, form_of, patterns_of};
 
-/// Watches the folder, and prints of it what passes the patterns.
+/// Watches the folders, and prints of them what passes the patterns.
 fn run<R: DebouncerRuntime + AllocGlobal, O: Write + Drop, E: Write + Drop>(
     rt: R,
     matches: &ArgMatches<'_>,
     out: O,
     mut err: E,
+    complaints: Complaints<'_, E>,
 ) -> Result<(), Fault> {
     let (include, exclude) = patterns_of(matches);
     let patterns = match Patterns::parse(rt.alloc(), include, exclude) {
@@ -28,26 +29,37 @@ fn run<R: DebouncerRuntime + AllocGlobal, O: Write + Drop, E: Write + Drop>(
         Err(fault) => return Err(fault.say(NAME, &mut err)),
     };
     let filter: PathFilter<'_> = patterns.filter(rt.alloc())?;
-    let place = place_of(matches);
     let mut printer = Printer {
         clock: rt,
         alloc: rt.alloc(),
-        place,
+        name: NAME,
+        places: places_of(rt.alloc(), matches)?,
         journal: Journal::new(form_of(matches)),
         filter,
         out,
         err,
     };
-    let folder = folder_of(rt.alloc(), matches)?;
+    watch(rt, matches, complaints, &mut printer)
+}
+
+/// Watches the folders that the words name, and prints the journal of them.
+fn watch<R: DebouncerRuntime + AllocGlobal, O: Write + Drop, E: Write + Drop>(
+    rt: R,
+    matches: &ArgMatches<'_>,
+    complaints: Complaints<'_, E>,
+    printer: &mut Printer<'_, '_, R, O, E>,
+) -> Result<(), Fault> {
+    let folders = folders_of(rt.alloc(), matches)?;
     let (mode, pace) = (RecursiveMode::Recursive, pace_of(matches));
-    let missed = follow_folder(rt, &folder, mode, pace, &mut printer)?;
+    let missed = follow_folders(rt, folders.as_slice(), mode, pace, complaints, printer)?;
     write_missed(missed, NAME, &mut printer.err);
     Ok(())
 }
 
 fn main(rt: HostRuntime) -> ExitCode {
     let status = run_with_words(&rt, NAME, command_line, &mut rt.stderr(), |matches| {
-        run(rt, matches, rt.stdout(), rt.stderr())
+        let complaints = Complaints::new(NAME, rt.stderr());
+        run(rt, matches, rt.stdout(), rt.stderr(), complaints)
     });
     ExitCode::from(status)
 }

@@ -2,14 +2,14 @@
 use clap::{Arg, ArgMatches, Command};
 use journal_lines::{Form, Pattern};
 use std::alloc::{AllocError, Global};
-use watch_program::{command, flag, option, with_until_eof};
+use watch_program::{command_of_places, flag, option, with_until_eof};
 
 /// The program's name.
 pub(crate) const NAME: &str = "change_journal";
 
 /// The command line.
 pub(crate) fn command_line<'a>(alloc: Global, name: &'a str) -> Result<Command<'a>, AllocError> {
-    let line = command(alloc, name, "Prints the changes below a folder.", "DIR")?;
+    let line = command_of_places(alloc, name, "Prints the changes below folders.", "DIR")?;
     let line = with_until_eof(alloc, line)?;
     let initial = flag(alloc, "initial").long("initial");
     let line = line.arg(initial.help("print what is there first, as created"))?;

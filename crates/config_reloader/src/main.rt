@@ -2,18 +2,16 @@
 //! changed, and prints the configuration in force. docs/examples/config_reloader.md is its page.
 #![tactic(auto)]
 
-mod follower;
-
 use clap::{ArgMatches, Command};
-use config_state::{Place, Reloader};
-use follower::Follower;
+use config_state::{Follower, Place, Reloader};
 use notify_debouncer_full::{DebouncerRuntime, PathBuf, RecursiveMode};
 use std::alloc::{AllocError, Global};
 use std::io::Write;
 use std::process::ExitCode;
 use watch_loop::follow_folder;
 use watch_program::{
-    Fault, Pace, command, pace_of, place_of, run_with_words, with_until_eof, write_missed,
+    Complaints, Fault, Pace, command, pace_of, place_of, run_with_words, with_until_eof,
+    write_missed,
 };
 
 /// The program's name.
@@ -33,14 +31,13 @@ fn watch<R: DebouncerRuntime + AllocGlobal, O: Write + Drop, E: Write + Drop>(
     rt: R,
     folder: &PathBuf,
     pace: Pace<'_>,
-    follower: &mut Follower<R, O, E>,
+    complaints: Complaints<'_, E>,
+    follower: &mut Follower<'_, R, O, E>,
 ) -> Result<(), Fault> {
-    let missed = follow_folder(rt, folder, RecursiveMode::NonRecursive, pace, follower)?;
+    let mode = RecursiveMode::NonRecursive;
+    let missed = follow_folder(rt, folder, mode, pace, complaints, follower)?;
     write_missed(missed, NAME, &mut follower.err);
-    if missed > 0 {
-        follower.read()?;
-    }
-    Ok(())
+    follower.read_if_missed(missed)
 }
 
 /// Watches the folder of the file that the words name.
@@ -49,21 +46,24 @@ fn run<R: DebouncerRuntime + AllocGlobal, O: Write + Drop, E: Write + Drop>(
     matches: &ArgMatches<'_>,
     out: O,
     err: E,
+    complaints: Complaints<'_, E>,
 ) -> Result<(), Fault> {
     let Place { folder, file } = Place::parse(rt.alloc(), place_of(matches))?;
     let mut follower = Follower {
         rt,
+        name: NAME,
         file,
         reloader: Reloader::new(),
         out,
         err,
     };
-    watch(rt, &folder, pace_of(matches), &mut follower)
+    watch(rt, &folder, pace_of(matches), complaints, &mut follower)
 }
 
 fn main(rt: HostRuntime) -> ExitCode {
     let status = run_with_words(&rt, NAME, command_line, &mut rt.stderr(), |matches| {
-        run(rt, matches, rt.stdout(), rt.stderr())
+        let complaints = Complaints::new(NAME, rt.stderr());
+        run(rt, matches, rt.stdout(), rt.stderr(), complaints)
     });
     ExitCode::from(status)
 }

@@ -1,2 +1,4 @@
+pub mod FollowedLemmas
 pub mod Touching
 pub mod ReadChanges
+pub mod EndReadings

@@ -4,3 +4,4 @@ pub mod Paragraph
 pub mod InForce
 pub mod Reloads
 pub mod Places
+pub mod Followed

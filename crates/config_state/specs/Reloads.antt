@@ -11,6 +11,7 @@ use Rattle.debounce_model.specs.Kept.{has_first, has_rename, is_waiting, takes_a
 use Rattle.debounce_model.specs.Play.{accepted}
 use Rattle.debounce_model.specs.Run.{Run}
 use Rattle.debounce_model.specs.State.{Core, State, waiting}
+use Rattle.debounce_model.specs.Tick.{IsOutlook}
 use Rattle.config_state.specs.Touched.{Touches}
 
 -- the event tells a change of the file: it is a creation of it or a plain change
@@ -48,3 +49,32 @@ RunsReadEachChange {C} r =
     waiting s.state ≡ 0 →
     has_rename commands replies ≡ false →
     EachChangeIsRead file commands replies t.state
+
+-- after a change the file is read again, or the outlook is about it, or a removal took the file away
+abbrev pub IsReadByEnd : PathValue → List CommandValue → List ReplyValue → List Timed → Type 0
+IsReadByEnd file commands replies outlook =
+    Any (ReadsAgain file) replies
+    ⊎ (Touches file outlook
+    ⊎ (list_any (takes_away file) (accepted commands replies) ≡ true))
+
+-- so it is with each accepted change of the file, where the outlook comes after all replies
+abbrev pub EachChangeIsReadByEnd : PathValue → List CommandValue → List ReplyValue → List Timed → Type 0
+EachChangeIsReadByEnd file commands replies outlook =
+    (earlier later : List CommandValue) (told after : List ReplyValue)
+    (event : EventValue) (now : ℕ) (exists : Bool) (answer : Option FileId) →
+    commands ≡ earlier ++ EventCommand event now exists ∷ later →
+    replies ≡ told ++ TakenReply answer ∷ after →
+    length earlier ≡ length told →
+    TellsChangeOf file event →
+    IsReadByEnd file later after outlook
+
+-- in a run without renames, from where nothing waits, each accepted change is read, at last by the outlook
+abbrev pub RunsReadEachChangeByEnd : {C : Type 0} → Rules C → Type 0
+RunsReadEachChangeByEnd {C} r =
+    (file : PathValue) (s t : Core C) (commands : List CommandValue) (replies : List ReplyValue)
+    (outlook : List Timed) →
+    Run r s commands replies t →
+    waiting s.state ≡ 0 →
+    has_rename commands replies ≡ false →
+    IsOutlook t.state outlook →
+    EachChangeIsReadByEnd file commands replies outlook

@@ -2,7 +2,7 @@
 ghost use Rattle.std.specs.Prelude.{◌≡◌, ◌↔◌, IsTrue};
 ghost use Rattle.std.specs.List.{list_any};
 ghost use Rattle.notify_paths.specs.Path.{is_prefix};
-ghost use Rattle.config_state.specs.Reloads.{RunsReadEachChange};
+ghost use Rattle.config_state.specs.Reloads.{RunsReadEachChange, RunsReadEachChangeByEnd};
 ghost use Rattle.config_state.specs.Touched.{touches, Touches, HasChange};
 
 use file_id_cache::cache::FileIdCache;
@@ -51,4 +51,13 @@ fn names(paths: &[PathBuf], file: &PathBuf) -> bool
 /// change is a creation of the file or a plain change of it, told by an event whose first path it is.
 pub fn law_of_reloads<C: FileIdCache<A>, A: Allocator>()
     ensures { RunsReadEachChange C.rules }
+{}
+
+/// Does nothing. By its contract each change of a file that a debouncer accepts, in a run as of
+/// [`law_of_reloads`], is followed by a batch for which [`is_touched`] answers `true`, if the outlook is
+/// taken as the last batch; or a later removal took the file or a folder above it away.
+///
+/// So a program that takes the outlook as it ends leaves no pending change unread.
+pub fn law_of_reloads_by_end<C: FileIdCache<A>, A: Allocator>()
+    ensures { RunsReadEachChangeByEnd C.rules }
 {}

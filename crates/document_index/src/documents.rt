@@ -1,4 +1,8 @@
 //! Documents, read from files.
+ghost use Rattle.std.specs.Prelude.{IfOk, OnOk};
+ghost use Rattle.debounce_model.specs.Play.{events_of};
+ghost use Rattle.document_index.specs.Read.{IsNamedOnly, PutsFirst};
+
 use batch_plan::naming::name_listed;
 use notify_debouncer_full::{
     DebouncedEvent, DebouncerRuntime, Folders, PathBuf, RealFolders, RecursiveMode, list,
@@ -35,19 +39,29 @@ impl<R: DebouncerRuntime + AllocGlobal> Documents<R> {
         Ok(batch)
     }
 
-    /// Reads what stands at the paths that the batch names.
-    pub(crate) fn read(&self, batch: &[DebouncedEvent]) -> Result<BTreeMap<PathBuf, Words>, Fault> {
+    /// Reads what stands at the paths that the batch names first. Nothing else is read.
+    pub(crate) fn read(&self, batch: &[DebouncedEvent]) -> Result<BTreeMap<PathBuf, Words>, Fault>
+        ensures named { IfOk result (λ read. IsNamedOnly (events_of batch.now) read.entries) }
+    {
         let mut read = BTreeMap::new(self.rt.alloc());
         for event in batch {
-            if let Some(path) = event.first_path() {
-                self.read_into(&mut read, path)?;
-            }
+            self.read_first(&mut read, event)?;
         }
         Ok(read)
     }
 
-    /// Puts in the words of what stands at the path, if something does.
-    fn read_into(&self, read: &mut BTreeMap<PathBuf, Words>, path: &PathBuf) -> Result<(), Fault> {
+    /// Puts in the words of what stands at the event's first path, if it has one and something does.
+    fn read_first(
+        &self,
+        read: &mut BTreeMap<PathBuf, Words>,
+        event: &DebouncedEvent,
+    ) -> Result<(), Fault>
+        ensures put { OnOk result (PutsFirst event.now.event.paths read.old.entries
+            read.new.entries) }
+    {
+        let Some(path) = event.first_path() else {
+            return Ok(());
+        };
         let key = path.clone()?;
         if let Some(words) = self.words_at(path)? {
             read.insert(key, words)?;

@@ -13,7 +13,9 @@ use std::alloc::{AllocError, Global};
 use std::io::Write;
 use std::process::ExitCode;
 use watch_loop::FolderReports;
-use watch_program::{Fault, command, folder_of, hints_of, option, pace_of, run_with_words};
+use watch_program::{
+    Complaints, Fault, command, folder_of, hints_of, option, pace_of, run_with_words,
+};
 
 /// The program's name.
 const NAME: &str = "document_index";
@@ -31,7 +33,7 @@ fn command_line<'a>(alloc: Global, name: &'a str) -> Result<Command<'a>, AllocEr
 fn answer_lines<R: DebouncerRuntime + AllocGlobal + Input, O: Write + Drop, E: Write + Drop>(
     rt: R,
     service: &mut Service<R, O, E>,
-    reports: &FolderReports<R>,
+    reports: &mut FolderReports<'_, R, E>,
 ) -> Result<(), Fault> {
     for line in rt.lines(rt.alloc()) {
         match line {
@@ -46,7 +48,7 @@ fn answer_lines<R: DebouncerRuntime + AllocGlobal + Input, O: Write + Drop, E: W
 fn answer_line<R: DebouncerRuntime + AllocGlobal, O: Write + Drop, E: Write + Drop>(
     rt: R,
     service: &mut Service<R, O, E>,
-    reports: &FolderReports<R>,
+    reports: &mut FolderReports<'_, R, E>,
     word: &str,
 ) -> Result<(), Fault> {
     service.catch_up(rt, reports)?;
@@ -59,7 +61,7 @@ fn answer<R: DebouncerRuntime + AllocGlobal + Input, O: Write + Drop, E: Write +
     rt: R,
     matches: &ArgMatches<'_>,
     service: &mut Service<R, O, E>,
-    reports: &FolderReports<R>,
+    reports: &mut FolderReports<'_, R, E>,
 ) -> Result<(), Fault> {
     service.begin()?;
     match matches.get_str("query") {
@@ -72,13 +74,14 @@ fn answer<R: DebouncerRuntime + AllocGlobal + Input, O: Write + Drop, E: Write +
 fn serve<R: DebouncerRuntime + AllocGlobal + Input, O: Write + Drop, E: Write + Drop>(
     rt: R,
     matches: &ArgMatches<'_>,
+    complaints: Complaints<'_, E>,
     service: &mut Service<R, O, E>,
 ) -> Result<(), Fault> {
     let folder = &service.documents.folder;
     // The folder is watched first, so that no change after the first look is missed.
-    let pace = pace_of(matches);
-    let reports = FolderReports::start(rt, folder, RecursiveMode::Recursive, pace)?;
-    answer(rt, matches, service, &reports)?;
+    let (mode, pace) = (RecursiveMode::Recursive, pace_of(matches));
+    let mut reports = FolderReports::start(rt, folder, mode, pace, complaints)?;
+    answer(rt, matches, service, &mut reports)?;
     service.say_missed(reports.finish()?.missed);
     Ok(())
 }
@@ -97,16 +100,18 @@ fn run<R: DebouncerRuntime + AllocGlobal + Input, O: Write + Drop, E: Write + Dr
     matches: &ArgMatches<'_>,
     out: O,
     err: E,
+    complaints: Complaints<'_, E>,
 ) -> Result<(), Fault> {
     check_words(matches)?;
     let documents = Documents::new(rt, folder_of(rt.alloc(), matches)?);
     let mut service = Service::new(rt.alloc(), documents, out, err);
-    serve(rt, matches, &mut service)
+    serve(rt, matches, complaints, &mut service)
 }
 
 fn main(rt: HostRuntime) -> ExitCode {
     let status = run_with_words(&rt, NAME, command_line, &mut rt.stderr(), |matches| {
-        run(rt, matches, rt.stdout(), rt.stderr())
+        let complaints = Complaints::new(NAME, rt.stderr());
+        run(rt, matches, rt.stdout(), rt.stderr(), complaints)
     });
     ExitCode::from(status)
 }

@@ -1,13 +1,17 @@
 //! Queries and their answers.
+ghost use Rattle.std.specs.Prelude.{◌≡◌, OnOk};
+ghost use Rattle.std.specs.Io.KnownBytes.{Appends};
+ghost use Rattle.word_index.specs.Answer.{answer_to};
+
 use crate::NAME;
 use crate::documents::Documents;
-use caseless::default_case_fold_str;
 use notify_debouncer_full::{DebounceEventResult, DebouncedEvent, DebouncerRuntime};
 use std::alloc::Global;
 use std::io::Write;
 use std::time::Duration;
 use watch_loop::FolderReports;
-use watch_program::{Fault, push_field, write_errors, write_missed, write_now, write_watching};
+use watch_program::{Fault, write_errors, write_missed, write_now, write_watching};
+use word_index::answer::write_answer;
 use word_index::index::DocumentIndex;
 
 /// An index of documents, and where its answers and complaints go.
@@ -60,7 +64,11 @@ impl<R: DebouncerRuntime + AllocGlobal, O: Write + Drop, E: Write + Drop> Servic
     }
 
     /// Takes the reports that have come.
-    pub(crate) fn catch_up(&mut self, rt: R, reports: &FolderReports<R>) -> Result<(), Fault> {
+    pub(crate) fn catch_up(
+        &mut self,
+        rt: R,
+        reports: &mut FolderReports<'_, R, E>,
+    ) -> Result<(), Fault> {
         for _ in rt.forever() {
             let Some(report) = reports.next_within(Duration::from_millis(1)) else {
                 return Ok(());
@@ -71,14 +79,12 @@ impl<R: DebouncerRuntime + AllocGlobal, O: Write + Drop, E: Write + Drop> Servic
     }
 
     /// Prints the documents that have the word, in any case: a line each, in the order of their paths.
-    pub(crate) fn answer(&mut self, word: &str) -> Result<(), Fault> {
-        let word = default_case_fold_str(self.alloc, word)?;
-        let mut lines = Vec::new(self.alloc);
-        for path in &self.index.documents_with(word.as_str())? {
-            push_field(&mut lines, path.as_str().as_bytes())?;
-            lines.push(b'\n')?;
-        }
-        write_now(lines.as_slice(), &mut self.out)
+    pub(crate) fn answer(&mut self, word: &str) -> Result<(), Fault>
+        ensures written { OnOk result (Appends (O.contents self.old.out) (O.contents self.new.out)
+            (answer_to self.old.index word.now)) }
+        ensures unchanged { self.new.index ≡ self.old.index }
+    {
+        write_answer(self.alloc, &self.index, word, &mut self.out)
     }
 
     /// Says how many events, errors and batches were lost, if any was.

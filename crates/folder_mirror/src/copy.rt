@@ -1,6 +1,9 @@
 //! The copy of a folder, and what is done to it.
+ghost use Rattle.std.specs.Prelude.{◌≡◌, option_map, IfOk, IfSome};
+ghost use Rattle.batch_plan.specs.Target.{target_of};
+
 use batch_plan::action::Standing;
-use batch_plan::target::target_of;
+use batch_plan::target::Target;
 use notify_debouncer_full::PathBuf;
 use std::fs::{Files, Metadata};
 use std::os::unix::fs::MetadataExt;
@@ -19,15 +22,14 @@ pub(crate) struct Leave {
     pub(crate) dry_run: bool,
 }
 
-/// A folder and its copy. Nothing outside of the copy is changed, and no link is followed on the way. Each
-/// change says whether there was anything to do; in a dry run it only says so.
+/// A folder and its copy. Each change takes a [`Target`], so nothing outside of the copy is changed, and no
+/// link is followed on the way. It says whether there was anything to do; in a dry run it only says so.
 #[derive(Drop)]
 pub(crate) struct FolderCopy<R: Drop> {
     rt: R,
     pub(crate) from: PathBuf,
     pub(crate) to: PathBuf,
     pub(crate) leave: Leave,
-    partial: PathBuf,
     /// The device of the folder: if it is another one, the folder's disk is gone.
     device: u64,
 }
@@ -40,9 +42,6 @@ impl<R: Files + AllocGlobal + Copy + Drop> FolderCopy<R> {
         to: PathBuf,
         leave: Leave,
     ) -> Result<FolderCopy<R>, Fault> {
-        let Some(partial) = to.child(PARTIAL)? else {
-            return Err(Fault::CannotWatch);
-        };
         let Ok(found) = fs::symlink_metadata(&rt, from.as_str()) else {
             return Err(Fault::NotThere);
         };
@@ -51,7 +50,6 @@ impl<R: Files + AllocGlobal + Copy + Drop> FolderCopy<R> {
             from,
             to,
             leave,
-            partial,
             device: found.dev(),
         })
     }
@@ -104,7 +102,7 @@ impl<R: Files + AllocGlobal + Copy + Drop> FolderCopy<R> {
     }
 
     /// Makes a folder there. What is no folder makes way only if it may be removed.
-    fn make(&self, target: &PathBuf) -> io::Result<bool> {
+    fn make(&self, target: &Target<'_>) -> io::Result<bool> {
         match self.found_at(target)? {
             Some(found) if found.is_dir() => return Ok(false),
             Some(_) if !self.leave.delete => {
@@ -121,7 +119,7 @@ impl<R: Files + AllocGlobal + Copy + Drop> FolderCopy<R> {
 
     /// Copies the file, unless the copy has the same bytes. The copy has the old bytes or the new ones at
     /// each moment.
-    fn copy(&self, path: &PathBuf, target: &PathBuf) -> io::Result<bool> {
+    fn copy(&self, path: &PathBuf, target: &Target<'_>) -> io::Result<bool> {
         match self.found_at(target)? {
             Some(found) if found.is_dir() && !self.leave.delete => {
                 return Err(io::Error::from(io::ErrorKind::AlreadyExists));
@@ -135,19 +133,29 @@ impl<R: Files + AllocGlobal + Copy + Drop> FolderCopy<R> {
     }
 
     /// Copies the file beside its place, and then puts it there. A file that was begun doesn't stay.
-    fn replace(&self, path: &PathBuf, target: &PathBuf, of_folder: bool) -> io::Result<()> {
-        if let Err(error) = fs::copy(&self.rt, path.as_str(), self.partial.as_str()) {
-            let _ = fs::remove_file(&self.rt, self.partial.as_str());
+    fn replace(&self, path: &PathBuf, target: &Target<'_>, of_folder: bool) -> io::Result<()> {
+        let partial = self.partial()?;
+        if let Err(error) = fs::copy(&self.rt, path.as_str(), partial.as_str()) {
+            let _ = fs::remove_file(&self.rt, partial.as_str());
             return Err(error);
         }
         if of_folder {
             fs::remove_dir_all(&self.rt, target.as_str())?;
         }
-        fs::rename(&self.rt, self.partial.as_str(), target.as_str())
+        fs::rename(&self.rt, partial.as_str(), target.as_str())
+    }
+
+    /// The file that is written before it gets its place.
+    fn partial(&self) -> io::Result<Target<'_>> {
+        match Target::named(&self.to, PARTIAL) {
+            Ok(Some(partial)) => Ok(partial),
+            Ok(None) => Err(io::Error::from(io::ErrorKind::InvalidInput)),
+            Err(_) => Err(io::Error::from(io::ErrorKind::OutOfMemory)),
+        }
     }
 
     /// Removes the folder if it is empty.
-    fn remove_folder(&self, target: &PathBuf) -> io::Result<bool> {
+    fn remove_folder(&self, target: &Target<'_>) -> io::Result<bool> {
         if self.leave.dry_run {
             return Ok(true);
         }
@@ -158,14 +166,14 @@ impl<R: Files + AllocGlobal + Copy + Drop> FolderCopy<R> {
         }
     }
 
-    fn remove_file(&self, target: &PathBuf) -> io::Result<bool> {
+    fn remove_file(&self, target: &Target<'_>) -> io::Result<bool> {
         if !self.leave.dry_run {
             fs::remove_file(&self.rt, target.as_str())?;
         }
         Ok(true)
     }
 
-    fn remove_all(&self, target: &PathBuf) -> io::Result<bool> {
+    fn remove_all(&self, target: &Target<'_>) -> io::Result<bool> {
         if !self.leave.dry_run {
             fs::remove_dir_all(&self.rt, target.as_str())?;
         }
@@ -173,23 +181,27 @@ impl<R: Files + AllocGlobal + Copy + Drop> FolderCopy<R> {
     }
 
     /// The path of the copy that stands for this one of the folder.
-    fn target_of(&self, path: &PathBuf) -> io::Result<Option<PathBuf>> {
-        match target_of(&self.from, &self.to, path) {
+    fn target_of(&self, path: &PathBuf) -> io::Result<Option<Target<'_>>>
+        ensures target { IfOk result (λ r. option_map (λ t. t.path) r
+            ≡ target_of self.now.from self.now.to path.now) }
+        ensures copy { IfOk result (λ r. IfSome r (λ t. t.to ≡ self.now.to)) }
+    {
+        match Target::of(&self.from, &self.to, path) {
             Ok(target) => Ok(target),
             Err(_) => Err(io::Error::from(io::ErrorKind::OutOfMemory)),
         }
     }
 
     /// Whether both files have the same bytes.
-    fn is_same(&self, path: &PathBuf, target: &PathBuf) -> io::Result<bool> {
+    fn is_same(&self, path: &PathBuf, target: &Target<'_>) -> io::Result<bool> {
         let new = fs::read(&self.rt, path.as_str())?;
         let old = fs::read(&self.rt, target.as_str())?;
         Ok(old.as_slice() == new.as_slice())
     }
 
     /// It is an error if a folder of the copy above the target is none, as a link to one.
-    fn check_folders_above(&self, target: &PathBuf) -> io::Result<()> {
-        for folder in target.folders() {
+    fn check_folders_above(&self, target: &Target<'_>) -> io::Result<()> {
+        for folder in target.path().folders() {
             if folder.as_os_str().len() <= self.to.as_str().len() {
                 break;
             }
@@ -202,7 +214,7 @@ impl<R: Files + AllocGlobal + Copy + Drop> FolderCopy<R> {
 
     /// What stands there, and not what a link on the way leads to. In a dry run the folders above may be
     /// missing, since they weren't made.
-    fn found_at(&self, target: &PathBuf) -> io::Result<Option<Metadata>> {
+    fn found_at(&self, target: &Target<'_>) -> io::Result<Option<Metadata>> {
         match self.check_folders_above(target) {
             Err(error) if self.leave.dry_run && is_missing(&error) => return Ok(None),
             checked => checked?,

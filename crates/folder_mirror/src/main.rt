@@ -19,7 +19,8 @@ use std::io::Write;
 use std::process::ExitCode;
 use watch_loop::follow_folder;
 use watch_program::{
-    Fault, Pace, command, flag, folder_of, pace_of, place_of, run_with_words, with_until_eof,
+    Complaints, Fault, Pace, command, flag, folder_of, pace_of, place_of, run_with_words,
+    with_until_eof,
 };
 
 /// The program's name.
@@ -77,13 +78,15 @@ fn keep<R: DebouncerRuntime + AllocGlobal, O: Write + Drop, E: Write + Drop>(
     rt: R,
     mirror: &mut Mirror<R, O, E>,
     pace: Pace<'_>,
+    complaints: Complaints<'_, E>,
 ) -> Result<(), Fault> {
     let from = mirror.from().clone()?;
     let pace = Pace {
         initial: true,
         ..pace
     };
-    let missed = follow_folder(rt, &from, RecursiveMode::Recursive, pace, mirror)?;
+    let mode = RecursiveMode::Recursive;
+    let missed = follow_folder(rt, &from, mode, pace, complaints, mirror)?;
     mirror.end(missed)
 }
 
@@ -93,14 +96,16 @@ fn run<R: DebouncerRuntime + AllocGlobal, O: Write + Drop, E: Write + Drop>(
     matches: &ArgMatches<'_>,
     out: O,
     err: E,
+    complaints: Complaints<'_, E>,
 ) -> Result<(), Fault> {
     let mut mirror = Mirror::new(rt, copy_of(rt, matches)?, out, err);
-    keep(rt, &mut mirror, pace_of(matches))
+    keep(rt, &mut mirror, pace_of(matches), complaints)
 }
 
 fn main(rt: HostRuntime) -> ExitCode {
     let status = run_with_words(&rt, NAME, command_line, &mut rt.stderr(), |matches| {
-        run(rt, matches, rt.stdout(), rt.stderr())
+        let complaints = Complaints::new(NAME, rt.stderr());
+        run(rt, matches, rt.stdout(), rt.stderr(), complaints)
     });
     ExitCode::from(status)
 }

@@ -1,4 +1,7 @@
 //! The mirror: batches carried out on the copy.
+ghost use Rattle.std.specs.Prelude.{◌≡◌, ◌++◌, ◌∷◌, ◌==◌, [], length, None, Some, IfErr, IfOk, OnOk, if◌then◌else◌};
+ghost use Rattle.batch_plan.specs.Naming.{naming};
+
 use crate::NAME;
 use crate::copied::Copied;
 use crate::copy::FolderCopy;
@@ -25,6 +28,8 @@ pub(crate) struct Mirror<R: Drop, O: Drop, E: Drop> {
     copy: FolderCopy<R>,
     copied: Copied,
     failed: Vec<DebouncedEvent>,
+    /// After how long what failed is tried again.
+    pause: Duration,
     /// The folder isn't there. Its copy stays as it is until the folder is there again.
     is_gone: bool,
     /// What the copy has beside the folder wasn't removed since the folder was there again.
@@ -45,6 +50,7 @@ impl<R: Files + Clock + AllocGlobal + Copy + Drop, O: Write + Drop, E: Write + D
             copy,
             copied: Copied::new(rt.alloc()),
             failed: Vec::new(rt.alloc()),
+            pause: Duration::from_millis(PAUSE),
             is_gone: false,
             has_beside: true,
             out,
@@ -126,6 +132,15 @@ impl<R: Files + Clock + AllocGlobal + Copy + Drop, O: Write + Drop, E: Write + D
             None => self.remove(&action.path),
             Some(standing) => self.put(&action.path, standing),
         };
+        self.settle(action, done)
+    }
+
+    /// Says what was done, or what failed; then its path is kept, and tried again later.
+    fn settle(&mut self, action: &Action, done: io::Result<bool>) -> Result<(), Fault>
+        ensures kept { IfErr done (λ _. OnOk result
+            (self.new.failed.items ≡ self.old.failed.items ++ naming action.now.path ∷ [])) }
+        ensures done { IfOk done (λ _. self.new.failed ≡ self.old.failed) }
+    {
         match done {
             Ok(true) => self.say(action),
             Ok(false) => Ok(()),
@@ -158,7 +173,9 @@ impl<R: Files + Clock + AllocGlobal + Copy + Drop, O: Write + Drop, E: Write + D
     }
 
     /// Says what was done.
-    fn say(&mut self, action: &Action) -> Result<(), Fault> {
+    fn say(&mut self, action: &Action) -> Result<(), Fault>
+        ensures same { self.new.failed ≡ self.old.failed }
+    {
         let mut line = Vec::new(self.rt.alloc());
         line.extend_from_slice(word_of(action.wanted).as_bytes())?;
         line.push(b' ')?;
@@ -168,7 +185,10 @@ impl<R: Files + Clock + AllocGlobal + Copy + Drop, O: Write + Drop, E: Write + D
     }
 
     /// Says what failed, and keeps its path.
-    fn say_failed(&mut self, action: &Action, error: &io::Error) -> Result<(), Fault> {
+    fn say_failed(&mut self, action: &Action, error: &io::Error) -> Result<(), Fault>
+        ensures kept { OnOk result
+            (self.new.failed.items ≡ self.old.failed.items ++ naming action.now.path ∷ []) }
+    {
         let word = word_of(action.wanted);
         let path = action.path.as_str();
         let _ = writeln!(self.err, "{NAME}: cannot {word} {path}: {error}");
@@ -179,6 +199,8 @@ impl<R: Files + Clock + AllocGlobal + Copy + Drop, O: Write + Drop, E: Write + D
 
 impl<R: Files + Clock + AllocGlobal + Copy + Drop, O: Write + Drop, E: Write + Drop> TakesReports
     for Mirror<R, O, E> {
+    ghost waits = { λ mirror. if length mirror.failed.items == 0 then None else Some mirror.pause };
+
     /// What stands in the folder is reported: the copy is made as of any other change.
     fn begin(&mut self) -> Result<(), Fault> {
         let _ = write_watching(self.copy.from.as_str(), NAME, &mut self.err);
@@ -200,7 +222,7 @@ impl<R: Files + Clock + AllocGlobal + Copy + Drop, O: Write + Drop, E: Write + D
         if self.failed.is_empty() {
             None
         } else {
-            Some(Duration::from_millis(PAUSE))
+            Some(self.pause)
         }
     }
 

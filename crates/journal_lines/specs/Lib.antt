@@ -4,3 +4,4 @@ pub mod Kept
 pub mod KeptView
 pub mod Lines
 pub mod Patterns
+pub mod Printed

@@ -4,7 +4,7 @@
 //! [`Patterns::parse`] reads the regular expressions of a filter; [`PatternFault::say`] says which can't be
 //! read and why. [`Patterns::filter`] lends a [`PathFilter`]. A [`Journal`] numbers the events that pass and
 //! writes those of each batch at once, by [`Journal::write_timed`], or by [`Journal::write_passing`] if the
-//! caller has the time.
+//! caller has the time. A program that follows reports so is [`Printer`].
 #![tactic(auto)]
 
 mod clock;
@@ -14,6 +14,7 @@ mod journal;
 mod json;
 mod pattern;
 mod patterns;
+mod printer;
 
 pub use clock::clock_text;
 pub use filter::PathFilter;
@@ -22,3 +23,4 @@ pub use journal::Journal;
 pub use json::json_line;
 pub use pattern::{Pattern, PatternFault};
 pub use patterns::Patterns;
+pub use printer::Printer;

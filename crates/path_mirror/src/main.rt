@@ -74,6 +74,9 @@ fn end(rt: &(impl Print + Eprint + Wait), paths: &mut PathSet, last: &LastReport
         follow(rt, paths, &report)?;
     }
     paths.play(last.book.outlook()?.as_slice())?;
+    for error in last.book.core().pending_errors() {
+        eprintln!(rt; "{error}")?;
+    }
     if last.missed > 0 || last.unsent > 0 {
         eprintln!(rt; "{} missed, {} unsent", last.missed, last.unsent)?;
     }

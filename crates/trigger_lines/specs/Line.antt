@@ -11,6 +11,12 @@ use Rattle.watch_program.specs.Fields.{field_of}
 abbrev pub current_path : PathValue
 current_path = parts_of (codes ".")
 
+-- the only folder; of none and of several the empty path
+abbrev pub only_of : List PathValue → PathValue
+only_of [] = []
+only_of (folder ∷ []) = folder
+only_of (folder ∷ other ∷ more) = []
+
 -- the path as it lies in `.`, if it lies at or below the folder, and else as it is
 abbrev pub as_in : PathValue → PathValue → PathValue
 as_in folder path =

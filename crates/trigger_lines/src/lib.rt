@@ -3,13 +3,15 @@
 //!
 //! A [`Trigger`] gathers events by `hand_in`. When the burst is over, [`write_line`] takes what waits
 //! by `take_line` and writes its line, with the paths relative to a folder. [`play`] does many such
-//! steps, and its contract says what becomes of each event.
+//! steps, and its contract says what becomes of each event. A program that follows reports so is [`Bursts`].
 #![tactic(auto)]
 
+mod bursts;
 mod line;
 mod step;
 mod trigger;
 
-pub use line::{push_line, write_line};
+pub use bursts::Bursts;
+pub use line::{only_folder, push_line, write_line};
 pub use step::{Step, play};
 pub use trigger::Trigger;

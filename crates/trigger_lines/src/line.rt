@@ -2,7 +2,7 @@
 ghost use Rattle.std.specs.Prelude.{◌≡◌, ◌⊎◌, ◌++◌, [], IfErr, IfOk, OnErr, OnOk};
 ghost use Rattle.std.specs.Io.KnownBytes.{Appends};
 ghost use Rattle.notify_paths.specs.PathText.{text_of};
-ghost use Rattle.trigger_lines.specs.Line.{current_path, as_in, path_fields, event_fields, line_of, written_of};
+ghost use Rattle.trigger_lines.specs.Line.{current_path, as_in, path_fields, event_fields, line_of, only_of, written_of};
 ghost use Rattle.watch_program.specs.Fields.{field_of};
 ghost use Rattle.whole_output.specs.Output.{WritesFront};
 ghost use Rattle.watch_program.specs.declared.fault.Fault.TheVariants.{Memory, OutputFailed};
@@ -13,6 +13,17 @@ use notify_types::event::DebouncedEvent;
 use std::alloc::{AllocError, Global};
 use std::io::Write;
 use watch_program::{Fault, push_field, write_now};
+
+/// Returns the folder as which lines write `.`: the only one that is watched. Of several it is the empty path,
+/// which stands for none, so each path is written as it is.
+pub fn only_folder(alloc: Global, folders: &[PathBuf]) -> Result<PathBuf, AllocError>
+    ensures { IfOk result (λ path. path ≡ only_of folders.now) }
+{
+    match folders {
+        [folder] => folder.clone(),
+        _ => Ok(PathBuf::empty(alloc)),
+    }
+}
 
 /// Writes the line of what waits, if anything does, and flushes the writer. From then on nothing waits,
 /// also after an error: then a beginning of the line was written, perhaps nothing, and no further line

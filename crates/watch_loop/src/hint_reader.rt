@@ -3,15 +3,14 @@
 //! Nothing waits for such a thread. It may stand in a read that nothing in this language can end, and so
 //! whoever waited for it might wait for ever. It holds no report and no part of the debouncer, only the
 //! handle by which it asks the watcher for looks, so nothing is lost when the program ends before it does.
-ghost use Rattle.std.specs.Prelude.{◌≡◌, ◌⊎◌, [], Some, IfErr};
+ghost use Rattle.std.specs.Prelude.{◌≡◌, ◌⊎◌, [], Some, IfErr, IfSome};
 ghost use Rattle.watch_program.specs.declared.fault.Fault.TheVariants.{Memory, NoHints, NoThread};
 
 use crate::input_end::InputEnd;
-use hint_lines::{Ends, HintLines, HintedFolder, TakesHints, read_hints};
+use hint_lines::{HintLines, HintedFolder, TakesHints, read_hints};
 use notify_debouncer_full::{DebouncerRuntime, Hints, PathBuf, Task, start_task};
 use std::alloc::Global;
 use std::fs::Files;
-use std::io::Read;
 use std::sync::Wait;
 use std::thread::Threads;
 use std::{fs, io};
@@ -20,27 +19,25 @@ use watch_program::{Fault, HintWords};
 /// Standard input, as a file: a thread to which the runtime's own is sent has no proof.
 const STANDARD_INPUT: &str = "/dev/stdin";
 
-/// How many bytes of standard input are passed over at once.
-const CHUNK: usize = 4_096;
-
-/// Asks the watcher for looks.
+/// Asks the watcher for looks in the folders.
 #[derive(Drop)]
 struct HintSink<R: Wait + Drop> {
     alloc: Global,
-    folder: HintedFolder,
+    folders: Vec<HintedFolder>,
     hints: Hints<R>,
 }
 
 impl<R: Wait + Copy + Drop> TakesHints for HintSink<R> {
-    ghost takes = { λ before hint on after. after.folder ≡ before.folder };
+    ghost takes = { λ before hint on after. after.folders ≡ before.folders };
 
-    /// If there is no memory for the path, all is looked at. What lies elsewhere is passed over.
+    /// Looks in each folder that the hint is about. If there is no memory for a path, all is looked at. What lies
+    /// elsewhere is passed over.
     fn look_at(&mut self, path: &str) -> bool {
-        match self.folder.path_of(self.alloc, path) {
-            Ok(Some(path)) => self.hints.look_at(path),
-            Ok(None) => true,
-            Err(_) => self.hints.look_at_all(),
+        let mut goes_on = true;
+        for folder in self.folders.as_slice() {
+            goes_on = look_in(self.alloc, folder, &self.hints, path) && goes_on;
         }
+        goes_on
     }
 
     fn look_at_all(&mut self) -> bool {
@@ -48,23 +45,37 @@ impl<R: Wait + Copy + Drop> TakesHints for HintSink<R> {
     }
 }
 
+/// Asks for a look in the folder, if the hint is about it.
+fn look_in<R: Wait + Copy + Drop>(
+    alloc: Global,
+    folder: &HintedFolder,
+    hints: &Hints<R>,
+    path: &str,
+) -> bool {
+    match folder.path_of(alloc, path) {
+        Ok(Some(path)) => hints.look_at(path),
+        Ok(None) => true,
+        Err(_) => hints.look_at_all(),
+    }
+}
+
 /// The work of a thread that reads hints: where, and for whom.
 #[derive(Drop)]
 struct HintTask<R: Wait + Drop> {
     rt: R,
-    alloc: Global,
     file: String,
-    ends: Ends,
+    /// What the lines are gathered in. It is asked for before the thread starts.
+    lines: Option<HintLines>,
     sink: HintSink<R>,
     input: InputEnd,
 }
 
 impl<R: Wait + Files + Alloc + Copy + Drop + Send + Sync + 'static> Task for HintTask<R> {
-    ghost can_run = { λ _. Unit {0} };
+    ghost can_run = { λ task. IfSome task.lines (λ lines. lines.held ≡ Some []) };
 
     /// Reads hints until they end, or the watcher has ended.
     fn run(&mut self) {
-        if let Ok(lines) = HintLines::new(self.alloc, self.ends) {
+        if let Some(lines) = self.lines.take() {
             let _ = read_file(&self.rt, self.file.as_str(), lines, &mut self.sink);
         }
         self.input.set();
@@ -83,22 +94,10 @@ impl<R: Wait + Files + Alloc + Copy + Drop + Send + Sync + 'static> Task for Ski
 
     fn run(&mut self) {
         if let Ok(mut source) = fs::open(&self.rt, STANDARD_INPUT) {
-            skip_all(&mut source);
+            // A read that is interrupted is made again; one that fails ends it too.
+            let _ = io::copy(&mut source, &mut io::sink());
         }
         self.input.set();
-    }
-}
-
-/// Reads to the end.
-fn skip_all<S: Read>(source: &mut S) {
-    let mut buffer = [0u8; CHUNK];
-    for _ in 0..u64::MAX {
-        match source.read(&mut buffer) {
-            Ok(0) => return,
-            Ok(_) => {}
-            Err(error) if error.kind() == io::ErrorKind::Interrupted => {}
-            Err(_) => return,
-        }
     }
 }
 
@@ -128,11 +127,11 @@ pub(crate) fn check_hints<R: Files>(rt: &R, words: Option<HintWords<'_>>) -> Res
     }
 }
 
-/// Starts a thread that reads hints about the folder, and asks for looks by this handle.
+/// Starts a thread that reads hints about the folders, and asks for looks by this handle.
 pub(crate) fn start_hints<R: DebouncerRuntime>(
     rt: R,
     alloc: Global,
-    folder: &PathBuf,
+    folders: &[PathBuf],
     words: HintWords<'_>,
     hints: Hints<R>,
     input: InputEnd,
@@ -146,10 +145,13 @@ pub(crate) fn start_hints<R: DebouncerRuntime>(
     };
     let task = HintTask {
         rt,
-        alloc,
         file: String::from_str(alloc, file)?,
-        ends: words.ends,
-        sink: sink_of(&rt, alloc, folder, hints)?,
+        lines: Some(HintLines::new(alloc, words.ends)?),
+        sink: HintSink {
+            alloc,
+            folders: hinted_folders(&rt, alloc, folders)?,
+            hints,
+        },
         input,
     };
     start(rt, alloc, task)
@@ -177,13 +179,27 @@ fn start<R: Threads + Drop, K: Task>(rt: R, alloc: Global, task: K) -> Result<()
     }
 }
 
-/// What asks for looks below the folder, which the system may name otherwise.
-fn sink_of<R: Wait + Files + Alloc + Copy + Drop>(
+/// The folders, in order.
+fn hinted_folders<R: Files + Alloc>(
+    rt: &R,
+    alloc: Global,
+    folders: &[PathBuf],
+) -> Result<Vec<HintedFolder>, Fault>
+    ensures err { IfErr result (λ e. e ≡ Memory) }
+{
+    let mut hinted = Vec::new(alloc);
+    for folder in folders {
+        hinted.push(hinted_folder(rt, alloc, folder)?)?;
+    }
+    Ok(hinted)
+}
+
+/// The folder, which the system may name otherwise.
+fn hinted_folder<R: Files + Alloc>(
     rt: &R,
     alloc: Global,
     folder: &PathBuf,
-    hints: Hints<R>,
-) -> Result<HintSink<R>, Fault>
+) -> Result<HintedFolder, Fault>
     ensures err { IfErr result (λ e. e ≡ Memory) }
 {
     let Ok(given) = folder.try_clone() else {
@@ -193,9 +209,5 @@ fn sink_of<R: Wait + Files + Alloc + Copy + Drop>(
         Ok(real) => PathBuf::parse(alloc, real.as_path().as_os_str()).ok(),
         Err(_) => None,
     };
-    Ok(HintSink {
-        alloc,
-        folder: HintedFolder { given, real },
-        hints,
-    })
+    Ok(HintedFolder { given, real })
 }

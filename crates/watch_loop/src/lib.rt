@@ -10,9 +10,14 @@
 #![tactic(auto)]
 
 mod folder_reports;
+mod follow;
 mod hint_reader;
 mod input_end;
+mod live;
+mod rest;
 mod whole_program;
 
-pub use folder_reports::{FolderReports, Rest, TakesReports, follow_folder};
-pub use whole_program::{TakesBatches, run_program};
+pub use folder_reports::FolderReports;
+pub use follow::{follow_folder, follow_folders};
+pub use report_loop::{BatchTaker, Rest, TakesBatches, TakesReports};
+pub use whole_program::run_program;

@@ -1,34 +1,25 @@
 //! A whole program over a folder, from its words to its exit status.
 ghost use Rattle.std.specs.Prelude.{◌≡◌, ◌⊎◌};
 
-use crate::folder_reports::{TakesReports, follow_folder};
+use crate::follow::follow_folder;
 use clap::{ArgMatches, Command};
-use notify_debouncer_full::{DebounceEventResult, DebouncedEvent, DebouncerRuntime, RecursiveMode};
+use notify_debouncer_full::{DebouncerRuntime, PathBuf, RecursiveMode};
+use report_loop::{BatchTaker, TakesBatches};
 use std::alloc::{AllocError, Global};
+use std::io;
 use std::io::Write;
 use std::rt::Env;
 use watch_program::{
-    Fault, Pace, command, end, folder_of, matches_of, pace_of, place_of, with_until_eof, words_of,
-    write_errors, write_missed, write_watching,
+    Complaints, Fault, Pace, command, end, folder_of, matches_of, pace_of, place_of,
+    with_until_eof, words_of, write_missed,
 };
-
-/// What a program does with the batches of a folder.
-pub trait TakesBatches: Drop {
-    /// Whether what is there already is in the first batches, as created.
-    fn wants_initial(&self) -> bool {
-        false
-    }
-
-    /// Takes a batch. An error ends the program.
-    fn take(&mut self, batch: Vec<DebouncedEvent>) -> Result<(), Fault>;
-}
 
 /// Runs a program whose words are `DIR`, `--timeout`, `--interval`, `--hints`, `--hints-zero`, `--seconds`,
 /// `--ticks`, `--until-eof` and `--help`:
 /// watches the folder with all below it, says so on `err` (`NAME: watching DIR`), and hands on each batch
 /// until the program's life is over, and then, as one batch, all that waits. Returns the exit status.
 /// Faults, errors of the watcher and the number of lost events are written to `err`; what there is to say of
-/// the words is printed.
+/// the words is printed, and that names are left out on the runtime's standard error.
 pub fn run_program<
     R: DebouncerRuntime + AllocGlobal + Env + Print + Eprint,
     P: TakesBatches,
@@ -46,14 +37,14 @@ pub fn run_program<
         Err(status) => return status,
     };
     let place = place_of(&matches);
-    let mut printer = Printer {
+    let mut taker = BatchTaker {
         name,
         place,
         program,
         err,
     };
-    let run = watch(rt, &matches, &mut printer);
-    end(run, name, place, &mut printer.err)
+    let run = watch(rt, &matches, &mut taker);
+    end(run, name, place, &mut taker.err)
 }
 
 /// The command line.
@@ -61,44 +52,50 @@ fn line_of<'a>(alloc: Global, name: &'a str, about: &'a str) -> Result<Command<'
     with_until_eof(alloc, command(alloc, name, about, "DIR")?)
 }
 
-/// A program, what it watches, and where its errors are written to.
+/// The runtime's standard error. A program's own is lent to who takes its batches.
 #[derive(Drop)]
-struct Printer<'n, P: Drop, E: Drop> {
-    name: &'n str,
-    place: &'n str,
-    program: P,
-    err: E,
+struct StandardError<R: Drop> {
+    rt: R,
 }
 
-impl<P: TakesBatches, E: Write + Drop> TakesReports for Printer<'_, P, E> {
-    fn begin(&mut self) -> Result<(), Fault> {
-        let _ = write_watching(self.place, self.name, &mut self.err);
-        Ok(())
+impl<R: Eprint + Drop> Write for StandardError<R> {
+    fn write(&mut self, buf: &[u8]) -> io::Result<usize> {
+        match std::str::from_utf8(buf) {
+            Ok(text) => self.rt.eprint(text)?,
+            Err(_) => return Err(io::Error::from(io::ErrorKind::InvalidData)),
+        }
+        Ok(buf.len())
     }
 
-    fn take(&mut self, report: DebounceEventResult) -> Result<(), Fault> {
-        match report {
-            Ok(batch) => self.program.take(batch),
-            Err(errors) => {
-                write_errors(errors.as_slice(), self.name, &mut self.err);
-                Ok(())
-            }
-        }
+    fn flush(&mut self) -> io::Result<()> {
+        Ok(())
     }
 }
 
 /// Watches the folder that the words name.
-fn watch<R: DebouncerRuntime + AllocGlobal, P: TakesBatches, E: Write + Drop>(
+fn watch<R: DebouncerRuntime + AllocGlobal + Eprint, P: TakesBatches, E: Write + Drop>(
     rt: R,
     matches: &ArgMatches<'_>,
-    printer: &mut Printer<'_, P, E>,
+    taker: &mut BatchTaker<'_, P, E>,
 ) -> Result<(), Fault> {
     let folder = folder_of(rt.alloc(), matches)?;
     let pace = Pace {
-        initial: printer.program.wants_initial(),
+        initial: taker.program.wants_initial(),
         ..pace_of(matches)
     };
-    let missed = follow_folder(rt, &folder, RecursiveMode::Recursive, pace, printer)?;
-    write_missed(missed, printer.name, &mut printer.err);
+    let missed = follow(rt, &folder, pace, taker)?;
+    write_missed(missed, taker.name, &mut taker.err);
     Ok(())
+}
+
+/// Follows the folder, with all below it.
+fn follow<R: DebouncerRuntime + AllocGlobal + Eprint, P: TakesBatches, E: Write + Drop>(
+    rt: R,
+    folder: &PathBuf,
+    pace: Pace<'_>,
+    taker: &mut BatchTaker<'_, P, E>,
+) -> Result<u64, Fault> {
+    let complaints = Complaints::new(taker.name, StandardError { rt });
+    let mode = RecursiveMode::Recursive;
+    follow_folder(rt, folder, mode, pace, complaints, taker)
 }

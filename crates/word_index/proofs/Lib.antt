@@ -1,2 +1,3 @@
+pub mod Nothing
 pub mod IndexLaw
 pub mod WordLemmas

@@ -7,9 +7,10 @@
 //! let mut index = DocumentIndex::new(rt.alloc());
 //! read.insert(path, words_of(rt.alloc(), text)?)?;
 //! index.take_batch(read, batch.as_slice())?;
-//! for path in &index.documents_with(word)? { .. }
+//! write_answer(rt.alloc(), &index, word, &mut rt.stdout())?;
 //! ```
 #![tactic(auto)]
 
+pub mod answer;
 pub mod index;
 pub mod words;

@@ -1,0 +1,103 @@
+-- A program whose calls write the entries of batches writes a journal.
+use Rattle.std.proofs.Common.{◌≡◌, ◌∙◌, List, [], ◌∷◌, refl, sym, ap, subst}
+use Rattle.std.specs.Prelude.{ℕ, Option, Some, None, Ok, Err, OnOk, MatchResult}
+use Rattle.std.specs.declared.alloc.Global.{Global}
+use Rattle.std.specs.declared.vec.Vec.{Vec}
+use Rattle.notify_paths.specs.Errors.{ErrorValue}
+use Rattle.notify_types.specs.Event.{Timed}
+use Rattle.report_loop.specs.Loop.{Follows, Program, Source, Step}
+use Rattle.report_loop.specs.Gave.{CalledWith}
+use Rattle.report_loop.proofs.GaveLemmas.{all_taken}
+use Rattle.journal_lines.specs.Kept.{Rule, passing}
+use Rattle.journal_lines.specs.Lines.{WritesTimed, after}
+use Rattle.journal_lines.specs.Printed.{WritesAll, WritesEach}
+use Rattle.journal_lines.specs.declared.journal.Journal.{Journal}
+
+-- what is seen of a program, and what its calls make of that
+pub record IsJournal {P : Type 0} (program : Program P) (rule : P → Rule) (journal : P → Journal)
+    (out : P → Option (List ℕ)) : Type 0 where
+  pub begins : (p p' : P) → program.begins p (Ok tt) p' →
+      (rule p' ≡ rule p) × (journal p' ≡ journal p) × (out p' ≡ out p)
+  pub batch : (p p' : P) (batch : Vec Timed Global) → program.takes p (Ok batch) (Ok tt) p' →
+      (rule p' ≡ rule p)
+      × (journal p' ≡ record (journal p) { next = after (journal p).next (passing (rule p) batch.items) })
+      × WritesTimed (journal p).form (journal p).next (passing (rule p) batch.items) (out p) (out p')
+  pub errors : (p p' : P) (errors : Vec ErrorValue Global) → program.takes p (Err errors) (Ok tt) p' →
+      (rule p' ≡ rule p) × (journal p' ≡ journal p) × (out p' ≡ out p)
+  pub pass : (p p' : P) → program.passes p (Ok tt) p' →
+      (rule p' ≡ rule p) × (journal p' ≡ journal p) × (out p' ≡ out p)
+
+-- what is written from equal values on
+pub carried : (r r' : Rule) (j j' : Journal) (o o' end : Option (List ℕ)) (steps : List Step) →
+    r' ≡ r → j' ≡ j → o' ≡ o → WritesEach j'.form r' j'.next steps o' end → WritesEach j.form r j.next steps o end
+carried r r' j j' o o' end steps rules journals outs h =
+    let a = subst (λ x. WritesEach j'.form r' j'.next steps x end) outs h in
+    let b = subst (λ x. WritesEach x.form r' x.next steps o end) journals a in
+    subst (λ x. WritesEach j.form x j.next steps o end) rules b
+
+-- the calls write the entries of the steps
+pub writes : {P : Type 0} (program : Program P) (rule : P → Rule) (journal : P → Journal) (out : P → Option (List ℕ)) →
+    IsJournal program rule journal out → (steps : List Step) (p p' : P) → CalledWith program steps p p' →
+    WritesEach (journal p).form (rule p) (journal p).next steps (out p) (out p')
+writes program rule journal out is [] p p' called = ap out called
+writes program rule journal out is (Some (Ok batch) ∷ steps) p p' called =
+    let q = called.0 in let does = is.batch p q batch called.1 in
+    let more = writes program rule journal out is steps q p' called.2 in
+    let next = record (journal p) { next = after (journal p).next (passing (rule p) batch.items) } in (
+      out q,
+      does.2,
+      carried (rule p) (rule q) next (journal q) (out q) (out q) (out p') steps does.0 does.1 refl more,
+    )
+writes program rule journal out is (Some (Err errors) ∷ steps) p p' called =
+    let q = called.0 in let does = is.errors p q errors called.1 in
+    carried (rule p) (rule q) (journal p) (journal q) (out p) (out q) (out p') steps does.0 does.1 does.2
+    (writes program rule journal out is steps q p' called.2)
+writes program rule journal out is (None ∷ steps) p p' called =
+    let q = called.0 in let does = is.pass p q called.1 in
+    carried (rule p) (rule q) (journal p) (journal q) (out p) (out q) (out p') steps does.0 does.1 does.2
+    (writes program rule journal out is steps q p' called.2)
+
+-- a program that followed a source to its end wrote the entries of all that it gave
+pub followed : {S P : Type 0} (source : Source S) (s : S) (program : Program P) (rule : P → Rule)
+    (journal : P → Journal) (out : P → Option (List ℕ)) → IsJournal program rule journal out →
+    (p p' : P) (missed : ℕ) → Follows source program s p (Ok missed) p' →
+    WritesAll source s (journal p).form (rule p) (journal p).next (out p) (out p')
+followed source s program rule journal out is p p' missed follows =
+    let all = all_taken source program s p p' missed follows in
+    let took = all.1 in let q = took.0 in
+    let same = is.begins p q took.2 in (
+      missed,
+      all.0,
+      took.1,
+      carried (rule p) (rule q) (journal p) (journal q) (out p) (out q) (out p') all.0 same.0 same.1 same.2
+          (writes program rule journal out is all.0 q p' took.3),
+    )
+
+-- a program that writes the entries of what passes, by what is seen of it
+abbrev pub journal_program : {P : Type 0} → (P → Rule) → (P → Journal) → (P → Option (List ℕ)) → Program P
+journal_program rule journal out = record {
+  begins = λ old answer new. (rule new ≡ rule old) × (journal new ≡ journal old) × (out new ≡ out old);
+  patience = λ program. None;
+  takes = λ old report answer new. (rule new ≡ rule old)
+      × MatchResult report
+      (λ batch. OnOk answer
+      ((journal new ≡ record (journal old) { next = after (journal old).next (passing (rule old) batch.items) })
+      × WritesTimed (journal old).form (journal old).next (passing (rule old) batch.items) (out old) (out new)))
+      (λ errors. (journal new ≡ journal old) × (out new ≡ out old));
+  passes = λ old answer new. (rule new ≡ rule old) × (journal new ≡ journal old) × (out new ≡ out old);
+}
+
+-- such a program that followed a source to its end wrote the entries of all that it gave
+pub printer_followed : {S P : Type 0} (source : Source S) (s : S) (rule : P → Rule) (journal : P → Journal)
+    (out : P → Option (List ℕ)) (p p' : P) (missed : ℕ) →
+    Follows source (journal_program rule journal out) s p (Ok missed) p' →
+    WritesAll source s (journal p).form (rule p) (journal p).next (out p) (out p')
+printer_followed source s rule journal out p p' missed follows =
+    followed source s (journal_program rule journal out) rule journal out
+    (record {
+      begins = λ p q h. h;
+      batch = λ p q batch h. (h.0, h.1.0, h.1.1);
+      errors = λ p q errors h. (h.0, h.1.0, h.1.1);
+      pass = λ p q h. h;
+    })
+    p p' missed follows

@@ -1,0 +1,22 @@
+-- What a program prints of what is reported to it.
+use Rattle.std.specs.Prelude.{◌≡◌, ℕ, List, [], ◌∷◌, Option, None, Some, Ok, Err}
+use Rattle.notify_types.specs.Event.{Timed}
+use Rattle.report_loop.specs.Gave.{Gave}
+use Rattle.report_loop.specs.Loop.{Source, Step}
+use Rattle.journal_lines.specs.Kept.{Rule, passing}
+use Rattle.journal_lines.specs.Lines.{WritesTimed, after}
+use Rattle.journal_lines.specs.declared.form.Form.{Form}
+
+-- of each batch the entries of what passes were written, numbered through from this number on, and nothing else
+abbrev pub WritesEach : Form → Rule → ℕ → List Step → Option (List ℕ) → Option (List ℕ) → Type 0
+WritesEach form rule seq [] old new = new ≡ old
+WritesEach form rule seq (Some (Ok batch) ∷ steps) old new =
+    (between : Option (List ℕ)) × WritesTimed form seq (passing rule batch.items) old between
+    × WritesEach form rule (after seq (passing rule batch.items)) steps between new
+WritesEach form rule seq (Some (Err errors) ∷ steps) old new = WritesEach form rule seq steps old new
+WritesEach form rule seq (None ∷ steps) old new = WritesEach form rule seq steps old new
+
+-- the entries of all that the source gave were written
+abbrev pub WritesAll : {S : Type 0} → Source S → S → Form → Rule → ℕ → Option (List ℕ) → Option (List ℕ) → Type 0
+WritesAll source reports form rule seq old new =
+    (lost : ℕ) × (steps : List Step) × Gave source reports steps lost × WritesEach form rule seq steps old new

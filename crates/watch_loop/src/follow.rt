@@ -1,0 +1,48 @@
+//! A program that follows a folder.
+use crate::folder_reports::FolderReports;
+use notify_debouncer_full::{DebouncerRuntime, PathBuf, RecursiveMode};
+use report_loop::{TakesReports, take_rest};
+use std::io::Write;
+use watch_program::{Complaints, Fault, Pace};
+
+/// Watches the folder, has the program begin, and hands on each report until the program's life is over, and
+/// then what was not given yet: what was emitted, and all that waited, as one batch. What is there already is
+/// reported first if `pace.initial` says so, as created.
+/// Returns how many events, errors and batches were lost: an allocation failed, or the clock could not be
+/// read.
+pub fn follow_folder<R: DebouncerRuntime + AllocGlobal, P: TakesReports, E: Write + Drop>(
+    rt: R,
+    folder: &PathBuf,
+    mode: RecursiveMode,
+    pace: Pace<'_>,
+    complaints: Complaints<'_, E>,
+    program: &mut P,
+) -> Result<u64, Fault> {
+    let reports = FolderReports::start(rt, folder, mode, pace, complaints)?;
+    follow(rt, reports, program)
+}
+
+/// Watches each of the folders, as [`FolderReports::start_all`], and goes on as [`follow_folder`].
+pub fn follow_folders<R: DebouncerRuntime + AllocGlobal, P: TakesReports, E: Write + Drop>(
+    rt: R,
+    folders: &[PathBuf],
+    mode: RecursiveMode,
+    pace: Pace<'_>,
+    complaints: Complaints<'_, E>,
+    program: &mut P,
+) -> Result<u64, Fault> {
+    let reports = FolderReports::start_all(rt, folders, mode, pace, complaints)?;
+    follow(rt, reports, program)
+}
+
+/// Has the program begin, hands on each report until its life is over, and then what was not given yet.
+fn follow<R: DebouncerRuntime + AllocGlobal, P: TakesReports, E: Write + Drop>(
+    rt: R,
+    mut reports: FolderReports<'_, R, E>,
+    program: &mut P,
+) -> Result<u64, Fault> {
+    program.begin()?;
+    reports.say_left_out();
+    reports.hand_to(rt, program)?;
+    take_rest(reports.finish(), program)
+}
