@@ -36,3 +36,17 @@ for name in build_trigger change_journal config_reloader document_index; do
     wait $running 2>/dev/null
     report "$name: a watcher's errors are said" "$(! grep -qvE "^$name: (watching $place|Io)$" err && echo $well)"
 done
+
+# An error that waits when the program ends is said too: after the first look there is only the last one.
+for name in build_trigger change_journal config_reloader; do
+    program=$top/crates/$name/out/$name
+    place=l/x
+    [ $name != config_reloader ] || place=l/x/f.toml
+    rm -rf d l && mkdir -p d/x && ln -s d l && echo 'port = 80' >d/x/f.toml
+    : >err
+    (says err "^$name: watching $place$" && ln -sfn l l) |
+        timeout 100 "$program" $place --timeout 50 --interval 99999999 --until-eof >out 2>err
+    ended=$?
+    printf "$name: %s\n" "watching $place" Io >wanted
+    report "$name: an error that waits at the end is said" "$([ $ended = 0 ] && cmp -s err wanted && echo yes)"
+done

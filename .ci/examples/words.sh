@@ -13,10 +13,12 @@ for name in build_trigger change_journal config_reloader document_index folder_m
     program=$top/crates/$name/out/$name
     places=(watched)
     own=()
+    more=(one more)
     numbers=(timeout interval seconds ticks)
     case $name in
-        build_trigger) own=(ignore) && numbers+=(quiet) ;;
-        change_journal) own=(initial json include exclude) ;;
+        # These two take several folders.
+        build_trigger) own=(ignore) && numbers+=(quiet) && more=(-x) ;;
+        change_journal) own=(initial json include exclude) && more=(-x) ;;
         config_reloader) places=(watched/app.toml) ;;
         document_index) own=(query) && places+=(--query none) ;;
         folder_mirror) own=(delete dry-run) && places+=(copy) ;;
@@ -48,7 +50,7 @@ for name in build_trigger change_journal config_reloader document_index folder_m
     expect "$name: the largest numbers" 0 wanted "$name: watching ${places[0]}" \
         "$program" "${places[@]}" --timeout 99999999 --interval 99999999 --ticks 1
     well=no
-    is_refused "${places[@]}" --nothing && is_refused && is_refused --ticks 1 && is_refused "${places[@]}" one more &&
+    is_refused "${places[@]}" --nothing && is_refused && is_refused --ticks 1 && is_refused "${places[@]}" "${more[@]}" &&
         is_refused "${places[@]}" --ticks 1 --ticks 2 && well=yes
     report "$name: words that don't fit" $well
     expect "$name: a word that is not UTF-8" 2 /dev/null "$name: an argument is not UTF-8" "$program" $'\xff'

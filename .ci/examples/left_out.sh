@@ -1,0 +1,64 @@
+# shellcheck shell=bash disable=SC2154
+# Names that are not UTF-8 under each program of docs/examples: it says once how many it leaves out, and goes on.
+mkdir left_out && cd left_out || return
+
+# says FILE PATTERN: the file has such a line, within a minute. The index looks only when it is asked.
+says() {
+    for _ in $(seq 600); do
+        ! grep -qE -- "$2" "$1" || return 0
+        [ "$name" != document_index ] || echo 8080 >&3
+        sleep 0.1
+    done
+    false
+}
+
+# runs: the program runs over the place, in the background, with queries on standard input if it reads any.
+runs() {
+    : >err
+    words=(--timeout 50 --interval 20 --seconds 60)
+    [ $name = document_index ] || words+=(--until-eof)
+    "$program" "${places[@]}" "${words[@]}" <queries >out 2>err &
+    running=$!
+    exec 3>queries
+}
+
+# ends: its standard input ends, and the program in order.
+ends() {
+    exec 3>&-
+    wait $running
+}
+
+for name in build_trigger change_journal config_reloader document_index folder_mirror; do
+    program=$top/crates/$name/out/$name
+    rm -rf d copy queries && mkdir -p d $'d/\xfe' && mkfifo queries
+    # Below a folder that is left out nothing counts.
+    : >$'d/\xff' && : >$'d/\xfe/\xfd'
+    echo 'port = 80' >d/f.toml
+    places=(d)
+    seen='f\.toml$'
+    case $name in
+        config_reloader) places=(d/f.toml) && seen='port = 8080' ;;
+        folder_mirror) places+=(copy) && seen='copy d/g\.toml' ;;
+        document_index) seen='d/f\.toml' ;;
+    esac
+    # A mirror begins with nothing, so it says at its end what is left out then.
+    count=2 && [ $name != folder_mirror ] || count=3
+    printf "$name: %s\n" "watching ${places[0]}" "$count names are not UTF-8 and are left out" >wanted
+    well=no
+    runs
+    says err "^$name: watching" && echo 'port = 8080' >d/f.toml && cp d/f.toml d/g.toml && says out "$seen" &&
+        : >$'d/\xfc' && sleep 0.5 && well=yes
+    ends && cmp -s err wanted || well=no
+    report "$name: names that are not UTF-8 are said once" $well
+
+    # One that comes later is said at the end, if not before.
+    rm -rf d copy && mkdir d && echo 'port = 80' >d/f.toml
+    printf "$name: %s\n" "watching ${places[0]}" '1 name is not UTF-8 and is left out' >wanted
+    well=no
+    runs
+    says err "^$name: watching" && : >$'d/\xff' && sleep 0.5 && echo 'port = 8080' >d/f.toml && cp d/f.toml d/g.toml &&
+        says out "$seen" && well=yes
+    ends && cmp -s err wanted || well=no
+    report "$name: a name that is not UTF-8 comes later" $well
+done
+cd ..
