@@ -23,6 +23,7 @@ mod push;
 mod put;
 mod put_all;
 pub mod queues;
+mod removal;
 mod room;
 mod settle;
 mod trim;

@@ -1,4 +1,4 @@
--- What the calls of `join` return, one after the other: what is put, and the joined rename in the end.
+-- What the calls of `carry_over` return, one after the other: what is put, and the joined rename in the end.
 use Rattle.std.proofs.Common.{◌≡◌, ◌==◌, ℕ, length, Bool, true, false, List, [], refl, ap, sym, ◌∙◌, is_some, option_copied, unwrap_or}
 use Rattle.std.specs.List.Sorted.{IsStrictlySortedBy}
 use Rattle.std.specs.Map.{keys_of}

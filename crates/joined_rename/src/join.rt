@@ -1,25 +1,51 @@
 //! The joined rename, whole.
-ghost use Rattle.std.specs.Prelude.{◌≡◌, ◌∷◌, ◌++◌, [], IfOk, OnErr, OnOk, option_copied};
+ghost use Rattle.std.specs.Prelude.{◌≡◌, ◌<◌, ◌∷◌, ◌++◌, [], IfOk, OnErr, OnOk, length, option_copied};
 ghost use Rattle.debounce_model.specs.WellFormed.{AreQueues};
-ghost use Rattle.joined_rename.specs.Renames.{joined_by};
+ghost use Rattle.joined_rename.specs.Renames.{joined_by, renamed_by};
 ghost use Rattle.joined_rename.specs.Steps.{IsPuts, left_by, staying_at};
 
 use crate::arrived::arrived;
 use crate::below::{going_along, stale_paths};
 use crate::look::{Look, look_at};
-use crate::rename::Rename;
+use crate::rename::{FirstHalf, Rename};
 use crate::source::{Source, source_at};
 use crate::target::target_at;
 use event_queue::queue::Queue;
 use front_index::queues::{IndexedQueues, Placed};
 use notify_paths::path::PathBuf;
-use notify_types::event::DebouncedEvent;
+use notify_types::event::{DebouncedEvent, Event};
 use std::alloc::{AllocError, Allocator};
+
+/// The second half of a rename to the event's first path. If there is a first half, it is what came last
+/// at its path: what waits there, and below, goes to the new path. Else the event is pushed. If an
+/// allocation fails, nothing has changed.
+pub fn join<A: Allocator + Copy>(
+    queues: &mut IndexedQueues<A>,
+    half: Option<FirstHalf<'_, A>>,
+    event: DebouncedEvent<A>,
+) -> Result<(), AllocError>
+    requires queues { AreQueues queues.old }
+    requires path { 0 < length event.event.paths }
+    ensures ok { OnOk result (queues.new ≡ renamed_by queues.old half.entry event) }
+    ensures unchanged { OnErr result (queues.new ≡ queues.old) }
+{
+    let Some(half) = half else {
+        return queues.push(event);
+    };
+    let Event { paths, attrs, .. } = event.event;
+    let rename = Rename {
+        from: half.from,
+        to: &paths[0],
+        time: half.time,
+        attrs,
+    };
+    carry_over(queues, rename)
+}
 
 /// The joined rename. What waits at its source goes to its target, behind the rename; the last event
 /// there is the rename's first half, and goes. What waits below the source goes along. If an allocation
 /// fails, nothing has changed.
-pub fn join<A: Allocator + Copy>(
+fn carry_over<A: Allocator + Copy>(
     queues: &mut IndexedQueues<A>,
     rename: Rename<'_, A>,
 ) -> Result<(), AllocError>
