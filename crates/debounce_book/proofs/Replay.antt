@@ -1,7 +1,9 @@
 -- Steps of a book: its journal is one entry longer and stays legal, or nothing is written.
-use Rattle.std.proofs.Common.{◌≡◌, ◌∙◌, ℕ, List, [], ◌∷◌, ◌++◌, Bool, true, false, Option, Some, None, Result, Ok, Err, OnOk, IfErr, refl, sym, ap, subst, inl, inr}
-use Rattle.notify_paths.specs.Errors.{ErrorValue, ErrorKindValue, FullKind, MemoryKind}
-use Rattle.notify_types.specs.Event.{EventValue}
+use Rattle.std.proofs.Common.{◌≡◌, ◌∙◌, ℕ, List, [], ◌∷◌, ◌++◌, Bool, true, false, Option, Some, None, Result, Ok, Err, IfErr, refl, sym, ap, subst, inl}
+use Rattle.std.specs.Prelude.{IfOk, IsOk}
+use Rattle.std.specs.declared.vec.Vec.{Vec}
+use Rattle.notify_paths.specs.Errors.{ErrorValue, ErrorKindValue, FullKind, MemoryKind, out_of_memory}
+use Rattle.notify_types.specs.Event.{EventValue, Timed}
 use Rattle.debounce_model.specs.declared.case.Case.{Case}
 use Rattle.debounce_model.specs.declared.case.Case.TheVariants.{Rescan, Creation, Removal, RenameFrom, RenameTo, Plain, Ignored}
 use Rattle.debounce_model.specs.declared.file_id.FileId.{FileId}
@@ -10,10 +12,10 @@ use Rattle.debounce_model.specs.Command.{CommandValue, EventCommand, ErrorComman
 use Rattle.debounce_model.specs.Run.{Step}
 use Rattle.debounce_model.specs.State.{State, Core, empty_state}
 use Rattle.debounce_model.specs.Step.{IsRefusedFor}
+use Rattle.debounce_model.specs.Tick.{is_due}
 use Rattle.debounce_model.specs.Table.{case_of, taken_as, event_step, raised_event}
-use Rattle.debounce_book.specs.Book.{Kept, kept_as, kept_entries, whole_of, part_of, entry_of, with_entry, full, IsFull, IsDone, IsNotDone, Steps, fed_command, fed_reply}
+use Rattle.debounce_book.specs.Book.{kept_as, kept_entries, entry_of, Kept, IsFull, IsDone, IsNotDone, IsUnwritten, Ticks}
 use Rattle.debounce_book.specs.Journal.{EntryValue, Accepts, Replays, IsLegal, IsJournal, IsPart, LeadsTo}
-use Rattle.debounce_book.specs.Written.{Foretells, IsDraft, IsNoDraft, is_refused, with_answer, entered}
 
 -- an event keeps the timeout
 timeout-event : (s : State) (event : EventValue) (now : ℕ) (exists : Bool) (answer : Option FileId) →
@@ -99,10 +101,10 @@ pub LeadsTo-taken : (whole : Bool) (es : List EntryValue) (s : State) → LeadsT
 LeadsTo-taken true es s h = IsPart-begun es s h
 LeadsTo-taken false es s p = IsPart-begun (p.before ++ es) s p.legal
 
--- the journal after an accepted command
-entered-accepted : (es : List EntryValue) (d : EntryValue) (y : ReplyValue) → is_refused y ≡ false →
-    entered es d y ≡ es ++ record d { reply = with_answer d.reply y } ∷ []
-entered-accepted es d y n = rw n refl
+-- the command was refused
+abbrev is_refused : ReplyValue → Bool
+is_refused (RefusedReply error) = true
+is_refused reply = false
 
 module _ {C : Type 0} where
   -- a command that a core refuses leaves its state
@@ -133,125 +135,65 @@ module _ {C : Type 0} where
   Accepts-step r s t c (RefusedReply error) n h = cc
   Accepts-step r s t c y n h = absurd h
 
-  -- the reply that was foretold is the one that came, but for the cache's answer
-  reply_foretold : (r : Rules C) (s t : Core C) (c : CommandValue) (y told : ReplyValue) →
-      is_refused y ≡ false → Step r s c y t → Foretells s.state c told → with_answer told y ≡ y
-  reply_foretold r s t (EventCommand event now exists) (TakenReply answer) told n h f = refl
-  reply_foretold r s t (ErrorCommand e) NotedReply NotedReply n h f = refl
-  reply_foretold r s t (ErrorCommand e) NotedReply told n h f = absurd f
-  reply_foretold r s t (RootCommand path mode) RootedReply RootedReply n h f = refl
-  reply_foretold r s t (RootCommand path mode) RootedReply told n h f = absurd f
-  reply_foretold r s t (UnrootCommand path) UnrootedReply UnrootedReply n h f = refl
-  reply_foretold r s t (UnrootCommand path) UnrootedReply told n h f = absurd f
-  reply_foretold r s t ErrorsCommand (ErrorsReply errors) (ErrorsReply told) n h f =
-      ap ErrorsReply (f ∙ sym h.0)
-  reply_foretold r s t ErrorsCommand (ErrorsReply errors) told n h f = absurd f
-  reply_foretold r s t (TickCommand now) (BatchReply batch) (BatchReply told) n h f =
-      ap BatchReply (sym (f batch h.0))
-  reply_foretold r s t (TickCommand now) (BatchReply batch) told n h f = absurd f
-  reply_foretold r s t c (RefusedReply error) told n h f = cc
-  reply_foretold r s t c y told n h f = absurd h
+  -- a command that is accepted is done: its entry is the last
+  pub IsDone-written : (r : Rules C) (s t : Core C) (whole : Bool) (es : List EntryValue) (from : ℕ) (c : CommandValue)
+      (y : ReplyValue) → Step r s c y t →
+      IsDone r (kept_as s whole (Some es)) from c y (kept_as t whole (Some (es ++ entry_of from c y ∷ [])))
+  IsDone-written r s t true es from c y step = (step, refl, refl)
+  IsDone-written r s t false es from c y step = (step, refl, refl)
 
-  -- a draft with the cache's answer is the command's entry
-  entry_drafted : (r : Rules C) (s t : Core C) (from : ℕ) (c : CommandValue) (y : ReplyValue) (d : EntryValue) →
-      is_refused y ≡ false → IsDraft s.state from c d → Step r s c y t →
-      record d { reply = with_answer d.reply y } ≡ entry_of from c y
-  entry_drafted r s t from c y d n draft step =
-      let reply : with_answer d.reply y ≡ y = reply_foretold r s t c y d.reply n step draft.foretold in
-      λ i. record { from = draft.numbered i; command = draft.copied i; reply = reply i }
+  -- .. and without an entry where none is kept
+  pub IsDone-bare : (r : Rules C) (s t : Core C) (whole : Bool) (from : ℕ) (c : CommandValue) (y : ReplyValue) →
+      Step r s c y t → IsDone r (kept_as s whole None) from c y (kept_as t whole None)
+  IsDone-bare r s t true from c y step = (step, refl, refl)
+  IsDone-bare r s t false from c y step = (step, refl, refl)
 
-  -- a command that is accepted is done
-  IsDone-entered : (r : Rules C) (s t : Core C) (whole : Bool) (es : List EntryValue) (from : ℕ) (c : CommandValue)
-      (y : ReplyValue) (d : EntryValue) → is_refused y ≡ false → IsDraft s.state from c d → Step r s c y t →
-      IsDone r (kept_as s whole (Some es)) from c y (kept_as t whole (Some (entered es d y)))
-  IsDone-entered r s t whole es from c y d n draft step = let written = by whole in (step, written.0, written.1)
-    where
-      is : Some (entered es d y) ≡ with_entry (Some es) (entry_of from c y)
-      is = ap Some (entered-accepted es d y n
-          ∙ ap (λ (e : EntryValue). es ++ e ∷ []) (entry_drafted r s t from c y d n draft step))
+  -- a command that the core refuses is not done
+  pub IsNotDone-refused : (r : Rules C) (s t : Core C) (whole : Bool) (journal : Option (List EntryValue))
+      (c : CommandValue) (error : ErrorValue) → Step r s c (RefusedReply error) t →
+      IsNotDone r (kept_as s whole journal) c error (kept_as t whole journal)
+  IsNotDone-refused r s t whole journal c error step = inl (step, refl, refl)
 
-      by : (w : Bool) →
-          (whole_of w (Some (entered es d y)) ≡ with_entry (whole_of w (Some es)) (entry_of from c y))
-          × (part_of w (Some (entered es d y)) ≡ with_entry (part_of w (Some es)) (entry_of from c y))
-      by true = (is, refl)
-      by false = (refl, is)
-
-  -- a command of which there is a draft steps
-  pub Steps-entered : (r : Rules C) (s t : Core C) (whole : Bool) (es : List EntryValue) (from : ℕ) (c : CommandValue)
-      (y : ReplyValue) (d : EntryValue) → IsDraft s.state from c d → Step r s c y t →
-      Steps r (kept_as s whole (Some es)) from c y (kept_as t whole (Some (entered es d y)))
-  Steps-entered r s t whole es from c (RefusedReply error) d draft step = inl (step, refl, refl)
-  Steps-entered r s t whole es from c (TakenReply answer) d draft step =
-      IsDone-entered r s t whole es from c (TakenReply answer) d refl draft step
-  Steps-entered r s t whole es from c NotedReply d draft step =
-      IsDone-entered r s t whole es from c NotedReply d refl draft step
-  Steps-entered r s t whole es from c RootedReply d draft step =
-      IsDone-entered r s t whole es from c RootedReply d refl draft step
-  Steps-entered r s t whole es from c UnrootedReply d draft step =
-      IsDone-entered r s t whole es from c UnrootedReply d refl draft step
-  Steps-entered r s t whole es from c (ErrorsReply errors) d draft step =
-      IsDone-entered r s t whole es from c (ErrorsReply errors) d refl draft step
-  Steps-entered r s t whole es from c (BatchReply batch) d draft step =
-      IsDone-entered r s t whole es from c (BatchReply batch) d refl draft step
-
-  -- .. and its entries still lead to its state
-  pub LeadsTo-entered : (r : Rules C) (s t : Core C) (whole : Bool) (es : List EntryValue) (from : ℕ)
-      (c : CommandValue) (y : ReplyValue) (d : EntryValue) → IsDraft s.state from c d → LeadsTo whole es s.state →
-      Step r s c y t → LeadsTo whole (entered es d y) t.state
-  LeadsTo-entered r s t whole es from c y d draft leads step = by (is_refused y) refl
-    where
-      accepted : is_refused y ≡ false → LeadsTo whole (entered es d y) t.state
-      accepted n =
-          let entry = entry_drafted r s t from c y d n draft step in
-          let after : LeadsTo whole (es ++ entry_of from c y ∷ []) t.state =
-          LeadsTo-append whole es s.state t.state (entry_of from c y) leads (Accepts-step r s t c y n step) in
-          subst (λ (k : List EntryValue). LeadsTo whole k t.state) (sym (entered-accepted es d y n
-          ∙ ap (λ (e : EntryValue). es ++ e ∷ []) entry)) after
-
-      refused : (z : ReplyValue) → is_refused z ≡ true → Step r s c z t → LeadsTo whole (entered es d z) t.state
-      refused (RefusedReply error) n h =
-          subst (λ (k : State). LeadsTo whole es k) (sym (state-refused r s t c error h)) leads
-      refused z n h = cc
-
-      by : (b : Bool) → is_refused y ≡ b → LeadsTo whole (entered es d y) t.state
-      by true n = refused y n step
-      by false n = accepted n
-
-  -- a command without a draft is not done
-  pub IsNotDone-draft : (r : Rules C) (s : Core C) (whole : Bool) (es : List EntryValue) (c : CommandValue)
-      (error : ErrorValue) → IsNoDraft s.state c error →
-      IsNotDone r (kept_as s whole (Some es)) c error (kept_as s whole (Some es))
-  IsNotDone-draft r s whole es c error (inl (is, at)) = inl (rw is (by c at), refl, refl)
-    where
-      by : (k : CommandValue) → IsFull s.state k → Step r s k (RefusedReply full) s
-      by (EventCommand event now exists) at = (refl, (at, refl))
-      by k at = absurd at
-  IsNotDone-draft r s whole es c error (inr (is, below)) = inr (is, by whole, below, refl)
+  -- .. nor is one for whose entry there is no memory, and nothing has changed
+  pub IsUnwritten-kept : (s : Core C) (whole : Bool) (es : List EntryValue) (c : CommandValue) (error : ErrorValue) →
+      error ≡ out_of_memory → (IsFull s.state c → ⊥) →
+      IsUnwritten (kept_as s whole (Some es)) c error (kept_as s whole (Some es))
+  IsUnwritten-kept s whole es c error is below = (is, by whole, below, refl)
     where
       by : (w : Bool) → kept_entries (kept_as s w (Some es)) ≡ None → ⊥
       by true none = cc
       by false none = cc
 
-  -- what is fed and not refused is done, and the reply has the cache's answer
-  pub fed_done : {T E : Type 0} (r : Rules C) (old new : Kept C) (item : Result EventValue ErrorValue) (now : ℕ)
-      (exists : Bool) (y : ReplyValue) (res : Result T E) → Steps r old 0 (fed_command item now exists) y new →
-      OnOk res (is_refused y ≡ false) →
-      OnOk res (IsDone r old 0 (fed_command item now exists) (fed_reply item new.core.answer) new)
-  fed_done r old new item now exists y (Err e) s n = tt
-  fed_done r old new (Ok event) now exists (TakenReply answer) (Ok x) s n =
-      subst (λ (a : Option FileId). IsDone r old 0 (EventCommand event now exists) (TakenReply a) new) s.0.1 s
-  fed_done r old new (Ok event) now exists (RefusedReply error) (Ok x) s n = cc
-  fed_done r old new (Ok event) now exists y (Ok x) s n = absurd s.0
-  fed_done r old new (Err error) now exists NotedReply (Ok x) s n = s
-  fed_done r old new (Err error) now exists (RefusedReply refusal) (Ok x) s n = cc
-  fed_done r old new (Err error) now exists y (Ok x) s n = absurd s.0
+  -- the entries still lead to the state once the entry of an accepted command is written
+  pub LeadsTo-written : (r : Rules C) (s t : Core C) (whole : Bool) (es : List EntryValue) (from : ℕ) (c : CommandValue)
+      (y : ReplyValue) → is_refused y ≡ false → Step r s c y t → LeadsTo whole es s.state →
+      LeadsTo whole (es ++ entry_of from c y ∷ []) t.state
+  LeadsTo-written r s t whole es from c y n step leads =
+      LeadsTo-append whole es s.state t.state (entry_of from c y) leads (Accepts-step r s t c y n step)
 
-  -- .. and what is refused is not done
-  pub fed_not_done : {T : Type 0} (r : Rules C) (old new : Kept C) (c : CommandValue) (y : ReplyValue)
-      (res : Result T ErrorValue) → Steps r old 0 c y new → IfErr res (λ e. y ≡ RefusedReply e) →
-      IfErr res (λ e. IsNotDone r old c e new)
-  fed_not_done r old new c y (Ok x) s h = tt
-  fed_not_done r old new c y (Err e) s h = rw h at s
+  -- .. and after a command that the core refused
+  pub LeadsTo-refused : (r : Rules C) (s t : Core C) (whole : Bool) (es : List EntryValue) (c : CommandValue)
+      (error : ErrorValue) → Step r s c (RefusedReply error) t → LeadsTo whole es s.state → LeadsTo whole es t.state
+  LeadsTo-refused r s t whole es c error step leads =
+      subst (λ (k : State). LeadsTo whole es k) (sym (state-refused r s t c error step)) leads
+
+  -- a tick that a core refuses is refused for want of memory, and something is due
+  pub tick-refused : {T : Type 0} (r : Rules C) (s t : Core C) (now : ℕ) (res : Result T ErrorValue) →
+      IfErr res (λ e. (e ≡ out_of_memory) × (t ≡ s)) → (is_due s.state now ≡ false → IsOk res) →
+      IfErr res (λ e. Step r s (TickCommand now) (RefusedReply e) t)
+  tick-refused r s t now (Ok x) err sure = tt
+  tick-refused r s t now (Err e) err sure = (err.0, by (is_due s.state now) sure, err.1)
+    where
+      by : (b : Bool) → (b ≡ false → false ≡ true) → b ≡ true
+      by true n = refl
+      by false n = n refl
+
+  -- a tick is done if it has a batch, and not if it has none
+  pub ticks_by : {A : Type 0} (r : Rules C) (old new : Kept C) (now : ℕ) (res : Result (Vec Timed A) ErrorValue) →
+      IfOk res (λ batch. IsDone r old 0 (TickCommand now) (BatchReply batch.items) new) →
+      IfErr res (λ e. IsNotDone r old (TickCommand now) e new) → Ticks r old now res new
+  ticks_by r old new now (Ok batch) ok err = ok
+  ticks_by r old new now (Err error) ok err = err
 
 -- the empty journal is legal
 pub IsJournal-empty : (timeout : ℕ) → IsJournal timeout []

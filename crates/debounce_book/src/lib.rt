@@ -12,6 +12,7 @@
 #![tactic(auto)]
 
 pub mod book;
+mod calls;
 pub mod entry;
 pub mod steps;
 mod written;

@@ -1,13 +1,10 @@
 //! The steps of a running debouncer. Each is done while the book's lock is held.
-ghost use Rattle.std.specs.Prelude.{◌≡◌, false, IfErr, OnOk};
+ghost use Rattle.std.specs.Prelude.{◌≡◌, IfErr, OnOk};
 ghost use Rattle.notify_paths.specs.Errors.{out_of_memory};
-ghost use Rattle.debounce_model.specs.Command.{RootCommand, UnrootCommand, RootedReply, UnrootedReply, RefusedReply};
-ghost use Rattle.debounce_model.specs.CommandView.{reply_value};
-ghost use Rattle.debounce_book.specs.Book.{GivesErrors, IsDone, IsNotDone, Ticks, TicksBoth, fed_command, fed_reply};
-ghost use Rattle.debounce_book.specs.Written.{is_refused};
+ghost use Rattle.debounce_model.specs.Command.{RootCommand, UnrootCommand, RootedReply, UnrootedReply};
+ghost use Rattle.debounce_book.specs.Book.{IsDone, IsNotDone, TicksBoth, fed_command, fed_reply};
 
-use crate::book::{Book, command_step};
-use debounce_model::command::{Command, Reply};
+use crate::book::Book;
 use file_id_cache::cache::FileIdCache;
 use notify_paths::error::Error;
 use notify_paths::path::PathBuf;
@@ -20,17 +17,6 @@ pub type Ticked<A> = (
     Result<Vec<DebouncedEvent<A>, A>, Error<A>>,
     Vec<Error<A>, A>,
 );
-
-/// Why the command with this reply was refused, if it was.
-fn refusal<A: Allocator>(reply: Reply<A>) -> Result<(), Error<A>>
-    ensures ok { OnOk result (is_refused (reply_value reply) ≡ false) }
-    ensures err { IfErr result (λ e. reply_value reply ≡ RefusedReply e) }
-{
-    match reply {
-        Reply::Refused(error) => Err(error),
-        _ => Ok(()),
-    }
-}
 
 /// Takes an event at a moment, or keeps an error of the watcher. `exists` says whether an event's
 /// first path exists then.
@@ -48,11 +34,10 @@ pub fn feed_step<C: FileIdCache<A>, A: Allocator + Copy>(
     ensures err { IfErr result (λ e.
         IsNotDone C.rules book.old (fed_command item now exists) e book.new) }
 {
-    let command = match item {
-        Ok(event) => Command::Event(event, now, exists),
-        Err(error) => Command::Error(error),
-    };
-    refusal(command_step(book, 0, command))
+    match item {
+        Ok(event) => book.add_event(0, event, now, exists),
+        Err(error) => book.add_error(0, error),
+    }
 }
 
 /// Emits what is expired at the moment, and then the errors. A tick that is refused doesn't keep
@@ -64,30 +49,10 @@ pub fn tick_step<C: FileIdCache<A>, A: Allocator + Copy>(
 ) -> Ticked<A>
     ensures { TicksBoth C.rules book.old now result.0 result.1.items book.new }
 {
-    let batch = tick(book, now);
-    let errors = take_errors(book);
-    (batch, errors)
-}
-
-fn tick<C: FileIdCache<A>, A: Allocator + Copy>(
-    book: &mut Book<C, A>,
-    now: Moment,
-) -> Result<Vec<DebouncedEvent<A>, A>, Error<A>>
-    ensures { Ticks C.rules book.old now result book.new }
-{
-    match command_step(book, 0, Command::Tick(now)) {
-        Reply::Batch(batch) => Ok(batch),
-        Reply::Refused(error) => Err(error),
-        _ => unreachable!(),
-    }
-}
-
-fn take_errors<C: FileIdCache<A>, A: Allocator + Copy>(book: &mut Book<C, A>) -> Vec<Error<A>, A>
-    ensures { GivesErrors C.rules book.old result.items book.new }
-{
-    match command_step(book, 0, Command::Errors) {
-        Reply::Errors(errors) => errors,
-        _ => Vec::new(book.alloc()),
+    let batch = book.debounced_events(0, now);
+    match book.errors(0) {
+        Ok(errors) => (batch, errors),
+        Err(_) => (batch, Vec::new(book.alloc)),
     }
 }
 
@@ -105,11 +70,7 @@ pub fn root_step<C: FileIdCache<A>, A: Allocator + Copy>(
         IsNotDone C.rules book.old (RootCommand path.now mode) e book.new) }
     ensures memory { IfErr result (λ e. e ≡ out_of_memory) }
 {
-    if !book.is_kept() {
-        return book.add_root(path, mode);
-    }
-    let copy = path.try_clone()?;
-    refusal(command_step(book, 0, Command::Root(copy, mode)))
+    book.add_root(0, path, mode)
 }
 
 /// Watches a path no longer, nor any root below it. If an allocation fails, the roots and the journal
@@ -124,9 +85,5 @@ pub fn unroot_step<C: FileIdCache<A>, A: Allocator + Copy>(
         IsNotDone C.rules book.old (UnrootCommand path.now) e book.new) }
     ensures memory { IfErr result (λ e. e ≡ out_of_memory) }
 {
-    if !book.is_kept() {
-        return book.remove_root(path);
-    }
-    let copy = path.try_clone()?;
-    refusal(command_step(book, 0, Command::Unroot(copy)))
+    book.remove_root(0, path)
 }

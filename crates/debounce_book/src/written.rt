@@ -1,98 +1,90 @@
-//! What a journal writes of a command: its copies are made before the command is carried out.
-ghost use Rattle.std.specs.Prelude.{◌≡◌, ◌↔◌, ◌+◌, ◌≤◌, IsTrue, IfOk, IfErr, OnOk, vec_len, vec_capacity};
+//! What a journal writes of a command: its copies are made before the command is carried out, and the
+//! entry is written after it.
+ghost use Rattle.std.specs.Prelude.{◌≡◌, ◌+◌, ◌≤◌, ◌++◌, ◌∷◌, [], IfOk, IfErr, OnOk, vec_len, vec_capacity};
 ghost use Rattle.notify_paths.specs.Errors.{out_of_memory};
 ghost use Rattle.debounce_model.specs.CommandView.{command_value, reply_value};
-ghost use Rattle.debounce_book.specs.Book.{full, IsFull};
-ghost use Rattle.debounce_book.specs.Written.{Foretells, IsDraft, entered, IsNoDraft};
+ghost use Rattle.debounce_model.specs.Tick.{IsOnlyBatch};
+ghost use Rattle.debounce_book.specs.Book.{entry_of};
 
 use crate::entry::Entry;
 use debounce_core::data::DebounceDataInner;
 use debounce_model::command::{Command, Reply};
-use notify_paths::error::{Error, ErrorKind};
+use notify_paths::error::Error;
+use notify_types::event::DebouncedEvent;
+use notify_types::time::Moment;
 use std::alloc::Allocator;
 
-/// Whether the command is an event, and the count of events is at its limit.
-fn is_full<C, A: Allocator + Copy>(core: &DebounceDataInner<C, A>, command: &Command<A>) -> bool
-    ensures { IsTrue result ↔ IsFull core.now.state (command_value command.now) }
-{
-    matches!(command, Command::Event(..)) && core.taken() == u64::MAX
-}
-
-/// The reply that the command will have if it is accepted. The cache's answer to an event isn't
-/// known yet.
-fn foretold<C, A: Allocator + Copy>(
-    alloc: A,
-    core: &DebounceDataInner<C, A>,
-    command: &Command<A>,
-) -> Result<Reply<A>, Error<A>>
-    ensures ok { IfOk result (λ reply. Foretells core.now.state (command_value command.now)
-        (reply_value reply)) }
+/// Room for one more entry.
+fn reserve<A: Allocator + Copy>(alloc: A, journal: &mut Vec<Entry<A>, A>) -> Result<(), Error<A>>
+    ensures room { OnOk result (vec_len journal.new + 1 ≤ vec_capacity journal.new) }
+    ensures same { journal.new.items ≡ journal.old.items }
     ensures err { IfErr result (λ e. e ≡ out_of_memory) }
 {
-    match command {
-        Command::Event(..) => Ok(Reply::Taken(None)),
-        Command::Error(_) => Ok(Reply::Noted),
-        Command::Root(..) => Ok(Reply::Rooted),
-        Command::Unroot(_) => Ok(Reply::Unrooted),
-        Command::Errors => match core.pending_errors().to_vec(alloc) {
-            Ok(errors) => Ok(Reply::Errors(errors)),
-            Err(_) => Err(Error::out_of_memory(alloc)),
-        },
-        Command::Tick(now) => Ok(Reply::Batch(core.batch_at(*now)?)),
-    }
+    journal.reserve(1).map_err(|_| Error::out_of_memory(alloc))
 }
 
-/// The entry of the command, up to the cache's answer, and room for it in the journal. An event at
-/// the limit is refused before memory is asked for.
-pub(crate) fn draft<C, A: Allocator + Copy>(
+/// Room for one more entry, and a copy of what its command names.
+pub(crate) fn draft<T: Clone, A: Allocator + Copy>(
+    alloc: A,
+    journal: &mut Vec<Entry<A>, A>,
+    named: &T,
+) -> Result<T, Error<A>>
+    ensures ok { IfOk result (λ copy. T.is_clone named.now copy) }
+    ensures room { OnOk result (vec_len journal.new + 1 ≤ vec_capacity journal.new) }
+    ensures same { journal.new.items ≡ journal.old.items }
+    ensures err { IfErr result (λ e. e ≡ out_of_memory) }
+{
+    reserve(alloc, journal)?;
+    named.clone().map_err(|_| Error::out_of_memory(alloc))
+}
+
+/// Room for one more entry, and copies of the errors that are kept.
+pub(crate) fn draft_errors<C, A: Allocator + Copy>(
     alloc: A,
     core: &DebounceDataInner<C, A>,
     journal: &mut Vec<Entry<A>, A>,
-    from: usize,
-    command: &Command<A>,
-) -> Result<Entry<A>, Error<A>>
-    ensures ok { IfOk result (λ entry.
-        IsDraft core.now.state from (command_value command.now) entry) }
+) -> Result<Vec<Error<A>, A>, Error<A>>
+    ensures ok { IfOk result (λ errors. errors.items ≡ core.now.state.errors) }
     ensures room { OnOk result (vec_len journal.new + 1 ≤ vec_capacity journal.new) }
     ensures same { journal.new.items ≡ journal.old.items }
-    ensures err { IfErr result (λ e. IsNoDraft core.now.state (command_value command.now) e) }
+    ensures err { IfErr result (λ e. e ≡ out_of_memory) }
 {
-    if is_full(core, command) {
-        return Err(Error::new(alloc, ErrorKind::Full));
-    }
-    let Ok(()) = journal.reserve(1) else {
-        return Err(Error::out_of_memory(alloc));
-    };
-    let reply = foretold(alloc, core, command)?;
-    let command = command.try_clone(alloc)?;
-    Ok(Entry {
+    reserve(alloc, journal)?;
+    core.pending_errors()
+        .to_vec(alloc)
+        .map_err(|_| Error::out_of_memory(alloc))
+}
+
+/// Room for one more entry, and the batch that a tick at the moment will emit.
+pub(crate) fn draft_batch<C, A: Allocator + Copy>(
+    alloc: A,
+    core: &DebounceDataInner<C, A>,
+    journal: &mut Vec<Entry<A>, A>,
+    now: Moment,
+) -> Result<Vec<DebouncedEvent<A>, A>, Error<A>>
+    ensures ok { IfOk result (λ batch. IsOnlyBatch core.now.state now batch.items) }
+    ensures room { OnOk result (vec_len journal.new + 1 ≤ vec_capacity journal.new) }
+    ensures same { journal.new.items ≡ journal.old.items }
+    ensures err { IfErr result (λ e. e ≡ out_of_memory) }
+{
+    reserve(alloc, journal)?;
+    core.batch_at(now)
+}
+
+/// Writes the entry of a command that had this reply into the journal, in which there is room.
+pub(crate) fn write<A: Allocator>(
+    journal: &mut Vec<Entry<A>, A>,
+    from: usize,
+    command: Command<A>,
+    reply: Reply<A>,
+)
+    requires { vec_len journal.old + 1 ≤ vec_capacity journal.old }
+    ensures { journal.new.items ≡ journal.old.items
+        ++ entry_of from (command_value command) (reply_value reply) ∷ [] }
+{
+    journal.push_reserved(Entry {
         from,
         command,
         reply,
-    })
-}
-
-/// Writes the entry of a command that had this reply into the journal, in which there is room, unless
-/// the command was refused.
-pub(crate) fn enter<A: Allocator>(journal: &mut Vec<Entry<A>, A>, draft: Entry<A>, reply: &Reply<A>)
-    requires { vec_len journal.old + 1 ≤ vec_capacity journal.old }
-    ensures { journal.new.items ≡ entered journal.old.items draft (reply_value reply.now) }
-{
-    match reply {
-        Reply::Refused(_) => {}
-        Reply::Taken(answer) => {
-            let Entry {
-                from,
-                command,
-                reply: _,
-            } = draft;
-            let reply = Reply::Taken(*answer);
-            journal.push_reserved(Entry {
-                from,
-                command,
-                reply,
-            });
-        }
-        _ => journal.push_reserved(draft),
-    }
+    });
 }
