@@ -1,7 +1,6 @@
 //! The real file system.
-ghost use Rattle.std.specs.Prelude.{◌≡◌, ◌≢◌, ◌≤◌, ◌+◌, ◌-◌, ◌^◌, min, None, true, IfErr, IfOk, IfSome, IsOk};
-ghost use Rattle.std.specs.IoError.{error_kind};
-ghost use Rattle.std.specs.declared.io.ErrorKind.TheVariants.{InvalidFilename};
+ghost use Rattle.std.specs.Prelude.{◌≡◌, ◌≤◌, ◌+◌, ◌-◌, ◌^◌, min, None, true, IfErr, IfOk, IfSome, IsOk};
+ghost use Rattle.std.specs.Str.{IsUtf8};
 ghost use Rattle.folder_listing.specs.Listing.{is_same_kind};
 ghost use Rattle.folder_listing.specs.declared.entry.EntryKind.TheVariants.{Folder};
 ghost use Rattle.notify_paths.specs.Errors.{out_of_memory};
@@ -13,7 +12,8 @@ use notify_paths::error::{Error, ErrorKind};
 use notify_paths::path::PathBuf;
 use poll_rounds::folders::Folders;
 use std::alloc::{AllocError, Allocator, Global};
-use std::fs::{DirEntry, Files, Metadata, ReadDir};
+use std::fs::{Files, Metadata};
+use std::io::Read;
 use std::time::Clock;
 use std::{fs, io};
 
@@ -121,8 +121,7 @@ fn found_of(clock: &impl Clock, metadata: &Metadata, times: &mut Option<Modified
     }
 }
 
-impl<R: Files + Clock + Alloc + Clone + Drop, A: Allocator + Copy> Folders<A>
-    for RealFolders<R, A> {
+impl<R: Files + Clock + Drop, A: Allocator + Copy> Folders<A> for RealFolders<R, A> {
     ghost told = { λ _. None };
 
     ghost failed = { λ s. s.failures };
@@ -142,8 +141,12 @@ impl<R: Files + Clock + Alloc + Clone + Drop, A: Allocator + Copy> Folders<A>
     }
 
     fn names(&mut self, path: &PathBuf<A>) -> Result<Option<Vec<String<A>, A>>, Error<A>> {
-        match fs::read_dir(&self.rt, path.as_str()) {
-            Ok(entries) => Ok(Some(self.read_names(entries)?)),
+        // The folder is read itself: an entry of `fs::read_dir` has memory of its own, with the whole path.
+        match self.rt.open_dir(path.as_str()) {
+            Ok(mut folder) => match read_names(&mut folder, self.alloc, &mut self.left_out) {
+                Ok(names) => Ok(Some(names)),
+                Err(error) => Err(self.refusal(&error)),
+            },
             // A folder whose names permission closes is shown as empty.
             Err(error) if error.kind() == io::ErrorKind::PermissionDenied => {
                 Ok(Some(Vec::new(self.alloc)))
@@ -174,56 +177,53 @@ impl<R: Files + Clock + Drop, A: Allocator> RealFolders<R, A> {
     }
 }
 
-impl<R: Files + Alloc + Clone + Drop, A: Allocator + Copy> RealFolders<R, A> {
-    /// The names of these entries. One that is no text is left out, and counted.
-    fn read_names(&mut self, entries: ReadDir<R, R::A>) -> Result<Vec<String<A>, A>, Error<A>>
-        ensures counted { self.old.failures ≤ self.new.failures }
-        ensures err { IfErr result (λ e. IsRefusal e self.old.failures self.new.failures) }
-    {
-        let mut names = Vec::new(self.alloc);
-        for entry in entries {
-            self.add_entry(&mut names, entry)?;
+/// The names as which an open folder reads: some of them by each read, a zero byte after each. Those that are no
+/// text are left out, and counted.
+fn read_names<F: Read, A: Allocator + Copy>(
+    folder: &mut F,
+    alloc: A,
+    left_out: &mut u64,
+) -> io::Result<Vec<String<A>, A>> {
+    let mut names = Vec::new(alloc);
+    let mut buffer = [0; 4096];
+    // An endless folder isn't read to its end.
+    for _ in 0..u64::MAX {
+        let count = folder.read(&mut buffer)?;
+        if count == 0 {
+            break;
         }
-        Ok(names)
+        add_names(&mut names, &buffer[..count], left_out)?;
     }
-
-    /// Adds the name of the entry, or counts it, if it is no text.
-    fn add_entry(
-        &mut self,
-        names: &mut Vec<String<A>, A>,
-        entry: io::Result<DirEntry<R, R::A>>,
-    ) -> Result<(), Error<A>>
-        ensures counted { self.old.failures ≤ self.new.failures }
-        ensures left_out { IfErr entry (λ e. error_kind e ≡ InvalidFilename →
-            IsOk result × (self.new.left_out ≡ min (self.old.left_out + 1) (2 ^ 64 - 1))) }
-        ensures same { IfErr entry (λ e. error_kind e ≢ InvalidFilename →
-            self.new.left_out ≡ self.old.left_out) }
-        ensures named { IfOk entry (λ _. self.new.left_out ≡ self.old.left_out) }
-        ensures err { IfErr result (λ e. IsRefusal e self.old.failures self.new.failures) }
-    {
-        match entry {
-            Ok(entry) => add_name(names, entry.file_name()),
-            Err(error) if error.kind() == io::ErrorKind::InvalidFilename => {
-                self.left_out = self.left_out.saturating_add(1);
-                Ok(())
-            }
-            Err(error) => Err(self.refusal(&error)),
-        }
-    }
+    Ok(names)
 }
 
-/// Adds a copy of the name.
-fn add_name<A: Allocator + Copy>(names: &mut Vec<String<A>, A>, name: &str) -> Result<(), Error<A>>
-    ensures { IfErr result (λ e. e ≡ out_of_memory) }
-{
-    let alloc = *names.allocator();
-    push_copy(names, name).map_err(|_| Error::out_of_memory(alloc))
-}
-
-fn push_copy<A: Allocator + Copy>(
+/// Adds the names but for those that stand for the folder itself and the one above.
+fn add_names<A: Allocator + Copy>(
     names: &mut Vec<String<A>, A>,
-    name: &str,
+    bytes: &[u8],
+    left_out: &mut u64,
 ) -> Result<(), AllocError> {
-    names.push(String::from_str(*names.allocator(), name)?)?;
+    for name in bytes.split(|byte| *byte == 0) {
+        if !matches!(name, b"" | b"." | b"..") {
+            add_name(names, name, left_out)?;
+        }
+    }
+    Ok(())
+}
+
+/// Adds the name, or counts it, if it is no text.
+fn add_name<A: Allocator + Copy>(
+    names: &mut Vec<String<A>, A>,
+    name: &[u8],
+    left_out: &mut u64,
+) -> Result<(), AllocError>
+    ensures left_out { (IsUtf8 name.now → ⊥) → IsOk result
+        × (left_out.new ≡ min (left_out.old + 1) (2 ^ 64 - 1)) }
+    ensures named { IsUtf8 name.now → left_out.new ≡ left_out.old }
+{
+    match std::str::from_utf8(name) {
+        Ok(name) => names.push(String::from_str(*names.allocator(), name)?)?,
+        Err(_) => *left_out = left_out.saturating_add(1),
+    }
     Ok(())
 }
