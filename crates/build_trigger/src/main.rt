@@ -2,6 +2,11 @@
 //! `while read`. docs/examples/build_trigger.md is its page.
 #![tactic(auto)]
 
+ghost use Rattle.std.specs.Prelude.{◌≡◌, [], OnOk};
+ghost use Rattle.journal_lines.specs.KeptView.{filter_rule};
+ghost use Rattle.trigger_lines.specs.Printed.{PrintsAll};
+ghost use Rattle.watch_loop.specs.FollowsFolder.{folder_source};
+
 use clap::{ArgMatches, Command};
 use journal_lines::{PathFilter, Pattern, Patterns};
 use notify_debouncer_full::{DebouncerRuntime, PathBuf, RecursiveMode};
@@ -56,7 +61,11 @@ fn watch<R: DebouncerRuntime + AllocGlobal, O: Write + Drop, E: Write + Drop>(
     matches: &ArgMatches<'_>,
     complaints: Complaints<'_, E>,
     bursts: &mut Bursts<'_, '_, O, E>,
-) -> Result<(), Fault> {
+) -> Result<(), Fault>
+    requires empty { bursts.old.trigger ≡ [] }
+    ensures printed { OnOk result (PrintsAll folder_source tt (filter_rule bursts.old.filter)
+        bursts.old.folder.now (O.contents bursts.old.out) (O.contents bursts.new.out)) }
+{
     let folders = folders_of(rt.alloc(), matches)?;
     let (mode, pace) = (RecursiveMode::Recursive, pace_of(matches));
     let missed = follow_folders(rt, folders.as_slice(), mode, pace, complaints, bursts)?;

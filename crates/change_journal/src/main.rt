@@ -2,6 +2,11 @@
 //! it is stopped. docs/examples/change_journal.md is its page.
 #![tactic(auto)]
 
+ghost use Rattle.std.specs.Prelude.{OnOk};
+ghost use Rattle.journal_lines.specs.KeptView.{filter_rule};
+ghost use Rattle.journal_lines.specs.Printed.{WritesAll};
+ghost use Rattle.watch_loop.specs.FollowsFolder.{folder_source};
+
 mod words;
 
 use clap::ArgMatches;
@@ -48,7 +53,11 @@ fn watch<R: DebouncerRuntime + AllocGlobal, O: Write + Drop, E: Write + Drop>(
     matches: &ArgMatches<'_>,
     complaints: Complaints<'_, E>,
     printer: &mut Printer<'_, '_, R, O, E>,
-) -> Result<(), Fault> {
+) -> Result<(), Fault>
+    ensures written { OnOk result (WritesAll folder_source tt printer.old.journal.form
+        (filter_rule printer.old.filter) printer.old.journal.next (O.contents printer.old.out)
+        (O.contents printer.new.out)) }
+{
     let folders = folders_of(rt.alloc(), matches)?;
     let (mode, pace) = (RecursiveMode::Recursive, pace_of(matches));
     let missed = follow_folders(rt, folders.as_slice(), mode, pace, complaints, printer)?;

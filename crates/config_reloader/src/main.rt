@@ -2,6 +2,10 @@
 //! changed, and prints the configuration in force. docs/examples/config_reloader.md is its page.
 #![tactic(auto)]
 
+ghost use Rattle.std.specs.Prelude.{OnOk};
+ghost use Rattle.config_state.specs.Followed.{ReadsToEnd};
+ghost use Rattle.watch_loop.specs.FollowsFolder.{folder_source};
+
 use clap::{ArgMatches, Command};
 use config_state::{Follower, Place, Reloader};
 use notify_debouncer_full::{DebouncerRuntime, PathBuf, RecursiveMode};
@@ -33,7 +37,10 @@ fn watch<R: DebouncerRuntime + AllocGlobal, O: Write + Drop, E: Write + Drop>(
     pace: Pace<'_>,
     complaints: Complaints<'_, E>,
     follower: &mut Follower<'_, R, O, E>,
-) -> Result<(), Fault> {
+) -> Result<(), Fault>
+    ensures read { OnOk result (ReadsToEnd folder_source tt follower.old.file follower.old.reloader
+        (O.contents follower.old.out) follower.new.reloader (O.contents follower.new.out)) }
+{
     let mode = RecursiveMode::NonRecursive;
     let missed = follow_folder(rt, folder, mode, pace, complaints, follower)?;
     write_missed(missed, NAME, &mut follower.err);

@@ -1,5 +1,5 @@
 -- A program whose calls read a file again reads it after each report that may be about it.
-use Rattle.std.proofs.Common.{◌≡◌, ◌∙◌, Bool, true, false, List, [], ◌∷◌, refl, sym, ap, subst}
+use Rattle.std.proofs.Common.{◌≡◌, Bool, true, false, List, [], ◌∷◌, refl, ap, subst}
 use Rattle.std.specs.Prelude.{ℕ, Option, Some, None, Ok, Err, OnOk, MatchResult}
 use Rattle.std.specs.List.{list_any}
 use Rattle.std.specs.declared.alloc.Global.{Global}
@@ -96,8 +96,8 @@ follower_program file reloader out = record {
       × MatchResult report
       (λ batch. (list_any (touches (file old)) batch.items ≡ true → OnOk answer
       (Reads (reloader old) (out old) (reloader new) (out new)))
-      × (list_any (touches (file old)) batch.items ≡ false → OnOk answer
-      (Stays (reloader old) (out old) (reloader new) (out new))))
+      × (list_any (touches (file old)) batch.items ≡ false →
+      Stays (reloader old) (out old) (reloader new) (out new)))
       (λ errors. Stays (reloader old) (out old) (reloader new) (out new));
   passes = λ old answer new. (file new ≡ file old) × Stays (reloader old) (out old) (reloader new) (out new);
 }

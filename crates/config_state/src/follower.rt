@@ -42,9 +42,7 @@ impl<R: Files + Drop + AllocGlobal, O: Write + Drop, E: Write + Drop> Follower<'
             (Reads self.old.reloader (O.contents self.old.out) self.new.reloader
             (O.contents self.new.out))) }
         ensures apart { IfOk report.now (λ batch.
-            list_any (touches self.old.file) batch.items ≡ false → OnOk result
-            (Stays self.old.reloader (O.contents self.old.out) self.new.reloader
-            (O.contents self.new.out))) }
+            list_any (touches self.old.file) batch.items ≡ false → self.new ≡ self.old) }
         ensures errors { IfErr report.now (λ _.
             Stays self.old.reloader (O.contents self.old.out) self.new.reloader
             (O.contents self.new.out)) }
@@ -91,8 +89,8 @@ impl<R: Files + Drop + AllocGlobal, O: Write + Drop, E: Write + Drop> TakesRepor
         × MatchResult report
         (λ batch. (list_any (touches old.file) batch.items ≡ true → OnOk answer
         (Reads old.reloader (O.contents old.out) new.reloader (O.contents new.out)))
-        × (list_any (touches old.file) batch.items ≡ false → OnOk answer
-        (Stays old.reloader (O.contents old.out) new.reloader (O.contents new.out))))
+        × (list_any (touches old.file) batch.items ≡ false →
+        Stays old.reloader (O.contents old.out) new.reloader (O.contents new.out)))
         (λ _. Stays old.reloader (O.contents old.out) new.reloader (O.contents new.out)) };
 
     ghost passes = { λ old answer new. (new.file ≡ old.file)

@@ -171,6 +171,14 @@ impl<T: Drop, R: DebouncerRuntime, A: DebouncerAllocator> Reports<T, R, A> {
         self.queue.recv_timeout(&self.rt, duration).ok()
     }
 
+    /// Returns the channel by which the reports come, for who waits otherwise than by `next` and
+    /// `next_within`. What is received from it isn't given by them.
+    pub fn queue(&self) -> &Receiver<DebounceEventResult<A>, A>
+        ensures { result.now ≡ self.now.queue }
+    {
+        &self.queue
+    }
+
     /// Returns what waits to be emitted, as `Debouncer::outlook`. What was emitted and waits in the
     /// channel isn't among it.
     pub fn outlook(&self) -> Result<Vec<DebouncedEvent<A>, A>, Error<A>>

@@ -1,9 +1,37 @@
--- Why a folder can't be followed.
-use Rattle.std.specs.Prelude.{◌≡◌, ◌⊎◌}
+-- A program that follows a folder.
+use Rattle.std.specs.Prelude.{◌≡◌, ℕ, Result, Ok, Err, MatchResult, IfErr, IfOk, IsSome, ◌⊎◌}
 use Rattle.watch_program.specs.declared.fault.Fault.{Fault}
 use Rattle.watch_program.specs.declared.fault.Fault.TheVariants.{CannotWatch, Memory, NoHints, NoThread, NotThere, NotWatched}
+use Rattle.report_loop.specs.declared.source.Given.TheVariants.{Nothing}
+use Rattle.report_loop.specs.Loop.{Answer, Follows, Program, Source}
+use Rattle.watch_loop.specs.Rest.{IsLeft}
+
+-- a folder's reports: what the channel carries is in no contract; at the end what was emitted and what waits is left
+abbrev pub folder_source : Source (Unit {0})
+folder_source = record {
+  gives = λ before pause given after. given ≡ Nothing → IsSome pause;
+  ends = λ reports ended. IfErr ended (λ e. e ≡ Memory) × IfOk ended (λ rest. IsLeft rest.reports.items);
+}
 
 -- why a folder can't be watched
 abbrev pub IsStartFault : Fault → Type 0
 IsStartFault e =
     ((e ≡ Memory) ⊎ ((e ≡ NotThere) ⊎ (e ≡ NotWatched))) ⊎ ((e ≡ CannotWatch) ⊎ ((e ≡ NoThread) ⊎ (e ≡ NoHints)))
+
+-- the folder couldn't be watched, and the program was not called
+abbrev pub NeverBegins : {P : Type 0} → P → Result ℕ Fault → P → Type 0
+NeverBegins before answer after = (fault : Fault) × IsStartFault fault × (answer ≡ Err fault) × (after ≡ before)
+
+-- the folder was watched, and the program followed what was reported of it; or it couldn't be watched
+abbrev pub FollowsFolder : {P : Type 0} → Program P → P → Result ℕ Fault → P → Type 0
+FollowsFolder program before answer after =
+    NeverBegins before answer after ⊎ Follows folder_source program tt before answer after
+
+-- the answer of a run that doesn't say how much was lost
+abbrev pub AnswersAs : Result ℕ Fault → Answer → Type 0
+AnswersAs missed answer = MatchResult missed (λ _. answer ≡ Ok tt) (λ fault. answer ≡ Err fault)
+
+-- the program followed the folder, and the answer is that of the run
+abbrev pub RunsOver : {P : Type 0} → Program P → P → Answer → P → Type 0
+RunsOver program before answer after =
+    (missed : Result ℕ Fault) × FollowsFolder program before missed after × AnswersAs missed answer

@@ -6,8 +6,9 @@ ghost use Rattle.watch_program.specs.declared.fault.Fault.TheVariants.{CannotWat
 
 use crate::hint_reader::check_hints;
 use crate::live::Live;
+use crate::waiting::Waiting;
 use notify_debouncer_full::{DebounceEventResult, DebouncerRuntime, PathBuf, RecursiveMode};
-use report_loop::{Given, Rest, TakesReports};
+use report_loop::Rest;
 use std::io::Write;
 use std::slice;
 use std::time::Duration;
@@ -79,26 +80,18 @@ impl<'n, R: DebouncerRuntime + AllocGlobal, E: Write + Drop> FolderReports<'n, R
     /// clock can't be read.
     pub fn next(&mut self) -> Option<DebounceEventResult> {
         self.say_left_out();
-        self.live.next()
+        self.live.waiting().next()
     }
 
     /// Waits so long for the next report. `None` says that none came, or what it says of `next`.
     pub fn next_within(&mut self, pause: Duration) -> Option<DebounceEventResult> {
         self.say_left_out();
-        self.live.next_within(pause)
+        self.live.waiting().next_within(pause)
     }
 
-    /// Hands on each report until the life is over. If nothing came for as long as the program waits, it is told
-    /// so by `pass`.
-    pub(crate) fn hand_to<P: TakesReports>(&self, rt: R, program: &mut P) -> Result<(), Fault> {
-        for _ in rt.forever() {
-            match self.live.give(program.patience()) {
-                Given::Report(report) => program.take(report)?,
-                Given::Nothing => program.pass()?,
-                Given::Over => return Ok(()),
-            }
-        }
-        Ok(())
+    /// Returns the wait for what is reported.
+    pub(crate) fn waiting(&self) -> Waiting<'_, R> {
+        self.live.waiting()
     }
 
     /// Stops the watcher and the debouncer, waits until both have ended, and returns what was not given

@@ -1,7 +1,10 @@
 //! A program that follows a folder.
+ghost use Rattle.report_loop.specs.Loop.{Follows};
+ghost use Rattle.watch_loop.specs.FollowsFolder.{FollowsFolder, folder_source};
+
 use crate::folder_reports::FolderReports;
 use notify_debouncer_full::{DebouncerRuntime, PathBuf, RecursiveMode};
-use report_loop::{TakesReports, take_rest};
+use report_loop::{TakesReports, hand_on, take_rest};
 use std::io::Write;
 use watch_program::{Complaints, Fault, Pace};
 
@@ -17,7 +20,11 @@ pub fn follow_folder<R: DebouncerRuntime + AllocGlobal, P: TakesReports, E: Writ
     pace: Pace<'_>,
     complaints: Complaints<'_, E>,
     program: &mut P,
-) -> Result<u64, Fault> {
+) -> Result<u64, Fault>
+    ensures { FollowsFolder
+        (record { begins = P.begins; patience = P.waits; takes = P.takes; passes = P.passes })
+        program.old result program.new }
+{
     let reports = FolderReports::start(rt, folder, mode, pace, complaints)?;
     follow(rt, reports, program)
 }
@@ -30,7 +37,11 @@ pub fn follow_folders<R: DebouncerRuntime + AllocGlobal, P: TakesReports, E: Wri
     pace: Pace<'_>,
     complaints: Complaints<'_, E>,
     program: &mut P,
-) -> Result<u64, Fault> {
+) -> Result<u64, Fault>
+    ensures { FollowsFolder
+        (record { begins = P.begins; patience = P.waits; takes = P.takes; passes = P.passes })
+        program.old result program.new }
+{
     let reports = FolderReports::start_all(rt, folders, mode, pace, complaints)?;
     follow(rt, reports, program)
 }
@@ -40,9 +51,14 @@ fn follow<R: DebouncerRuntime + AllocGlobal, P: TakesReports, E: Write + Drop>(
     rt: R,
     mut reports: FolderReports<'_, R, E>,
     program: &mut P,
-) -> Result<u64, Fault> {
+) -> Result<u64, Fault>
+    ensures { Follows folder_source
+        (record { begins = P.begins; patience = P.waits; takes = P.takes; passes = P.passes })
+        tt program.old result program.new }
+{
     program.begin()?;
     reports.say_left_out();
-    reports.hand_to(rt, program)?;
+    let mut source = reports.waiting();
+    hand_on(&rt, &mut source, program)?;
     take_rest(reports.finish(), program)
 }

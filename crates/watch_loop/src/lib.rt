@@ -15,6 +15,7 @@ mod hint_reader;
 mod input_end;
 mod live;
 mod rest;
+mod waiting;
 mod whole_program;
 
 pub use folder_reports::FolderReports;

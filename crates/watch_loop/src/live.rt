@@ -1,18 +1,16 @@
 //! A debouncer that watches folders, until a program's life is over.
-ghost use Rattle.std.specs.Prelude.{◌≡◌, ◌≢◌, ◌⊎◌, None, IfErr, IfOk, IfSome, IsSome};
-ghost use Rattle.std.specs.Duration.{as_nanos};
-ghost use Rattle.report_loop.specs.declared.source.Given.TheVariants.{Nothing};
+ghost use Rattle.std.specs.Prelude.{◌≡◌, ◌⊎◌, None, IfErr, IfOk};
 ghost use Rattle.watch_loop.specs.Rest.{IsLeft};
 ghost use Rattle.watch_program.specs.declared.fault.Fault.TheVariants.{CannotWatch, Memory, NoThread, NotThere};
 
 use crate::hint_reader::{start_hints, start_skipping};
 use crate::input_end::InputEnd;
 use crate::rest::rest_of;
+use crate::waiting::Waiting;
 use notify_debouncer_full::{
-    Config, DebounceEventResult, DebouncerRuntime, PathBuf, RecommendedReports, RecursiveMode,
-    Reports,
+    Config, DebouncerRuntime, PathBuf, RecommendedReports, RecursiveMode, Reports,
 };
-use report_loop::{Given, Rest};
+use report_loop::Rest;
 use std::time::{Clock, Duration, Instant};
 use watch_program::{Fault, HintWords, Pace};
 
@@ -98,71 +96,9 @@ impl<R: DebouncerRuntime + AllocGlobal> Live<R> {
         start_skipping(self.rt, self.rt.alloc(), self.input.share()?)
     }
 
-    /// Waits for the next report. `None` says that the life is over, as by the end of the input, or that the
-    /// clock can't be read.
-    pub(crate) fn next(&self) -> Option<DebounceEventResult> {
-        let left = match self.end {
-            None => None,
-            Some(end) => Some(left(&self.rt, end)?),
-        };
-        self.wait_while(left)
-    }
-
-    /// Waits so long for the next report. `None` says that none came, or what it says of `next`.
-    pub(crate) fn next_within(&self, pause: Duration) -> Option<DebounceEventResult> {
-        let pause = match self.end {
-            None => pause,
-            Some(end) => pause.min(left(&self.rt, end)?),
-        };
-        self.wait_while(Some(pause))
-    }
-
-    /// Waits for the next report, so long at most if that is said, and only while the input goes on.
-    fn wait_while(&self, pause: Option<Duration>) -> Option<DebounceEventResult> {
-        let mut left = pause;
-        for _ in self.rt.forever() {
-            if self.input.has_come() {
-                return None;
-            }
-            let Some(nap) = self.input.nap(left) else {
-                return self.reports.next();
-            };
-            let report = self.reports.next_within(nap);
-            if report.is_some() || left == Some(nap) {
-                return report;
-            }
-            left = match left {
-                Some(left) => Some(left.saturating_sub(nap)),
-                None => None,
-            };
-        }
-        None
-    }
-
-    /// Returns whether the life is over, or the clock can't be read.
-    fn is_over(&self) -> bool {
-        if self.input.has_come() {
-            return true;
-        }
-        match self.end {
-            None => false,
-            Some(end) => left(&self.rt, end).is_none(),
-        }
-    }
-
-    /// Waits for the next report, so long at most if that is said.
-    pub(crate) fn give(&self, pause: Option<Duration>) -> Given
-        ensures { result ≡ Nothing → IsSome pause }
-    {
-        let report = match pause {
-            None => self.next(),
-            Some(pause) => self.next_within(pause),
-        };
-        match report {
-            Some(report) => Given::Report(report),
-            None if pause.is_some() && !self.is_over() => Given::Nothing,
-            None => Given::Over,
-        }
+    /// Returns the wait for what is reported.
+    pub(crate) fn waiting(&self) -> Waiting<'_, R> {
+        Waiting::new(&self.rt, self.reports.queue(), self.end, &self.input)
     }
 
     /// How many names of the folders are left out, since they aren't UTF-8.
@@ -186,12 +122,4 @@ fn end_of<R: Clock>(rt: &R, life: Option<Duration>) -> Option<Instant>
     ensures endless { life ≡ None → result ≡ None }
 {
     Instant::now(rt).ok()?.checked_add(life?)
-}
-
-/// How long it is to the end. `None` says that it has come, or that the clock can't be read.
-fn left<R: Clock>(rt: &R, end: Instant) -> Option<Duration>
-    ensures { IfSome result (λ left. as_nanos left ≢ 0) }
-{
-    let left = end.checked_duration_since(Instant::now(rt).ok()?)?;
-    if left.is_zero() { None } else { Some(left) }
 }

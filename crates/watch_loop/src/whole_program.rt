@@ -1,5 +1,9 @@
 //! A whole program over a folder, from its words to its exit status.
 ghost use Rattle.std.specs.Prelude.{◌≡◌, ◌⊎◌};
+ghost use Rattle.report_loop.specs.Batches.{of_batches};
+ghost use Rattle.report_loop.specs.Loop.{Answer};
+ghost use Rattle.watch_loop.specs.FollowsFolder.{FollowsFolder, RunsOver};
+ghost use Rattle.watch_program.specs.Faults.{end_status};
 
 use crate::follow::follow_folder;
 use clap::{ArgMatches, Command};
@@ -27,6 +31,10 @@ pub fn run_program<
 >(rt: R, name: &str, about: &str, program: P, mut err: E) -> u8
     ensures status { ((result ≡ 0) ⊎ (result ≡ 1)) ⊎ ((result ≡ 2) ⊎ ((result ≡ 4)
         ⊎ ((result ≡ 5) ⊎ ((result ≡ 6) ⊎ (result ≡ 8))))) }
+    // The words don't fit, or ask for help, or memory runs out; or the program follows the folder.
+    ensures run { ((result ≡ 0) ⊎ ((result ≡ 2) ⊎ (result ≡ 4)))
+        ⊎ ((answer : Answer) × (after : P) × (result ≡ end_status answer)
+        × RunsOver (of_batches P.takes) program answer after) }
 {
     let words = match words_of(&rt) {
         Ok(words) => words,
@@ -77,7 +85,9 @@ fn watch<R: DebouncerRuntime + AllocGlobal + Eprint, P: TakesBatches, E: Write +
     rt: R,
     matches: &ArgMatches<'_>,
     taker: &mut BatchTaker<'_, P, E>,
-) -> Result<(), Fault> {
+) -> Result<(), Fault>
+    ensures { RunsOver (of_batches P.takes) taker.old.program result taker.new.program }
+{
     let folder = folder_of(rt.alloc(), matches)?;
     let pace = Pace {
         initial: taker.program.wants_initial(),
@@ -94,7 +104,9 @@ fn follow<R: DebouncerRuntime + AllocGlobal + Eprint, P: TakesBatches, E: Write 
     folder: &PathBuf,
     pace: Pace<'_>,
     taker: &mut BatchTaker<'_, P, E>,
-) -> Result<u64, Fault> {
+) -> Result<u64, Fault>
+    ensures { FollowsFolder (of_batches P.takes) taker.old.program result taker.new.program }
+{
     let complaints = Complaints::new(taker.name, StandardError { rt });
     let mode = RecursiveMode::Recursive;
     follow_folder(rt, folder, mode, pace, complaints, taker)
