@@ -1,7 +1,7 @@
 #!/usr/bin/env python3
 """Times this debouncer beside the Rust crate's own code, and prints a table.
 
-usage: scripts/bench.py FOLDER [N [KIND..]]
+usage: scripts/bench.py [--instructions] FOLDER [N [KIND..]]
 
 FOLDER is the source of notify-debouncer-full 0.6.0, with src/lib.rs and src/cache.rs; none of it is kept.
 scripts/rust_crate/build makes a program of it. The program here is crates/bench, which says what the kinds
@@ -10,8 +10,13 @@ more.
 
 Each run is a process of its own. A figure is the least of five runs; the two programs take turns, and
 each goes first in every second round.
+
+With --instructions a figure is how many instructions the whole program executes, in millions, as
+`valgrind --tool=callgrind` counts them: one run each, and the same on a machine that is busy. N is 5000 if
+it isn't given.
 """
 import os
+import re
 import subprocess
 import sys
 import tempfile
@@ -19,6 +24,7 @@ import time
 
 TOP = os.path.dirname(os.path.dirname(os.path.abspath(__file__)))
 KINDS = ["create", "modify", "rename", "sort", "idle", "rmdir", "due"]
+COUNTED = KINDS[:4]
 ROUNDS = 5
 
 
@@ -51,16 +57,32 @@ def ratio_row(name, here, there, unit):
     row(name, f"{here:,.0f} {unit}", f"{there:,.0f} {unit}", f"{here / there:.2g}")
 
 
-def main(source, n="100000", *kinds):
-    folder = os.path.join(TOP, "crates", "bench")
-    subprocess.run(["rt", "run"], cwd=folder, check=True, capture_output=True)
-    room = tempfile.TemporaryDirectory()
-    bench, crate = os.path.join(folder, "out", "bench"), os.path.join(room.name, "rust_crate")
-    subprocess.run([os.path.join(TOP, "scripts", "rust_crate", "build"), source, crate], check=True)
-    idle = None
+def instructions(words):
+    """Runs a program, and returns how many millions of instructions it executes."""
+    words = ["valgrind", "--tool=callgrind", "--callgrind-out-file=/dev/null", *words]
+    run = subprocess.run(words, stdout=subprocess.PIPE, stderr=subprocess.STDOUT, text=True)
+    counted = re.search(r"Collected : (\d+)", run.stdout)
+    if run.returncode != 0 or counted is None:
+        sys.exit(f"{' '.join(words)} failed:\n{run.stdout}")
+    return int(counted[1]) / 1e6
+
+
+def head(n):
     print(f"N = {n}, {time.strftime('%Y-%m-%d')}, {os.cpu_count()} processors\n")
     row("workload", "here", "the Rust crate", "ratio")
     row("---", "---:", "---:", "---:")
+
+
+def count(bench, crate, n, kinds):
+    head(n)
+    for kind in kinds or COUNTED:
+        here, there = instructions([bench, n, kind]), instructions([crate, n, kind])
+        row(kind, f"{here:.1f} M", f"{there:.1f} M", f"{here / there:.2f}")
+
+
+def measure(bench, crate, n, kinds):
+    idle = None
+    head(n)
     for kind in kinds or KINDS:
         turns = [[bench, n, kind]]
         if kind != "due":
@@ -78,7 +100,22 @@ def main(source, n="100000", *kinds):
             ratio_row("create, peak memory", memory, crate_memory, "MB")
 
 
+def main(counts, source, n=None, *kinds):
+    folder = os.path.join(TOP, "crates", "bench")
+    subprocess.run(["rt", "run"], cwd=folder, check=True, capture_output=True)
+    room = tempfile.TemporaryDirectory()
+    bench, crate = os.path.join(folder, "out", "bench"), os.path.join(room.name, "rust_crate")
+    subprocess.run([os.path.join(TOP, "scripts", "rust_crate", "build"), source, crate], check=True)
+    if counts:
+        count(bench, crate, n or "5000", kinds)
+    else:
+        measure(bench, crate, n or "100000", kinds)
+
+
 if __name__ == "__main__":
-    if len(sys.argv) < 2 or not set(sys.argv[3:]) <= set(KINDS):
+    words = sys.argv[1:]
+    counts = words[:1] == ["--instructions"]
+    words = words[1:] if counts else words
+    if not words or not set(words[2:]) <= set(COUNTED if counts else KINDS):
         sys.exit(__doc__)
-    main(*sys.argv[1:])
+    main(counts, *words)
