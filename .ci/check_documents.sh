@@ -17,6 +17,8 @@ squeezed() { tr -s ' \n' ' ' | sed 's/^ //; s/ $//'; }
 find . \( -name out -o -name .git \) -prune -o -type f -print | sed 's,^\./,,' >"$room/files"
 sed 's,.*/,,' "$room/files" | sort -u >"$room/names"
 grep -v '^docs/\|^README' "$room/files" | tr '\n' '\0' | xargs -0 cat "$room/files" | grep -oaE '\w+' | sort -u >"$room/words"
+{ grep -HoE '^( *(pub )?(abbrev|unfoldable|record|type|data)|pub) (pub )?[A-Za-z_0-9-]+' crates/*/specs/*.antt
+  grep -HoE '^ *(pub )?fn [a-z_0-9]+' crates/*/src/*.rt; } | sed 's/:.* / /' >"$room/defined"
 grep '\.rt$\|\.antt$\|/data/.*\.md$' "$room/files" | tr '\n' '\0' | xargs -0 cat | squeezed >"$room/code"
 
 links() {
@@ -53,6 +55,43 @@ pointers() {
     done
 }
 
+# A section that says "Definitions: A.antt, B.antt of CRATE; C.antt" has its definitions there: a name in backticks
+# that some file of specs defines is in one of these, or has its file beside it ("in FILE"). debounce_model needs no name.
+sections() {
+    awk '
+        FILENAME != page && /\.rt / { split($1, parts, "/"); calls[parts[2] " " $2]; next }
+        FILENAME != page { defined[$2] = defined[$2] " " $1; next }
+        /^#/ { named = "" }
+        sub(/^Definitions: /, "") {
+            sub(/\.$/, ""); named = " "; split("", crates)
+            count = split($0, parts, /; */)
+            for (at = 1; at <= count; at++) {
+                crate = parts[at] ~ / of / ? parts[at] : "debounce_model"
+                sub(/.* of /, "", crate); sub(/ of .*/, "", parts[at]); gsub(/,/, "", parts[at])
+                crates[crate]; many = split(parts[at], files, " ")
+                for (one = 1; one <= many; one++) named = named "crates/" crate "/specs/" files[one] " "
+            }
+            many = split(named, files, " ")
+            for (one = 1; one <= many; one++) if ((getline text < files[one]) < 0) print "no file: " files[one]
+            next
+        }
+        named != "" {
+            gsub(/(`[A-Za-z_0-9:.-]+`(, | and )?)+ (in [A-Za-z_0-9.\/-]+|there)/, "")
+            while (match($0, /`[A-Za-z_0-9]+`/)) {
+                word = substr($0, RSTART + 1, RLENGTH - 2); $0 = substr($0, RSTART + RLENGTH)
+                if (!(word in defined)) continue
+                # A plain word of another crate, and a function of this one, needs no file.
+                many = split(defined[word], files, " "); found = 0; near = word ~ /_|[A-Z]/
+                for (crate in crates) {
+                    found += crate " " word in calls
+                    for (one = 1; one <= many; one++) near += index(files[one], "crates/" crate "/") > 0
+                }
+                for (one = 1; one <= many; one++) found += index(named, " " files[one] " ") > 0
+                if (near && !found) print word " is in" defined[word]
+            }
+        }' page="$1" "$room/defined" "$1"
+}
+
 # Each block of code or of a proof, and each script with its output, stands in a crate. A whole program of a
 # page is one that .ci/examples/vendor.sh takes from there and runs.
 blocks() {
@@ -73,7 +112,7 @@ rows() {
     for edit in crates/*/must-fail/*.edit; do
         grep -LF "\`$(basename "$edit" .edit)\`" docs/ARCHITECTURE.md docs/WRONG_BODIES.md | sed "s,\$,: no row for $edit,"
     done
-    sed -n 's/^  [er][a-z]* \([a-z_]*\) {.*/`\1`/p' docs/CALLING.md | sort -u | grep -vxFf <(grep -o '`[a-z_]*`' docs/CONTRIBUTING.md)
+    sed -n 's/^  \(needs \)\{0,1\}\([a-z_]*\): .*/`\2`/p' docs/CALLING.md | sort -u | grep -vxF '`needs`' | grep -vxFf <(grep -o '`[a-z_]*`' docs/CONTRIBUTING.md)
 }
 
 # Lengths; the kit's line; the README's script is the one that the gate runs, and prints what stands there.
@@ -87,6 +126,17 @@ facts() {
     done
 }
 
+# Each function on the way of an event and of a tick is in the file that stands beside it.
+ways() {
+    sed -n '/^## The way of an event/,/^## Where/s,^ *\([A-Za-z_:, ]*\)  *\(crates/[a-z_/]*\.rt\).*,\2 \1,p' docs/ARCHITECTURE.md | tr -d , >"$room/ways"
+    [ "$(wc -l <"$room/ways")" -ge 30 ] || echo 'docs/ARCHITECTURE.md: the ways have fewer than 30 lines'
+    while read -r file functions; do
+        for function in $functions; do
+            grep -qE "\bfn ${function##*::}\b" "$file" || echo "$file has no function $function"
+        done
+    done <"$room/ways"
+}
+
 # Columns: proofs have at most 120 and code 100, but for imports, comments and texts.
 widths() {
     export LC_ALL=C.UTF-8
@@ -95,11 +145,12 @@ widths() {
 }
 
 for page in README.md docs/*.md docs/examples/*.md; do
-    for kind in links names pointers blocks; do check "$page: $kind" $kind "$page"; done
+    for kind in links names pointers sections blocks; do check "$page: $kind" $kind "$page"; done
 done
 check 'what scripts/lemma_map writes' cmp docs/LEMMAS.md <(scripts/lemma_map)
 check 'what scripts/calling writes' cmp docs/CALLING.md <(scripts/calling)
 check 'crates, wrong bodies and labels' rows
+check 'the ways of an event and a tick' ways
 check 'widths of code and proofs' widths
 check 'lengths, and the script of the README' facts
 echo "$passed passed, $failed failed"
