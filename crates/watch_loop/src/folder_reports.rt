@@ -2,7 +2,7 @@
 ghost use Rattle.std.specs.Prelude.{◌≡◌, ◌≢◌, IfErr, IfOk};
 ghost use Rattle.watch_loop.specs.FollowsFolder.{IsStartFault};
 ghost use Rattle.watch_loop.specs.Rest.{IsLeft};
-ghost use Rattle.watch_program.specs.declared.fault.Fault.TheVariants.{CannotWatch, Memory, NotThere};
+ghost use Rattle.watch_program.specs.declared.fault.Fault.TheVariants.{CannotWatch, Memory, NotThere, NotWatched};
 
 use crate::hint_reader::check_hints;
 use crate::live::Live;
@@ -33,6 +33,7 @@ impl<'n, R: DebouncerRuntime + AllocGlobal, E: Write + Drop> FolderReports<'n, R
         complaints: Complaints<'n, E>,
     ) -> Result<FolderReports<'n, R, E>, Fault>
         ensures err { IfErr result IsStartFault }
+        ensures unsaid { IfErr result (λ e. e ≢ NotWatched) }
     {
         check_hints(&rt, pace.hints)?;
         let mut live = Live::start(rt, pace)?;
