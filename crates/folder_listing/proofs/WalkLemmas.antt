@@ -11,14 +11,14 @@ use Rattle.std.proofs.lemmas.Map.Made.{is_some-lookup}
 use Rattle.std.proofs.lemmas.Map.Views.{any-filter_same}
 use Rattle.notify_paths.specs.Path.{PathValue, path_cmp, is_prefix, is_below}
 use Rattle.notify_paths.specs.PathLaws.{path_eq_decides, path_matches_eq}
-use Rattle.notify_paths.proofs.Prefixes.{prefix_itself, and_false, and_true}
+use Rattle.notify_paths.proofs.Prefixes.{prefix_itself, run_ends, and_false, and_true}
 use Rattle.debounce_model.specs.Play.{has_path}
 use Rattle.folder_listing.specs.declared.entry.Found.{Found}
 use Rattle.folder_listing.specs.declared.pairs.Change.TheVariants.{Removed, Created, Replaced, Rewritten, Same}
 use Rattle.folder_listing.specs.Listing.{ListingValue, entry_at, has_entry, is_same_kind}
 use Rattle.folder_listing.specs.Changes.{is_of_kind, is_same_state, is_rewritten, is_kept, gone, lies_in, lies_below, staying, removed, created, rewritten, removal, creation, rewrite}
 use Rattle.folder_listing.specs.Pairs.{PairValue, PartsValue, paired, is_under, change_at, change_of, goes, top_after, no_parts, joined, parts_of, walk}
-use Rattle.folder_listing.proofs.PrefixLemmas.{prefix-trans, run_ends, no_prefix_behind, below_behind, not_below_itself, not_below_behind}
+use Rattle.folder_listing.proofs.PrefixLemmas.{prefix-trans, no_prefix_behind, below_behind, not_below_itself, not_below_behind}
 use Rattle.folder_listing.proofs.PairLemmas.{AreAbove, IsAbove, Ascend, ascend-paired, entry_cons, olds_of, news_of, olds_of-paired, news_of-paired, above-side, entry_at-side}
 
 -- a test or false

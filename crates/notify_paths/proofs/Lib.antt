@@ -5,6 +5,7 @@ pub mod Orders
 pub mod Begins
 pub mod Digits
 pub mod Words
+pub mod FirstWords
 pub mod Normals
 pub mod Joins
 pub mod Folders

@@ -23,7 +23,7 @@ prefix_itself [] = refl
 prefix_itself (x ∷ p) = let t : part_cmp x x ≡ Equal = tied_itself part_cmp_total x in rw t (prefix_itself p)
 
 -- what has p as a prefix stands at p or behind it
-prefix_not_behind : (p k : PathValue) → is_prefix p k ≡ true → path_cmp p k ≡ Greater → ⊥
+pub prefix_not_behind : (p k : PathValue) → is_prefix p k ≡ true → path_cmp p k ≡ Greater → ⊥
 prefix_not_behind [] [] b g = cc
 prefix_not_behind [] (y ∷ k) b g = cc
 prefix_not_behind (x ∷ p) [] b g = true≢false (sym b)

@@ -1,10 +1,10 @@
 -- Eight bytes at once.
 use Rattle.std.proofs.Common.{◌≡◌, ◌≢◌, ℕ, zero, suc, ◌+◌, ◌*◌, ◌/◌, ◌%◌, ◌^◌, ◌<◌, ◌≤◌, List, [], ◌∷◌, ◌++◌, length, get_or, take, refl, sym, ◌∙◌, ap, ap₂, arith}
-use Rattle.std.specs.Int.{w64, from_le_bytes, to_le_bytes}
-use Rattle.std.proofs.lemmas.Nat.{le_bytes_8}
+use Rattle.std.specs.Int.{w32, w64, from_le_bytes, to_le_bytes}
+use Rattle.std.proofs.lemmas.Nat.{le_bytes_4, le_bytes_8}
 use Rattle.std.proofs.lemmas.List.{take_more}
 use Rattle.std.proofs.Math.Nat.{div-one}
-use Rattle.notify_paths.specs.TextSteps.{eight_bytes}
+use Rattle.notify_paths.specs.TextSteps.{eight_bytes, four_bytes}
 use Rattle.notify_paths.proofs.Digits.{digit_same, digit_more, digits_fewer}
 
 -- each is a byte
@@ -76,25 +76,54 @@ byte_is text i n m f h q = by n h
     by (suc (suc (suc (suc (suc (suc (suc zero))))))) h = sym (ap (λ l. get_or l 7 0) all)
     by (suc (suc (suc (suc (suc (suc (suc (suc n)))))))) h = omega (arith, h)
 
-module _ (a b : List ℕ) (i x y : ℕ) (f : IsBytes a) (g : IsBytes b) (p : x
-    ≡ from_le_bytes w64 (eight_bytes a i)) (q : y ≡ from_le_bytes w64 (eight_bytes b i)) where
+-- the first k digits of the word are the bytes of the text from i on
+abbrev pub Reads : ℕ → List ℕ → ℕ → ℕ → Type 0
+Reads k text i m = (n : ℕ) → n < k → get_or text (i + n) 0 ≡ m / 2 ^ (8 * n) % 2 ^ 8
+
+pub reads_eight : (text : List ℕ) (i m : ℕ) → IsBytes text → m ≡ from_le_bytes w64 (eight_bytes text i) →
+    Reads 8 text i m
+reads_eight text i m f q n h = byte_is text i n m f h q
+
+four_are_bytes : (text : List ℕ) (i : ℕ) → IsBytes text → IsBytes (four_bytes text i)
+four_are_bytes text i f zero = f i
+four_are_bytes text i f (suc zero) = f (i + 1)
+four_are_bytes text i f (suc (suc zero)) = f (i + 2)
+four_are_bytes text i f (suc (suc (suc zero))) = f (i + 3)
+four_are_bytes text i f (suc (suc (suc (suc j)))) = omega arith
+
+pub reads_four : (text : List ℕ) (i m : ℕ) → IsBytes text → m ≡ from_le_bytes w32 (four_bytes text i) →
+    Reads 4 text i m
+reads_four text i m f q n h = by n h
+  where
+    all : to_le_bytes w32 m ≡ four_bytes text i
+    all = le_bytes_4 (four_bytes text i) m refl (four_are_bytes text i f) q
+
+    by : (n : ℕ) → n < 4 → get_or text (i + n) 0 ≡ m / 2 ^ (8 * n) % 2 ^ 8
+    by zero h = let here : i + 0 ≡ i = omega arith in
+        rw here (sym (ap (λ l. get_or l 0 0) all) ∙ ap (λ n. n % 256) (sym (div-one m)))
+    by (suc zero) h = sym (ap (λ l. get_or l 1 0) all)
+    by (suc (suc zero)) h = sym (ap (λ l. get_or l 2 0) all)
+    by (suc (suc (suc zero))) h = sym (ap (λ l. get_or l 3 0) all)
+    by (suc (suc (suc (suc n)))) h = omega (arith, h)
+
+module _ (k : ℕ) (a b : List ℕ) (i x y : ℕ) (f : Reads k a i x) (g : Reads k b i y) where
   -- the bytes are the same where the low digits of the words are
-  pub digits_as_bytes : (n : ℕ) → n ≤ 8 → i + n ≤ length a → i + n ≤ length b →
+  pub digits_as_bytes : (n : ℕ) → n ≤ k → i + n ≤ length a → i + n ≤ length b →
       x % 2 ^ (8 * n) ≡ y % 2 ^ (8 * n) → take i a ≡ take i b → take (i + n) a ≡ take (i + n) b
-  digits_as_bytes zero l h k e t = let here : i + 0 ≡ i = omega arith in rw here t
-  digits_as_bytes (suc n) l h k e t =
-      let low : n < 8 = omega (arith, l) in
+  digits_as_bytes zero l h j e t = let here : i + 0 ≡ i = omega arith in rw here t
+  digits_as_bytes (suc n) l h j e t =
+      let low : n < k = omega (arith, l) in
       let next : 8 * suc n ≡ 8 + 8 * n = omega arith in
       let digits : x % 2 ^ (8 + 8 * n) ≡ y % 2 ^ (8 + 8 * n) = rw next at e in
-      let byte : get_or a (i + n) 0 ≡ get_or b (i + n) 0 = byte_is a i n x f low p
-      ∙ digit_same x y (8 * n) digits ∙ sym (byte_is b i n y g low q) in
-      more a b (i + n) (i + suc n) (omega arith) (omega (arith, h)) (omega (arith, k)) byte
-      (digits_as_bytes n (omega (arith, l)) (omega (arith, h)) (omega (arith, k))
+      let byte : get_or a (i + n) 0 ≡ get_or b (i + n) 0 = f n low ∙ digit_same x y (8 * n) digits
+      ∙ sym (g n low) in
+      more a b (i + n) (i + suc n) (omega arith) (omega (arith, h)) (omega (arith, j)) byte
+      (digits_as_bytes n (omega (arith, l)) (omega (arith, h)) (omega (arith, j))
       (digits_fewer x y (8 * n) digits) t)
 
   -- .. and a byte differs where the next digits do
-  pub digit_apart : (n : ℕ) → n < 8 → x % 2 ^ (8 * n) ≡ y % 2 ^ (8 * n) →
+  pub digit_apart : (n : ℕ) → n < k → x % 2 ^ (8 * n) ≡ y % 2 ^ (8 * n) →
       x % 2 ^ (8 * n + 8) ≢ y % 2 ^ (8 * n + 8) → get_or a (i + n) 0 ≢ get_or b (i + n) 0
   digit_apart n l e d byte =
       let next : 8 + 8 * n ≡ 8 * n + 8 = omega arith in
-      d (rw next at (digit_more x y (8 * n) e (sym (byte_is a i n x f l p) ∙ byte ∙ byte_is b i n y g l q)))
+      d (rw next at (digit_more x y (8 * n) e (sym (f n l) ∙ byte ∙ g n l)))

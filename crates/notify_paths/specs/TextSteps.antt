@@ -1,6 +1,7 @@
 -- Words of private contracts alone: what the code reads off the bytes of texts.
-use Rattle.std.specs.Prelude.{ℕ, Bool, true, not, ◌&&◌, ◌||◌, ◌+◌, ◌==◌, List, [], ◌∷◌, ◌++◌, length, drop, Option, None, Some, slice_index, slice_index_or, nat_eq, if◌then◌else◌}
-use Rattle.std.specs.Int.{w64, from_le_bytes}
+use Rattle.std.specs.Prelude.{ℕ, Bool, true, not, ◌&&◌, ◌||◌, ◌+◌, ◌*◌, ◌/◌, ◌%◌, ◌^◌, ◌==◌, List, [], ◌∷◌, ◌++◌, length, drop, Option, None, Some, slice_index, slice_index_or, nat_eq, if◌then◌else◌}
+use Rattle.std.specs.Int.{w32, w64, from_le_bytes, trailing_zeros}
+use Rattle.std.specs.Int.Bits.{bit_xor}
 use Rattle.std.specs.List.{starts_with}
 use Rattle.std.specs.Path.{slash, dot}
 use Rattle.std.specs.Ordering.{nat_cmp}
@@ -19,6 +20,15 @@ eight_bytes text i =
 abbrev pub word_in : List ℕ → ℕ → ℕ
 word_in text i = from_le_bytes w64 (eight_bytes text i)
 
+-- the four bytes from i on
+abbrev pub four_bytes : List ℕ → ℕ → List ℕ
+four_bytes text i = slice_index text i ∷ slice_index text (i + 1) ∷ slice_index text (i + 2) ∷ slice_index text
+    (i + 3) ∷ []
+
+-- .. as a number
+abbrev pub half_in : List ℕ → ℕ → ℕ
+half_in text i = from_le_bytes w32 (four_bytes text i)
+
 -- the text begins with `.` or `..`, and a slash or the end follows
 abbrev pub is_dots : List ℕ → Bool
 is_dots text = slice_index_or text 0 slash == dot
@@ -28,6 +38,22 @@ is_dots text = slice_index_or text 0 slash == dot
 -- a slash stands before each other byte
 abbrev pub text_rank : ℕ → ℕ
 text_rank byte = if byte == slash then 0 else byte + 1
+
+-- byte n of a word
+abbrev pub byte_in : ℕ → ℕ → ℕ
+byte_in word n = word / 2 ^ (8 * n) % 2 ^ 8
+
+-- how many bytes two words have in common, from the lowest on
+abbrev pub common_bytes : ℕ → ℕ → ℕ
+common_bytes x y = trailing_zeros w64 (bit_xor x y) / 8
+
+-- the order of two bytes that differ, unless one is a dot
+abbrev pub order_of_bytes : ℕ → ℕ → Option Ordering
+order_of_bytes x y = if x == dot || y == dot then None else Some (nat_cmp (text_rank x) (text_rank y))
+
+-- the order of two words, by the first bytes that differ
+abbrev pub order_in_words : ℕ → ℕ → Option Ordering
+order_in_words x y = order_of_bytes (byte_in x (common_bytes x y)) (byte_in y (common_bytes x y))
 
 -- the order of two texts that differ in their first bytes, unless these may stand in a `.` or a `..`
 abbrev pub order_at : List ℕ → List ℕ → Option Ordering

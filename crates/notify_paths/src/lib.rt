@@ -12,6 +12,7 @@
 #![tactic(auto)]
 
 pub mod error;
+mod first_words;
 mod order;
 pub mod part;
 pub mod path;

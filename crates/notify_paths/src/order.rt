@@ -5,14 +5,15 @@ ghost use Rattle.std.specs.Path.{IsWellFormedComponent};
 ghost use Rattle.notify_paths.specs.Path.{part_rank, part_bytes, path_cmp};
 ghost use Rattle.notify_paths.specs.PathText.{parts_of, IsNormal};
 ghost use Rattle.notify_paths.specs.PathView.{component_part};
-ghost use Rattle.notify_paths.specs.TextSteps.{order_text, is_dots, text_rank, word_in};
+ghost use Rattle.notify_paths.specs.TextSteps.{common_bytes, order_text, is_dots, text_rank, word_in};
 
+use crate::first_words::{order_by_short_words, order_by_words};
 use crate::text::byte_or_slash;
 use std::cmp::Ordering;
 use std::path::{Component, Path};
 
 /// The eight bytes from `i` on as a number.
-fn word_at(text: &[u8], i: usize) -> u64
+pub(crate) fn word_at(text: &[u8], i: usize) -> u64
     requires { i + 8 ≤ length text.now }
     ensures { result ≡ word_in text.now i }
 {
@@ -29,8 +30,9 @@ fn word_at(text: &[u8], i: usize) -> u64
 }
 
 /// How many bytes two words have in common, from the lowest on. The words differ.
-fn common_bytes(a: u64, b: u64) -> usize
+pub(crate) fn common_bytes(a: u64, b: u64) -> usize
     requires { a ≢ b }
+    ensures value { result ≡ common_bytes a b }
     ensures within { result < 8 }
     ensures same { a % 2 ^ (8 * result) ≡ b % 2 ^ (8 * result) }
     ensures stop { a % 2 ^ (8 * result + 8) ≢ b % 2 ^ (8 * result + 8) }
@@ -136,6 +138,8 @@ fn component_name(component: Component<'_>) -> &str
 }
 
 /// The order of two paths, part by part.
+#[cold]
+#[inline(never)]
 fn cmp_components(a: &str, b: &str) -> Ordering
     ensures { result ≡ path_cmp (parts_of a.now) (parts_of b.now) }
 {
@@ -157,8 +161,9 @@ fn cmp_components(a: &str, b: &str) -> Ordering
     }
 }
 
-/// The order of the paths that these texts are.
-pub(crate) fn cmp_texts(a: &str, b: &str) -> Ordering
+/// The order of the paths that these texts are, whatever is at their first bytes that differ.
+#[inline(never)]
+fn cmp_whole(a: &str, b: &str) -> Ordering
     requires a { IsNormal a.now }
     requires b { IsNormal b.now }
     ensures { result ≡ path_cmp (parts_of a.now) (parts_of b.now) }
@@ -166,5 +171,31 @@ pub(crate) fn cmp_texts(a: &str, b: &str) -> Ordering
     match order_of_texts(a.as_bytes(), b.as_bytes()) {
         Some(order) => order,
         None => cmp_components(a, b),
+    }
+}
+
+/// The order of the paths that these texts are, as the words of short ones tell it.
+#[inline(never)]
+fn cmp_closely(a: &str, b: &str) -> Ordering
+    requires a { IsNormal a.now }
+    requires b { IsNormal b.now }
+    ensures { result ≡ path_cmp (parts_of a.now) (parts_of b.now) }
+{
+    match order_by_short_words(a.as_bytes(), b.as_bytes()) {
+        Some(order) => order,
+        None => cmp_whole(a, b),
+    }
+}
+
+/// The order of the paths that these texts are. Mostly the first words that differ tell it.
+#[inline(always)]
+pub(crate) fn cmp_texts(a: &str, b: &str) -> Ordering
+    requires a { IsNormal a.now }
+    requires b { IsNormal b.now }
+    ensures { result ≡ path_cmp (parts_of a.now) (parts_of b.now) }
+{
+    match order_by_words(a.as_bytes(), b.as_bytes()) {
+        Some(order) => order,
+        None => cmp_closely(a, b),
     }
 }

@@ -277,6 +277,7 @@ impl<A: Allocator> Ord for PathBuf<A> {
 
     ghost matches_eq = { Prim.search (comparing, path_matches_eq, rules) };
 
+    #[inline]
     fn cmp(&self, other: &PathBuf<A>) -> Ordering {
         cmp_texts(self.text.as_str(), other.text.as_str())
     }
