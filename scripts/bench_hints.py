@@ -8,6 +8,7 @@ it). The folder has 20,000 files in 200 folders; the timeout is 50 ms. With inot
 with hints that this script writes itself, the folder is looked at each minute; without hints, each second.
 At rest the processor's time of 20 seconds is taken, and then forty writes are timed.
 """
+import glob
 import json
 import os
 import queue
@@ -38,9 +39,9 @@ def make_files(folder):
 
 
 def processor_seconds(process):
-    with open(f"/proc/{process.pid}/stat") as stat:
-        fields = stat.read().rsplit(")", 1)[1].split()
-    return (int(fields[11]) + int(fields[12])) / os.sysconf("SC_CLK_TCK")
+    """Returns what the scheduler counts for its threads: the clock of /proc/PID/stat is cut to hundredths."""
+    counts = glob.glob(f"/proc/{process.pid}/task/*/schedstat")
+    return sum(int(open(count).read().split()[0]) for count in counts) / 1e9
 
 
 class Journal:

@@ -72,7 +72,7 @@ def main(*counts):
         print("| files | a round | without modified times | a plain walk | peak memory |")
         print("|---:|---:|---:|---:|---:|")
         for count in map(int, counts or ("1000", "10000", "100000")):
-            folder = os.path.join(room, f"files{count}")
+            folder = os.path.join(room, str(count))
             os.mkdir(folder)
             make_files(folder, count)
             least, memory = times_of(walk, folder)

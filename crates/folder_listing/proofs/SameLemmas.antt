@@ -16,7 +16,7 @@ use Rattle.folder_listing.proofs.PairLemmas.{AreAbove, at_itself, turned_less}
 use Rattle.folder_listing.proofs.WalkLemmas.{has_entry-some}
 
 -- a kind is the same as itself
-same_kind : (kind : EntryKind) → is_same_kind kind kind ≡ true
+pub same_kind : (kind : EntryKind) → is_same_kind kind kind ≡ true
 same_kind File = refl
 same_kind Folder = refl
 same_kind Other = refl
@@ -27,7 +27,7 @@ same_time None = refl
 same_time (Some t) = nat_eq_equiv.refl t
 
 -- nothing was rewritten where all is the same
-same_state : (f : Found) → is_same_state f f ≡ true
+pub same_state : (f : Found) → is_same_state f f ≡ true
 same_state f = ap (λ b. b && is_same_time f.modified f.modified) (nat_eq_equiv.refl f.length)
     ∙ same_time f.modified
 

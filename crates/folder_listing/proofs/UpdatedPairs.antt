@@ -1,5 +1,5 @@
 -- A listing and its updates side by side: the pairs ascend, and their sides are the listing before and after.
-use Rattle.std.proofs.Common.{◌≡◌, arith, length, Bool, true, false, List, [], ◌∷◌, map, refl, ap, sym, subst, ◌∙◌, Some, None}
+use Rattle.std.proofs.Common.{◌≡◌, Bool, true, false, List, [], ◌∷◌, map, refl, ap, sym, subst, ◌∙◌, Some, None}
 use Rattle.std.specs.Prelude.{Option, if◌then◌else◌}
 use Rattle.std.specs.declared.cmp.Ordering.{Ordering}
 use Rattle.std.specs.declared.cmp.Ordering.TheVariants.{Less, Equal, Greater}
@@ -7,18 +7,21 @@ use Rattle.std.specs.Ordering.{match_ordering}
 use Rattle.std.specs.List.Sorted.{IsStrictlySortedBy}
 use Rattle.std.specs.Map.{keys_of}
 use Rattle.std.specs.BTreeMap.{is_at}
+use Rattle.std.specs.BTreeMap.Range.{entries_between}
+use Rattle.std.specs.declared.ops.Bound.TheVariants.{Included, Unbounded}
 use Rattle.notify_paths.specs.Path.{PathValue, path_cmp}
 use Rattle.notify_paths.specs.PathLaws.{path_cmp_total}
 use Rattle.notify_paths.proofs.Prefixes.{same_path}
 use Rattle.debounce_model.proofs.Entries.{same_entries}
 use Rattle.folder_listing.specs.declared.entry.Found.{Found}
+use Rattle.folder_listing.specs.declared.updates.Update.{Update}
 use Rattle.folder_listing.specs.Listing.{ListingValue, IsListing, entry_at}
-use Rattle.folder_listing.specs.Pairs.{PairValue, both, only_update, updated_into, updated_pairs, walk, with_update}
+use Rattle.folder_listing.specs.Pairs.{PairValue, both, no_parts, only_update, updated_into, updated_pairs, walk, with_update}
 use Rattle.folder_listing.specs.Updates.{IsUpdate, UpdatesValue, after, found_after, update_at, updated}
 use Rattle.folder_listing.proofs.PairLemmas.{AreAbove, Ascend, IsAbove, above-side, above-trans, entry_at-above, entry_cons, news_of, olds_of, turned}
 use Rattle.folder_listing.proofs.BehindLemmas.{at-same}
 use Rattle.folder_listing.specs.Changes.{changes}
-use Rattle.folder_listing.proofs.SameLemmas.{no_changes}
+use Rattle.folder_listing.proofs.SameLemmas.{no_changes, same_kind, same_state}
 use Rattle.folder_listing.proofs.WalkLemmas.{parts_between, walk_finds_pairs}
 use Rattle.folder_listing.proofs.UpdateLemmas.{Ascends, update_at-above, updated-finds, updated-sorted}
 
@@ -237,7 +240,47 @@ updates_walked os us law up =
     (olds_of-updated os us) (news_of-updated os us law.ordered up.ordered)
 
 -- without updates nothing changes
-pub no_updates : (os : ListingValue) (us : UpdatesValue) → IsListing os → length us ≡ 0 →
+pub no_updates : (os : ListingValue) (us : UpdatesValue) → IsListing os → us ≡ [] →
     changes os (updated os us) ≡ []
-no_updates os [] law h = no_changes os law
-no_updates os (u ∷ us) law h = absurd (omega (arith, h))
+no_updates os us law h = ap (λ us. changes os (updated os us)) h ∙ no_changes os law
+
+-- an entry that stays as it is tells nothing, if nothing went
+stays : (o : PathValue × Found) (ps : List PairValue) → walk None (both o o ∷ ps) ≡ walk None ps
+stays o ps = rw (same_kind o.1.kind, same_state o.1) refl
+
+-- .. nor do all entries
+pub all_stay : (os : ListingValue) → walk None (updated_pairs os []) ≡ no_parts
+all_stay [] = refl
+all_stay (o ∷ os) = stays o (updated_pairs os []) ∙ all_stay os
+
+-- the entries from the path on
+abbrev pub from_path : PathValue → ListingValue → ListingValue
+from_path path os = entries_between path_cmp (Included path) Unbounded os
+
+-- those above a path are among them
+from-above : (path : PathValue) (os : ListingValue) → AreAbove path (keys_of os) → from_path path os ≡ os
+from-above path [] a = refl
+from-above path (o ∷ os) a = rw a.0 (ap (λ r. o ∷ r) (from-above path os a.1))
+
+-- the entries before the first update tell nothing
+pub walked-from : (u : PathValue × Update) (us : UpdatesValue) (os : ListingValue) → Ascends os →
+    walk None (updated_pairs (from_path u.0 os) (u ∷ us)) ≡ walk None (updated_pairs os (u ∷ us))
+unfolding IsStrictlySortedBy
+walked-from u us [] s = refl
+walked-from u us (o ∷ os) s = by (path_cmp u.0 o.0) refl (walked-from u us os s.1)
+  where
+    kept : from_path u.0 os ≡ os → walk None (updated_pairs (o ∷ from_path u.0 os) (u ∷ us))
+        ≡ walk None (updated_pairs (o ∷ os) (u ∷ us))
+    kept h = ap (λ r. walk None (updated_pairs (o ∷ r) (u ∷ us))) h
+
+    by : (r : Ordering) → path_cmp u.0 o.0 ≡ r → walk None (updated_pairs (from_path u.0 os) (u ∷ us))
+        ≡ walk None (updated_pairs os (u ∷ us)) →
+        walk None (updated_pairs (from_path u.0 (o ∷ os)) (u ∷ us)) ≡ walk None (updated_pairs (o ∷ os) (u ∷ us))
+    by Less q more = rw q (kept (from-above u.0 os (above-trans u.0 o.0 q (keys_of os) s.0)))
+    by Equal q more =
+        rw q (kept (from-above u.0 os (subst (λ x. AreAbove x (keys_of os)) (sym (same_path u.0 o.0 q)) s.0)))
+    by Greater q more = rw q (more ∙ before (turned u.0 o.0 q))
+      where
+        before : path_cmp o.0 u.0 ≡ Less → walk None (updated_pairs os (u ∷ us))
+            ≡ walk None (updated_pairs (o ∷ os) (u ∷ us))
+        before less = rw less (sym (stays o (updated_pairs os (u ∷ us))))

@@ -141,8 +141,8 @@ fn compare_entries<A: Allocator + Copy>(
     parts.into_events()
 }
 
-/// Returns what the updates change of the listing, as [`compare`] does with the listing after them. Without
-/// updates no entry is looked at.
+/// Returns what the updates change of the listing, as [`compare`] does with the listing after them. No entry
+/// before the first update is looked at, and if nothing goes, none behind the last.
 pub fn compare_updates<A: Allocator + Copy>(
     alloc: A,
     old: &Listing<A>,
@@ -165,13 +165,13 @@ fn update_events<A: Allocator + Copy>(
     ensures { IfOk result (λ events. events.items
         ≡ changes old.now.entries (updated old.now.entries updates.now.entries)) }
 {
-    if updates.len() == 0 {
+    let Some((first, _update)) = updates.iter().next() else {
         return Ok(Vec::new(alloc));
-    }
+    };
     let mut parts = Parts::new(alloc);
-    let mut pairs = UpdatedPairs::new(old, updates);
+    let mut pairs = UpdatedPairs::new(old, first, updates);
     let mut top = None;
-    while let Some(pair) = pairs.next() {
+    while let Some(pair) = pairs.next_told(top) {
         let change = pair.change(top);
         parts.add(change, pair.path())?;
         if change.goes() {

@@ -1,8 +1,10 @@
 //! Listings.
 ghost use Rattle.std.specs.Prelude.{◌≡◌, ◌==◌, [], true, length, IfErr, IfOk, IfSome, OnOk, OnErr};
 ghost use Rattle.std.specs.BTreeMap.{insert_entry};
+ghost use Rattle.std.specs.BTreeMap.Range.{entries_between};
 ghost use Rattle.std.specs.List.Sorted.{IsStrictlySortedBy};
 ghost use Rattle.std.specs.Map.{keys_of};
+ghost use Rattle.std.specs.declared.ops.Bound.TheVariants.{Included, Unbounded};
 ghost use Rattle.notify_paths.specs.Errors.{out_of_memory};
 ghost use Rattle.notify_paths.specs.Path.{PathValue, path_cmp};
 ghost use Rattle.debounce_model.specs.Honest.{has_folders};
@@ -20,8 +22,9 @@ use notify_paths::path::PathBuf;
 use notify_types::event::RecursiveMode;
 use std::alloc::{AllocError, Allocator, Global};
 use std::collections::BTreeMap;
-use std::collections::btree_map::Iter;
+use std::collections::btree_map::{Iter, Range};
 use std::marker::Model;
+use std::ops::Bound;
 
 /// The folders and files of one moment. Each folder above an entry is an entry too, and no path is
 /// empty.
@@ -128,6 +131,15 @@ impl<A: Allocator> Listing<A> {
         ensures law { IsListing self.now }
     {
         self.entries.iter()
+    }
+
+    /// Returns the entries from the path on, in the order of their paths.
+    pub fn iter_from(&self, path: &PathBuf<A>) -> Range<'_, PathBuf<A>, Found>
+        ensures value { result ≡ entries_between path_cmp (Included path.now) Unbounded self.now }
+        ensures law { IsListing self.now }
+    {
+        self.entries
+            .range((Bound::Included(path), Bound::Unbounded))
     }
 
     /// Returns what stands at the path, if anything does.

@@ -1,7 +1,10 @@
 //! Two listings side by side, and a listing and its updates.
-ghost use Rattle.std.specs.Prelude.{◌≡◌, ◌∷◌, [], MatchOption, Some};
+ghost use Rattle.std.specs.Prelude.{◌≡◌, ◌∷◌, [], MatchOption, None, Some};
+ghost use Rattle.std.specs.BTreeMap.Range.{entries_between};
 ghost use Rattle.std.specs.Option.{option_copied};
-ghost use Rattle.folder_listing.specs.Pairs.{paired, change_at, change_of, is_under, goes, updated_pairs};
+ghost use Rattle.std.specs.declared.ops.Bound.TheVariants.{Included, Unbounded};
+ghost use Rattle.notify_paths.specs.Path.{path_cmp};
+ghost use Rattle.folder_listing.specs.Pairs.{paired, change_at, change_of, is_under, goes, no_parts, updated_pairs, walk};
 ghost use Rattle.folder_listing.specs.Updates.{found_after};
 
 use crate::entry::{EntryKind, Found};
@@ -10,8 +13,9 @@ use notify_paths::path::PathBuf;
 use std::alloc::Allocator;
 use std::cmp::Ordering;
 use std::collections::BTreeMap;
-use std::collections::btree_map::Iter;
+use std::collections::btree_map::{Iter, Range};
 use std::marker::Model;
+use std::ops::Bound;
 
 /// What happened at a path.
 #[derive(Clone, Copy)]
@@ -143,56 +147,69 @@ impl<'a, A: Allocator> Pairs<'a, A> {
             (None, None) => None,
             (Some(old), None) => {
                 self.before = self.olds.next();
-                Some(Pair {
-                    path: old.0,
-                    before: Some(*old.1),
-                    after: None,
-                })
+                Some(only_old(old.0, *old.1))
             },
             (None, Some(new)) => {
                 self.after = self.news.next();
-                Some(Pair {
-                    path: new.0,
-                    before: None,
-                    after: Some(*new.1),
-                })
+                Some(only_new(new.0, *new.1))
             },
             (Some(old), Some(new)) => match old.0.cmp(new.0) {
                 Ordering::Less => {
                     self.before = self.olds.next();
-                    Some(Pair {
-                        path: old.0,
-                        before: Some(*old.1),
-                        after: None,
-                    })
+                    Some(only_old(old.0, *old.1))
                 },
                 Ordering::Greater => {
                     self.after = self.news.next();
-                    Some(Pair {
-                        path: new.0,
-                        before: None,
-                        after: Some(*new.1),
-                    })
+                    Some(only_new(new.0, *new.1))
                 },
                 Ordering::Equal => {
                     self.before = self.olds.next();
                     self.after = self.news.next();
-                    Some(Pair {
-                        path: old.0,
-                        before: Some(*old.1),
-                        after: Some(*new.1),
-                    })
+                    Some(in_both(old.0, *old.1, *new.1))
                 }
             },
         }
     }
 }
 
-/// A listing and its updates side by side: a walk over the paths of both, in their order, which looks at
-/// each entry and each update once.
+/// The pair of a path that only the old listing has.
+fn only_old<'a, A: Allocator>(path: &'a PathBuf<A>, before: Found) -> Pair<'a, A>
+    ensures { result ≡ record { path = path.now; before = Some before; after = None } }
+{
+    Pair {
+        path,
+        before: Some(before),
+        after: None,
+    }
+}
+
+/// The pair of a path that only the new listing has.
+fn only_new<'a, A: Allocator>(path: &'a PathBuf<A>, after: Found) -> Pair<'a, A>
+    ensures { result ≡ record { path = path.now; before = None; after = Some after } }
+{
+    Pair {
+        path,
+        before: None,
+        after: Some(after),
+    }
+}
+
+/// The pair of a path that both listings have.
+fn in_both<'a, A: Allocator>(path: &'a PathBuf<A>, before: Found, after: Found) -> Pair<'a, A>
+    ensures { result ≡ record { path = path.now; before = Some before; after = Some after } }
+{
+    Pair {
+        path,
+        before: Some(before),
+        after: Some(after),
+    }
+}
+
+/// A listing from a path on, and its updates, side by side: a walk over the paths of both, in their order,
+/// which looks at each entry and each update once.
 #[derive(Drop)]
 pub(crate) struct UpdatedPairs<'a, A: Allocator> {
-    olds: Iter<'a, PathBuf<A>, Found>,
+    olds: Range<'a, PathBuf<A>, Found>,
     updates: Iter<'a, PathBuf<A>, Update>,
     before: Option<(&'a PathBuf<A>, &'a Found)>,
     update: Option<(&'a PathBuf<A>, &'a Update)>,
@@ -213,11 +230,14 @@ impl<'a, A: Allocator> Model for UpdatedPairs<'a, A> {
 impl<'a, A: Allocator> UpdatedPairs<'a, A> {
     pub(crate) fn new(
         old: &'a BTreeMap<PathBuf<A>, Found, A>,
+        first: &PathBuf<A>,
         updates: &'a Updates<A>,
     ) -> UpdatedPairs<'a, A>
-        ensures { result ≡ updated_pairs old.now.entries updates.now.entries }
+        ensures { result ≡ updated_pairs
+            (entries_between path_cmp (Included first.now) Unbounded old.now.entries)
+            updates.now.entries }
     {
-        let mut olds = old.iter();
+        let mut olds = old.range((Bound::Included(first), Bound::Unbounded));
         let mut updates = updates.iter();
         let before = olds.next();
         let update = updates.next();
@@ -229,15 +249,27 @@ impl<'a, A: Allocator> UpdatedPairs<'a, A> {
         }
     }
 
+    /// Returns the next pair, if something is left to be told, where `top` is the path that went last.
+    pub(crate) fn next_told(&mut self, top: Option<&PathBuf<A>>) -> Option<Pair<'a, A>>
+        ensures { MatchOption result (walk (option_copied top.entry) self.old ≡ no_parts)
+            (λ pair. self.old ≡ pair ∷ self.new) }
+    {
+        match (top, self.update) {
+            // Behind the last update all stays as it is, but for what lies below a path that went.
+            (None, None) => None,
+            _ => self.next(),
+        }
+    }
+
     /// Returns the next pair.
-    pub(crate) fn next(&mut self) -> Option<Pair<'a, A>>
+    fn next(&mut self) -> Option<Pair<'a, A>>
         ensures { MatchOption result (self.old ≡ []) (λ pair. self.old ≡ pair ∷ self.new) }
     {
         match (self.before, self.update) {
             (None, None) => None,
             (Some(old), None) => {
                 self.before = self.olds.next();
-                Some(unchanged(old.0, *old.1))
+                Some(in_both(old.0, *old.1, *old.1))
             },
             (None, Some(update)) => {
                 self.update = self.updates.next();
@@ -246,7 +278,7 @@ impl<'a, A: Allocator> UpdatedPairs<'a, A> {
             (Some(old), Some(update)) => match old.0.cmp(update.0) {
                 Ordering::Less => {
                     self.before = self.olds.next();
-                    Some(unchanged(old.0, *old.1))
+                    Some(in_both(old.0, *old.1, *old.1))
                 },
                 Ordering::Greater => {
                     self.update = self.updates.next();
@@ -259,17 +291,6 @@ impl<'a, A: Allocator> UpdatedPairs<'a, A> {
                 }
             },
         }
-    }
-}
-
-/// The pair of what stays as it is.
-fn unchanged<'a, A: Allocator>(path: &'a PathBuf<A>, found: Found) -> Pair<'a, A>
-    ensures { result ≡ record { path = path.now; before = Some found; after = Some found } }
-{
-    Pair {
-        path,
-        before: Some(found),
-        after: Some(found),
     }
 }
 

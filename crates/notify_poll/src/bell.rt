@@ -6,8 +6,8 @@ use std::sync::{Condvar, Mutex, Wait};
 use std::thread;
 use std::time::{Clock, Duration};
 
-/// How long a thread waits for more hints after the first, in milliseconds.
-const GATHER: u64 = 10;
+/// How long a thread waits for more hints after the first, in milliseconds: less than a young modified time waits.
+const GATHER: u64 = 5;
 
 /// What a polling watcher's thread is asked for, and did not do yet.
 #[derive(Drop)]

@@ -46,9 +46,9 @@ impl<R: Drop, A: Allocator + Copy> RealFolders<R, A> {
     }
 
     /// Returns the real file system, which tells when files, links and others were modified. A time that is
-    /// less than 20 milliseconds older than the look at it could be that of a later change too: the look
-    /// waits so long, and looks again. If something was written meanwhile, the time isn't told, and so is
-    /// asked for again by the next look.
+    /// less than 11 milliseconds older than the look at it could be that of a later change too: the look
+    /// waits until it is that old, and looks again. If something was written meanwhile, the time isn't told, and
+    /// so is asked for again by the next look.
     pub fn with_modified_times(rt: R, alloc: A) -> RealFolders<R, A>
         ensures counted { result.failures ≡ 0 }
         ensures none { result.left_out ≡ 0 }

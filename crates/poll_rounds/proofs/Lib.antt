@@ -7,3 +7,4 @@ pub mod FirstLemmas
 pub mod PartLemmas
 pub mod BesideLemmas
 pub mod NewsLemmas
+pub mod LaterLemmas

@@ -2,18 +2,16 @@
 ghost use Rattle.std.specs.Prelude.{◌≡◌, ◌==◌, [], true, false, length, drop, IfErr, IfOk, MatchOption, OnErr, OnOk};
 ghost use Rattle.std.specs.BTreeMap.{insert_entry};
 ghost use Rattle.std.specs.Map.{keys_of};
-ghost use Rattle.std.specs.Map.Iter.{deref_pair};
-ghost use Rattle.std.specs.Option.{option_map};
-ghost use Rattle.folder_listing.specs.Pairs.{with_head};
 ghost use Rattle.notify_paths.specs.Errors.{out_of_memory};
 ghost use Rattle.notify_paths.specs.Path.{path_cmp};
 ghost use Rattle.debounce_model.specs.Honest.{has_folders};
 ghost use Rattle.folder_listing.specs.Listing.{IsListing, entry_at, has_entry, is_nonempty};
 ghost use Rattle.folder_listing.specs.Near.{outside};
 ghost use Rattle.folder_listing.specs.Updates.{IsUpdate, updated};
-ghost use Rattle.poll_rounds.specs.Beside.{IsBeside, begins_before, put_in, within};
+ghost use Rattle.poll_rounds.specs.Beside.{IsBeside, begins_before, put_in};
 
 use crate::entries::Entries;
+use crate::later::{Later, next_within};
 use folder_listing::entry::Found;
 use folder_listing::listing::Listing;
 use folder_listing::updates::{Update, Updates};
@@ -21,7 +19,6 @@ use notify_paths::error::Error;
 use notify_paths::path::PathBuf;
 use std::alloc::Allocator;
 use std::collections::BTreeMap;
-use std::collections::btree_map::Iter;
 use std::marker::Model;
 
 /// A listing that is made beside the last one. Only what differs is copied.
@@ -32,7 +29,7 @@ pub(crate) struct Beside<'a, A: Allocator> {
     top: PathBuf<A>,
     /// and this is the first such entry of the last listing that wasn't passed yet, among the later ones.
     next: Option<(&'a PathBuf<A>, &'a Found)>,
-    later: Iter<'a, PathBuf<A>, Found>,
+    later: Later<'a, A>,
     /// What differs elsewhere.
     updates: Updates<A>,
 }
@@ -65,11 +62,12 @@ impl<'a, A: Allocator + Copy> Beside<'a, A> {
         ensures left { result.left ≡ [] }
         ensures beside { result.last ≡ last.now }
     {
+        let top = PathBuf::empty(alloc);
         Beside {
             last,
-            top: PathBuf::empty(alloc),
+            later: Later::begin(last, &top),
+            top,
             next: None,
-            later: last.iter(),
             updates: BTreeMap::new(alloc),
         }
     }
@@ -95,7 +93,7 @@ impl<'a, A: Allocator + Copy> Beside<'a, A> {
     {
         self.updates
             .retain(|other, _update| !other.starts_with(path));
-        self.later = self.last.iter();
+        self.later = Later::begin(self.last, path);
         self.next = next_within(&mut self.later, path);
         self.top = top;
     }
@@ -254,22 +252,6 @@ impl<'a, A: Allocator + Copy> Entries<A> for Beside<'a, A> {
             _ => self.change(alloc, path, found),
         }
     }
-}
-
-/// Takes the next entry at the path or below it.
-fn next_within<'a, A: Allocator>(
-    entries: &mut Iter<'a, PathBuf<A>, Found>,
-    top: &PathBuf<A>,
-) -> Option<(&'a PathBuf<A>, &'a Found)>
-    ensures { within entries.old top.now
-        ≡ with_head (option_map deref_pair result) (within entries.new top.now) }
-{
-    while let Some((path, found)) = entries.next() {
-        if path.starts_with(top) {
-            return Some((path, found));
-        }
-    }
-    None
 }
 
 /// Notes what becomes of the path.

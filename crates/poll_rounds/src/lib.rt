@@ -4,6 +4,7 @@
 mod beside;
 pub mod entries;
 pub mod folders;
+mod later;
 pub mod list;
 pub mod look;
 pub mod part;

@@ -1,5 +1,6 @@
 //! A debouncer that watches folders, until a program's life is over.
-ghost use Rattle.std.specs.Prelude.{◌≡◌, ◌⊎◌, None, IfErr, IfOk};
+ghost use Rattle.std.specs.Prelude.{◌≡◌, ◌≤◌, ◌⊎◌, None, IfErr, IfOk, IfSome};
+ghost use Rattle.std.specs.Duration.{as_nanos};
 ghost use Rattle.watch_loop.specs.Rest.{IsLeft};
 ghost use Rattle.watch_program.specs.declared.fault.Fault.TheVariants.{CannotWatch, Memory, NoThread, NotThere};
 
@@ -13,6 +14,10 @@ use notify_debouncer_full::{
 use report_loop::Rest;
 use std::time::{Clock, Duration, Instant};
 use watch_program::{Fault, HintWords, Pace};
+
+/// The shortest tick, in milliseconds. At each tick the debouncer's thread wakes, which costs a processor some
+/// 40 microseconds: at sixty a second a quarter of a hundredth.
+const SHORTEST_TICK: u64 = 16;
 
 /// A debouncer that watches folders, and when the program's life is over.
 #[derive(Drop)]
@@ -33,7 +38,8 @@ impl<R: DebouncerRuntime + AllocGlobal> Live<R> {
             .with_initial_events(pace.initial);
         let end = end_of(&rt, pace.life);
         let input = InputEnd::new(rt.alloc(), pace.until_eof)?;
-        match Reports::start(rt, rt.alloc(), pace.timeout, None, config) {
+        let tick = tick_of(pace.timeout);
+        match Reports::start(rt, rt.alloc(), pace.timeout, tick, config) {
             Ok(reports) => Ok(Live {
                 rt,
                 reports,
@@ -122,4 +128,16 @@ fn end_of<R: Clock>(rt: &R, life: Option<Duration>) -> Option<Instant>
     ensures endless { life ≡ None → result ≡ None }
 {
     Instant::now(rt).ok()?.checked_add(life?)
+}
+
+/// How long a tick is: `None`, a quarter of the timeout, unless that is shorter than the shortest.
+fn tick_of(timeout: Duration) -> Option<Duration>
+    // So it is never refused as too slow.
+    ensures { IfSome result (λ tick. as_nanos tick ≤ as_nanos timeout) }
+{
+    let shortest = Duration::from_millis(SHORTEST_TICK);
+    if shortest.saturating_mul(4) <= timeout {
+        return None;
+    }
+    Some(timeout.min(shortest))
 }

@@ -24,7 +24,7 @@ invariant_of-self g c =
     let is : more ≡ within last path =
     ap (λ t. with_head (option_map deref_pair c.next_within-self-inside.result)
     (within c.next_within-self-inside.new.entries t)) c.requires.top
-    ∙ (sym c.next_within-self-inside.ensures ∙ ap (λ es. within es path) c.iter-self-inside.ensures.value) in
+    ∙ (sym c.next_within-self-inside.ensures ∙ c.begin-self-inside.ensures.ok) in
     let fewer : c.retain.new.self.entries ≡ filter (λ u. not (is_prefix path u.0)) us =
     filter_same_pairs _ (λ u. not (is_prefix path u.0)) _ (λ k v b w f' t. search rules) us c.retain.new.self.entries
     c.retain.ensures.filtered in
@@ -44,7 +44,7 @@ returns-clause-ok g c =
     let is : more ≡ within last path =
     ap (λ t. with_head (option_map deref_pair c.next_within-self-inside.result)
     (within c.next_within-self-inside.new.entries t)) c.requires.top
-    ∙ (sym c.next_within-self-inside.ensures ∙ ap (λ es. within es path) c.iter-self-inside.ensures.value) in
+    ∙ (sym c.next_within-self-inside.ensures ∙ c.begin-self-inside.ensures.ok) in
     let fewer : c.retain.new.self.entries ≡ filter (λ u. not (is_prefix path u.0)) us =
     filter_same_pairs _ (λ u. not (is_prefix path u.0)) _ (λ k v b w f' t. search rules) us c.retain.new.self.entries
     c.retain.ensures.filtered in

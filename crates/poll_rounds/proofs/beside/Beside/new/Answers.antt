@@ -8,7 +8,7 @@ pub invariant_of-result : goal.invariant_of-result
 invariant_of-result g c =
     let last = c.args.last.now in
     subst (λ us. IsBeside (record { last = last; left = []; updates = us })) (sym c.new.ensures.empty)
-    (begun last c.iter.ensures.law)
+    (begun last c.begin.ensures.law)
 
 pub returns-clause-ok : goal.returns-clause-ok
 returns-clause-ok g c =

@@ -1,6 +1,6 @@
 use Rattle.std.proofs.Common.{◌≡◌, length}
 use Rattle.poll_rounds.specs.Beside.{within}
-use Rattle.poll_rounds.proofs.beside.next_within.Given as goal
+use Rattle.poll_rounds.proofs.later.next_within.Given as goal
 
 abbrev pub decreases-loop-path : goal.decreases-loop-path
 decreases-loop-path g l = length l.entries
