@@ -7,7 +7,7 @@ use std::cmp::Ordering;
 
 /// The byte of a word that `n` bytes come before.
 fn byte_in(word: u64, n: usize) -> u8
-    requires { n + 1 ≤ 8 }
+    requires { n < 8 }
     ensures { result ≡ byte_in word n }
 {
     ((word >> (8 * n)) % 256) as u8

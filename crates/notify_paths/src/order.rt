@@ -163,27 +163,17 @@ fn cmp_components(a: &str, b: &str) -> Ordering
 
 /// The order of the paths that these texts are, whatever is at their first bytes that differ.
 #[inline(never)]
-fn cmp_whole(a: &str, b: &str) -> Ordering
-    requires a { IsNormal a.now }
-    requires b { IsNormal b.now }
-    ensures { result ≡ path_cmp (parts_of a.now) (parts_of b.now) }
-{
-    match order_of_texts(a.as_bytes(), b.as_bytes()) {
-        Some(order) => order,
-        None => cmp_components(a, b),
-    }
-}
-
-/// The order of the paths that these texts are, as the words of short ones tell it.
-#[inline(never)]
 fn cmp_closely(a: &str, b: &str) -> Ordering
     requires a { IsNormal a.now }
     requires b { IsNormal b.now }
     ensures { result ≡ path_cmp (parts_of a.now) (parts_of b.now) }
 {
-    match order_by_short_words(a.as_bytes(), b.as_bytes()) {
+    if let Some(order) = order_by_short_words(a.as_bytes(), b.as_bytes()) {
+        return order;
+    }
+    match order_of_texts(a.as_bytes(), b.as_bytes()) {
         Some(order) => order,
-        None => cmp_whole(a, b),
+        None => cmp_components(a, b),
     }
 }
 
