@@ -46,11 +46,6 @@ IsQueue path events = IsNonempty events × IsKeyed path events × IsBothInFront 
 abbrev pub AreQueues : Queues → Type 0
 AreQueues queues = AllByRecursion (λ e. IsQueue e.0 e.1) queues
 
--- the queues are a map of such queues
-pub record IsQueueMap (queues : Queues) : Type 0 where
-  pub kept : AreQueues queues
-  pub ordered : IsStrictlySortedBy path_cmp (keys_of queues)
-
 -- the queues are a map of such queues, and no more events wait than were taken and not given out
 pub record IsWellFormed (s : State) : Type 0 where
   pub queues : AreQueues s.queues

@@ -332,9 +332,10 @@ impl<T: Drop, C: Drop, R: Threads + Wait + Clock + Drop, A: Allocator + Copy> De
         self.shared.signals.missed.load(Ordering::SeqCst)
     }
 
-    /// Returns how many turns of the debouncer's thread were refused, since an allocation failed or the
-    /// clock couldn't be read. Nothing is lost by one: what was due waits for the next turn. After
-    /// 2^64 - 1 it begins again at 0.
+    /// Returns how many turns of the debouncer's thread were refused, since the clock couldn't be read or
+    /// there was no memory for the batch. Nothing is lost by one: what was due waits for the next turn. A
+    /// turn that only had no memory for the errors' entry in the journal isn't counted; they wait too.
+    /// After 2^64 - 1 it begins again at 0.
     pub fn refused_turns(&self) -> u64 {
         self.shared.signals.refused_turns.load(Ordering::SeqCst)
     }

@@ -101,6 +101,7 @@ fn give_at<A: Allocator + Copy>(
     ensures taken { map.new.entries ≡ trimmed_at due map.old.entries path }
 {
     match map.entry(path) {
+        // Neither of these two: the path has a queue.
         Err(_refused) => {}
         Ok(entry) => match entry {
             Entry::Vacant(_vacant) => {}

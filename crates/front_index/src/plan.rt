@@ -77,8 +77,8 @@ impl<A: Allocator + Copy> DuePlan<A> {
         })
     }
 
-    /// Whether what is due can be moved out of the queues. If not, it is copied: a walk over all queues
-    /// can't do both, change them and move out.
+    /// Whether what is due can be moved out of the queues. If not, it is copied: the checker doesn't know
+    /// of a walk over all queues that it leaves them changed and what it moved out too.
     pub fn moves(&self) -> bool
         ensures { result ≡ moves self.now }
     {

@@ -8,7 +8,8 @@ use notify_types::event::{DebouncedEvent, Event};
 use notify_types::time::Moment;
 use std::alloc::Allocator;
 
-/// A book, or what stands for one: `I` is an event, `E` an error, `B` a batch and `L` a list of errors.
+/// A book as its threads use it, one to feed it and one to tick it; in a test what stands for one. `I` is
+/// an event, `E` an error, `B` a batch and `L` a list of errors.
 ///
 /// The parameters have no bounds, so that the trait can be implemented over any allocator.
 pub trait Gate<I, E, B, L> {
