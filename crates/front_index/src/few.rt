@@ -28,14 +28,13 @@ pub(crate) fn due_paths<A: Allocator + Copy>(
 ) -> Result<Paths<A>, AllocError>
     ensures { IfOk result (λ paths. AreDuePaths due fronts.now paths) }
 {
-    // The proof reads here that the pairs ascend.
-    let _len = fronts.len();
     let mut paths = BTreeSet::new(alloc);
-    for front in fronts {
-        if !due.is_due_at(front.0) {
+    let mut newer = fronts.iter();
+    while let Some(front) = newer.next_back() {
+        if !due.is_due_at(front.time) {
             return Ok(paths);
         }
-        let key = front.1.clone()?;
+        let key = front.path.clone()?;
         paths.insert(key)?;
     }
     Ok(paths)

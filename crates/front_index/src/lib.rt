@@ -1,8 +1,8 @@
 //! The queues of all paths, with an index of them: for each queue the time of its front, with its path,
-//! in the order of the times.
+//! newer ones first.
 //!
 //! [`queues::IndexedQueues`] holds both, and each of its methods leaves the index with just the fronts of
-//! the queues. A tick looks at the first pair of the index, and opens only the queues of the pairs that
+//! the queues. A tick looks at the oldest pair of the index, and opens only the queues of the pairs that
 //! are due; if these are many, it goes over all queues instead of a search for each ([`plan::DuePlan`]).
 //!
 //! ```text
@@ -17,6 +17,7 @@
 mod below;
 mod change;
 mod few;
+mod front;
 mod fronts;
 pub mod plan;
 mod push;

@@ -6,7 +6,7 @@ ghost use Rattle.debounce_model.specs.Queues.{push};
 ghost use Rattle.front_index.specs.Fronts.{IsIndexed};
 
 use crate::fronts::Fronts;
-use crate::put::put;
+use crate::put::put_first;
 use crate::queues::QueueMap;
 use debounce_model::case::first_path;
 use event_queue::queue::Queue;
@@ -38,5 +38,5 @@ pub(crate) fn push<A: Allocator + Copy>(
     let time = event.time();
     let key = path.clone()?;
     let queue = Queue::single(alloc, event)?;
-    put(queues, fronts, spare, alloc, key, time, queue)
+    put_first(queues, fronts, spare, key, time, queue)
 }

@@ -5,6 +5,7 @@ ghost use Rattle.event_queue.specs.Front.{front_time};
 ghost use Rattle.front_index.specs.Fronts.{IsIndexed, has, is_time};
 ghost use Rattle.front_index.specs.Steps.{HasOnly};
 
+use crate::front::Front;
 use crate::fronts::Fronts;
 use crate::queues::QueueMap;
 use event_queue::queue::Queue;
@@ -32,9 +33,16 @@ fn drop_old_front<A: Allocator + Copy>(
     if was == time {
         return;
     }
-    let front = (was, replace(path, PathBuf::empty(alloc)));
+    let front = Front {
+        time: was,
+        path: replace(path, PathBuf::empty(alloc)),
+    };
     fronts.remove(&front);
-    *path = front.1;
+    let Front {
+        time: _,
+        path: back,
+    } = front;
+    *path = back;
 }
 
 /// Puts a queue in the place of what waits at the path, if something does. Its front is of this time.
@@ -55,7 +63,10 @@ pub(crate) fn put<A: Allocator + Copy>(
     ensures indexed { IsIndexed fronts.new map.new.entries }
 {
     spare.copy_from(&path)?;
-    fronts.insert((time, path.clone()?))?;
+    fronts.insert(Front {
+        time,
+        path: path.clone()?,
+    })?;
     match map.insert(path, queue) {
         Ok(None) => Ok(()),
         Ok(Some(old)) => {
@@ -65,7 +76,39 @@ pub(crate) fn put<A: Allocator + Copy>(
         Err(refused) => {
             // Only a path without a queue is refused, so the pair was not there before.
             let (key, _queue) = refused.value;
-            fronts.remove(&(time, key));
+            fronts.remove(&Front { time, path: key });
+            Err(AllocError)
+        }
+    }
+}
+
+/// Puts a queue at a path that has none. Its front is of this time. It leaves room in `spare` for the
+/// path. If an allocation fails, nothing has changed.
+pub(crate) fn put_first<A: Allocator + Copy>(
+    map: &mut QueueMap<A>,
+    fronts: &mut Fronts<A>,
+    spare: &mut PathBuf<A>,
+    path: PathBuf<A>,
+    time: Moment,
+    queue: Queue<A>,
+) -> Result<(), AllocError>
+    requires indexed { IsIndexed fronts.old map.old.entries }
+    requires none { queue_at map.old.entries path ≡ None }
+    requires front { front_time queue ≡ Some time }
+    ensures ok { OnOk result (map.new.entries ≡ with_queue map.old.entries path queue) }
+    ensures unchanged { OnErr result (map.new.entries ≡ map.old.entries) }
+    ensures indexed { IsIndexed fronts.new map.new.entries }
+{
+    spare.reserve(&path)?;
+    fronts.insert(Front {
+        time,
+        path: path.clone()?,
+    })?;
+    match map.insert(path, queue) {
+        Ok(_none) => Ok(()),
+        Err(refused) => {
+            let (key, _queue) = refused.value;
+            fronts.remove(&Front { time, path: key });
             Err(AllocError)
         }
     }

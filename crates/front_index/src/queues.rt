@@ -13,7 +13,7 @@ ghost use Rattle.front_index.specs.Plan.{IsLent, IsPlan, moves};
 ghost use Rattle.front_index.specs.Steps.{AreFilled};
 
 use crate::below::{drop_below, remove};
-use crate::fronts::{Fronts, is_first_due};
+use crate::fronts::{Fronts, is_oldest_due};
 use crate::plan::DuePlan;
 use crate::push::push;
 use crate::put::put;
@@ -181,7 +181,7 @@ impl<A: Allocator + Copy> IndexedQueues<A> {
     {
         // The proof reads here that the paths ascend.
         let _len = self.map.len();
-        is_first_due(&self.fronts, due)
+        is_oldest_due(&self.fronts, due)
     }
 
     /// Returns how a tick comes to the queues that are due. The plan is for the queues as they are now.

@@ -5,6 +5,7 @@ ghost use Rattle.notify_paths.specs.Path.{PathValue};
 ghost use Rattle.front_index.specs.Fronts.{has, is_front};
 ghost use Rattle.front_index.specs.Steps.{DifferAt, IsKept, IsSame, IsSettled, IsSettledPair, IsWith, IsWithPair, front_pair, pair_of};
 
+use crate::front::Front;
 use crate::fronts::{Fronts, front_of, is_front};
 use crate::queues::QueueMap;
 use notify_paths::path::PathBuf;
@@ -12,7 +13,7 @@ use notify_types::time::Moment;
 use std::alloc::{AllocError, Allocator};
 
 /// Pairs of a time and a path.
-pub(crate) type Pairs<A> = Vec<(Moment, PathBuf<A>), A>;
+pub(crate) type Pairs<A> = Vec<Front<A>, A>;
 
 /// Adds the pair of this time, if there is one, and a copy of the path.
 pub(crate) fn add_pair<A: Allocator + Copy>(
@@ -23,7 +24,10 @@ pub(crate) fn add_pair<A: Allocator + Copy>(
     ensures { OnOk result (pairs.new.items ≡ pairs.old.items ++ pair_of time path.now) }
 {
     if let Some(time) = time {
-        pairs.push((time, path.clone()?))?;
+        pairs.push(Front {
+            time,
+            path: path.clone()?,
+        })?;
     }
     Ok(())
 }
@@ -43,7 +47,7 @@ pub(crate) fn add_front_at<A: Allocator + Copy>(
 /// Puts a copy of the pair into the index, unless it is there.
 fn insert_copy<A: Allocator + Copy>(
     fronts: &mut Fronts<A>,
-    pair: &(Moment, PathBuf<A>),
+    pair: &Front<A>,
 ) -> Result<(), AllocError>
     ensures ok { OnOk result (IsWithPair pair.now fronts.old fronts.new) }
     ensures unchanged { OnErr result (IsSame fronts.old fronts.new) }
@@ -51,7 +55,10 @@ fn insert_copy<A: Allocator + Copy>(
     if fronts.contains(pair) {
         return Ok(());
     }
-    fronts.insert((pair.0, pair.1.clone()?))?;
+    fronts.insert(Front {
+        time: pair.time,
+        path: pair.path.clone()?,
+    })?;
     Ok(())
 }
 
@@ -72,7 +79,7 @@ pub(crate) fn insert_pairs<A: Allocator + Copy>(
 /// Puts copies of these pairs into the index. If an allocation fails, it may have some of them.
 pub(crate) fn insert_copies<A: Allocator + Copy>(
     fronts: &mut Fronts<A>,
-    pairs: &[(Moment, PathBuf<A>)],
+    pairs: &[Front<A>],
 ) -> Result<(), AllocError>
     ensures ok { OnOk result (IsWith pairs.now fronts.old fronts.new) }
     ensures kept { IsKept fronts.old fronts.new }
@@ -85,20 +92,16 @@ pub(crate) fn insert_copies<A: Allocator + Copy>(
 }
 
 /// Takes the pair out of the index, unless it is a front.
-fn settle_one<A: Allocator>(map: &QueueMap<A>, fronts: &mut Fronts<A>, pair: &(Moment, PathBuf<A>))
+fn settle_one<A: Allocator>(map: &QueueMap<A>, fronts: &mut Fronts<A>, pair: &Front<A>)
     ensures { IsSettledPair map.now.entries pair.now fronts.old fronts.new }
 {
-    if !is_front(map, &pair.1, pair.0) {
+    if !is_front(map, &pair.path, pair.time) {
         fronts.remove(pair);
     }
 }
 
 /// Takes these pairs out of the index, but for those that are fronts.
-pub(crate) fn settle<A: Allocator>(
-    map: &QueueMap<A>,
-    fronts: &mut Fronts<A>,
-    pairs: &[(Moment, PathBuf<A>)],
-)
+pub(crate) fn settle<A: Allocator>(map: &QueueMap<A>, fronts: &mut Fronts<A>, pairs: &[Front<A>])
     ensures { IsSettled map.now.entries pairs.now fronts.old fronts.new }
 {
     for pair in pairs {
@@ -112,5 +115,5 @@ pub(crate) fn tidy<A: Allocator>(map: &QueueMap<A>, fronts: &mut Fronts<A>)
         has fronts.old t p ≡ true }
     ensures { (t : ℕ) (p : PathValue) → has fronts.new t p ≡ is_front map.now.entries t p }
 {
-    fronts.retain(|front| is_front(map, &front.1, front.0));
+    fronts.retain(|front| is_front(map, &front.path, front.time));
 }

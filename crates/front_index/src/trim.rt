@@ -6,6 +6,7 @@ ghost use Rattle.front_index.specs.Fronts.{IsIndexed};
 ghost use Rattle.front_index.specs.Steps.{HasLater, IsKept, IsWith, IsWithLater, later_pair, pair_of};
 
 use crate::change::{Change, change_values};
+use crate::front::Front;
 use crate::fronts::Fronts;
 use crate::queues::QueueMap;
 use crate::settle::tidy;
@@ -26,7 +27,10 @@ fn insert_front<A: Allocator + Copy>(
     ensures kept { IsKept fronts.old fronts.new }
 {
     if let Some(time) = time {
-        fronts.insert((time, path.clone()?))?;
+        fronts.insert(Front {
+            time,
+            path: path.clone()?,
+        })?;
     }
     Ok(())
 }
@@ -104,7 +108,7 @@ fn trim_all<A: Allocator>(map: &mut QueueMap<A>, fronts: &mut Fronts<A>, due: Du
 {
     let count = count_due(map, due);
     change_values(map, &DueTrim { due });
-    fronts.retain(|front| !due.is_due_at(front.0));
+    fronts.retain(|front| !due.is_due_at(front.time));
     count
 }
 

@@ -38,11 +38,14 @@ returns-in-Some-clause-indexed g c =
     (sym c.in-Some.ensures.value) (c.get_mut.follows.holds c.append.new.self).0 c.append.ensures.ok
     c.append.ensures.unchanged
 
-pub put-requires : goal.put-requires
-put-requires g c =
-    let kept : c.get_mut.follows.lender-at-none.entries ≡ c.args.queues.now.entries = search rules in
+pub put_first-requires : goal.put_first-requires
+put_first-requires g c =
+    let queues = c.args.queues.now.entries in
+    let kept : c.get_mut.follows.lender-at-none.entries ≡ queues = search rules in
+    let none : queue_at queues c.first_path-path.result.now ≡ None = search rules in
     record {
       indexed = rw kept c.requires.indexed;
+      none = rw (kept, c.in_ok-key.ensures.cases) none;
       front = rw (c.in_ok-queue.ensures, c.time-time.ensures) refl;
     }
 
@@ -53,25 +56,25 @@ returns-clause-ok g c =
     let path = c.first_path-path.result.now in
     let none : queue_at queues path ≡ None = search rules in
     let kept : c.get_mut.follows.lender-at-none.entries ≡ queues = search rules in
-    on_ok_weaker c.put.result
+    on_ok_weaker c.put_first.result
     (λ e. e
     ∙ ap (λ q. with_queue q c.in_ok-key.key c.in_ok-queue.queue) kept
     ∙ ap (λ k. with_queue queues k c.in_ok-queue.queue) c.in_ok-key.ensures.cases
     ∙ ap (λ q. with_queue queues path q) c.in_ok-queue.ensures
     ∙ push-new queues path x none
     ∙ ap (λ p. push queues p x) c.first_path-path.ensures)
-    c.put.ensures.ok
+    c.put_first.ensures.ok
 
 pub returns-clause-unchanged : goal.returns-clause-unchanged
 returns-clause-unchanged g c =
     let kept : c.get_mut.follows.lender-at-none.entries ≡ c.args.queues.now.entries = search rules in
-    on_err_weaker c.put.result (λ e. e ∙ kept) c.put.ensures.unchanged
+    on_err_weaker c.put_first.result (λ e. e ∙ kept) c.put_first.ensures.unchanged
 
 pub returns-clause-sure : goal.returns-clause-sure
 returns-clause-sure g c =
     let queues = c.args.queues.now.entries in
     let x = c.args.event in
     let none : queue_at queues c.first_path-path.result.now ≡ None = search rules in
-    on_err_weaker c.put.result
+    on_err_weaker c.put_first.result
     (λ e. ap (λ o. skips_at o x.event.kind) (ap (queue_at queues) (sym c.first_path-path.ensures)
-    ∙ none)) c.put.ensures.unchanged
+    ∙ none)) c.put_first.ensures.unchanged
