@@ -32,7 +32,7 @@ timeout-event s event now exists answer = by (case_of event exists)
     by Ignored = refl
 
 -- an accepted command keeps the timeout
-timeout-accepts : (s t : State) (c : CommandValue) (y : ReplyValue) → Accepts s c y t → t.timeout ≡ s.timeout
+pub timeout-accepts : (s t : State) (c : CommandValue) (y : ReplyValue) → Accepts s c y t → t.timeout ≡ s.timeout
 timeout-accepts s t (EventCommand event now exists) (TakenReply answer) h = ap (λ (k : State). k.timeout) h.1
     ∙ timeout-event s event now exists answer
 timeout-accepts s t (ErrorCommand error) NotedReply h = ap (λ (k : State). k.timeout) h

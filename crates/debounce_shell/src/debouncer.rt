@@ -1,22 +1,27 @@
 //! Debouncers that run: made, asked and stopped.
-ghost use Rattle.std.specs.Prelude.{◌≡◌, ◌↔◌, ◌⊎◌, None, IfErr, IfOk, IfSome, IsErrOf};
+ghost use Rattle.std.specs.Prelude.{◌≡◌, ◌↔◌, ◌⊎◌, ◌++◌, ◌∷◌, [], true, false, None, IfErr, IfOk, IfSome, IsErrOf, OnOk};
 ghost use Rattle.std.specs.Duration.{as_nanos};
 ghost use Rattle.notify_paths.specs.Errors.{out_of_memory};
 ghost use Rattle.notify_watch.specs.Config.{not_started};
+ghost use Rattle.debounce_model.specs.Command.{RootCommand, UnrootCommand, RootedReply, UnrootedReply};
 ghost use Rattle.debounce_model.specs.State.{State};
 ghost use Rattle.debounce_model.specs.Tick.{IsOutlook};
 ghost use Rattle.debounce_book.specs.Journal.{IsJournal, IsLegal, IsPart};
 ghost use Rattle.debounce_book.specs.JournalLaws.{LosesNoChange, GivesRawPaths, InventsNoRename};
+ghost use Rattle.told_lock.specs.History.{Begins, picked};
+ghost use Rattle.debounce_shell.specs.Adds.{Adds};
+ghost use Rattle.debounce_shell.specs.Happened.{Opened, accepted, entries_of, is_emitting, journal_of};
+ghost use Rattle.debounce_shell.specs.Stands.{GivesJournal, IsLeft, IsStarted, RunsOn};
 ghost use Rattle.debounce_shell.specs.Start.{IsIo, IsStartError, IsStopped, IsTooSlow, too_slow, tick_nanos};
 ghost use Rattle.debounce_shell.specs.Watched.{AsksFirst, ListsFirst};
 
+use crate::access::Access;
 use crate::clock::start_of;
-use crate::feed::Feed;
-use crate::locked::Shared;
-use crate::worker::{Pace, work};
+use crate::feed::{Feed, Receipt};
+use crate::shared::Shared;
+use crate::worker::{Pace, Worker, start_worker};
 use debounce_book::book::Book;
 use debounce_book::entry::Entry;
-use debounce_book::steps::{root_step, unroot_step};
 use file_id_cache::cache::FileIdCache;
 use notify_paths::error::{Error, ErrorKind};
 use notify_paths::path::PathBuf;
@@ -27,11 +32,11 @@ use notify_watch::handler::{DebounceEventHandler, DebounceEventResult};
 use notify_watch::watcher::{ListingWatcher, Watcher, start_task};
 use std::alloc::{Allocator, Global};
 use std::fs::Files;
+use std::marker::Model;
 use std::sync::atomic::Ordering;
-use std::sync::{Arc, Wait};
-use std::thread::{JoinHandle, Threads};
+use std::sync::{Mutex, Wait};
+use std::thread::Threads;
 use std::time::{Clock, Duration, Instant};
-use std::{io, thread};
 
 /// A debouncer that runs: a watcher of type `T` feeds it, and a thread of its own calls the handler.
 /// `C` is the cache of file numbers, and `R` the runtime.
@@ -40,7 +45,30 @@ use std::{io, thread};
 pub struct Debouncer<T: Drop, C: Drop, R: Threads + Wait + Drop, A: Allocator = Global> {
     watcher: T,
     shared: Shared<C, R, A>,
-    worker: JoinHandle<()>,
+    /// For who asks without a `&mut`.
+    spare: Mutex<Access<C, A>>,
+    worker: Worker<C, A>,
+    /// The moment from which it counts.
+    start: Instant,
+}
+
+impl<T: Drop, C: Drop, R: Threads + Wait + Drop, A: Allocator> Model for Debouncer<T, C, R, A> {
+    ghost use Rattle.std.specs.Prelude.{◌≡◌, true};
+    ghost use Rattle.debounce_shell.specs.Happened.{entries_of, is_nil};
+    ghost use Rattle.debounce_shell.specs.Stands.{Running};
+
+    ghost Value = { Running T };
+
+    ghost view = { λ d. record {
+      watcher = d.watcher;
+      lock = d.shared.owner.lock;
+      seen = d.shared.owner.seen;
+      parts = entries_of d.shared.owner.out;
+      is_whole = is_nil d.shared.owner.out;
+    } };
+
+    ghost invariant = { λ d. (d.shared.owner.keeps ≡ true)
+        × (d.worker.promise.access.value.lock ≡ d.shared.owner.lock) };
 }
 
 impl<T: Drop, C: Drop, R: Threads + Wait + Drop, A: Allocator> Drop for Debouncer<T, C, R, A> {
@@ -49,7 +77,9 @@ impl<T: Drop, C: Drop, R: Threads + Wait + Drop, A: Allocator> Drop for Debounce
         let Self {
             watcher: _,
             shared: _,
+            spare: _,
             worker: _,
+            start: _,
         } = self;
     }
 }
@@ -83,6 +113,7 @@ pub fn new_debouncer_opt<
     requires ready { F.ready event_handler }
     requires takes { (feed : _) → T.takes feed }
     ensures rate { IsTooSlow timeout tick_rate → IsErrOf result too_slow }
+    ensures opened { IfOk result (λ d. IsStarted d (as_nanos timeout) false) }
     ensures err { IfErr result (IsStartError T.refuses timeout tick_rate) }
 {
     let Some(tick) = tick_of(timeout, tick_rate) else {
@@ -113,6 +144,7 @@ pub fn new_journaled_debouncer<
     requires ready { F.ready event_handler }
     requires takes { (feed : _) → T.takes feed }
     ensures rate { IsTooSlow timeout tick_rate → IsErrOf result too_slow }
+    ensures opened { IfOk result (λ d. IsStarted d (as_nanos timeout) true) }
     ensures err { IfErr result (IsStartError T.refuses timeout tick_rate) }
 {
     let Some(tick) = tick_of(timeout, tick_rate) else {
@@ -145,21 +177,32 @@ fn start<
     R: Threads + Wait + Clock + Files + Copy + Send + Sync + 'static,
     A: Allocator + Copy + Send + Sync + 'static,
 >(
-    shared: Shared<C, R, A>,
+    mut shared: Shared<C, R, A>,
     tick: Duration,
     handler: F,
     config: Config,
 ) -> Result<Debouncer<T, C, R, A>, Error<A>>
     requires ready { F.ready handler }
     requires takes { (feed : _) → T.takes feed }
-    ensures { IfErr result (IsStopped T.refuses) }
+    requires rights { (shared.owner.keeps ≡ true) × (shared.owner.tells ≡ true) }
+    requires fresh { (picked is_emitting shared.owner.seen ≡ []) × (shared.owner.out ≡ []) }
+    ensures opened { IfOk result (λ d.
+        (d.seen ≡ shared.owner.seen) × (d.parts ≡ []) × (d.is_whole ≡ true)) }
+    ensures err { IfErr result (IsStopped T.refuses) }
 {
-    let (feed, worker) = start_fed(&shared, tick, handler)?;
+    let Fed {
+        feed,
+        spare,
+        worker,
+        start,
+    } = start_fed(&mut shared, tick, handler)?;
     match start_watcher(shared.rt, shared.alloc, feed, config) {
         Ok(watcher) => Ok(Debouncer {
             watcher,
             shared,
+            spare: Mutex::new(spare),
             worker,
+            start,
         }),
         Err(error) => {
             shared.set_stop();
@@ -168,47 +211,41 @@ fn start<
     }
 }
 
+/// A debouncer but for its watcher.
+struct Fed<C: Drop, R: Wait + Drop, A: Allocator> {
+    feed: Feed<C, R, A>,
+    spare: Access<C, A>,
+    worker: Worker<C, A>,
+    start: Instant,
+}
+
 /// Starts the worker, and makes the feed, which counts from the same start.
 fn start_fed<
     F: DebounceEventHandler<DebounceEventResult<A>>,
     C: FileIdCache<A> + Drop + Send + 'static,
     R: Threads + Wait + Clock + Copy + Send + Sync + 'static,
     A: Allocator + Copy + Send + Sync + 'static,
->(
-    shared: &Shared<C, R, A>,
-    tick: Duration,
-    handler: F,
-) -> Result<(Feed<C, R, A>, JoinHandle<()>), Error<A>>
-    requires { F.ready handler }
-    ensures { IfErr result (λ e. (e ≡ out_of_memory) ⊎ IsIo e) }
+>(shared: &mut Shared<C, R, A>, tick: Duration, handler: F) -> Result<Fed<C, R, A>, Error<A>>
+    requires ready { F.ready handler }
+    requires tells { shared.old.owner.tells ≡ true }
+    requires fresh { picked is_emitting shared.old.owner.seen ≡ [] }
+    ensures same { (shared.new.owner.lock ≡ shared.old.owner.lock)
+        × (shared.new.owner.seen ≡ shared.old.owner.seen)
+        × (shared.new.owner.out ≡ shared.old.owner.out)
+        × (shared.new.owner.keeps ≡ shared.old.owner.keeps) }
+    ensures ok { IfOk result (λ f. f.worker.promise.access.value.lock ≡ shared.old.owner.lock) }
+    ensures err { IfErr result (λ e. (e ≡ out_of_memory) ⊎ IsIo e) }
 {
     let start = start_of(&shared.rt, shared.alloc)?;
     let feed = Feed::new(shared, start)?;
+    let spare = shared.another()?;
     let worker = start_worker(shared, handler, Pace { start, tick })?;
-    Ok((feed, worker))
-}
-
-/// Starts the debouncer's own thread.
-fn start_worker<
-    F: DebounceEventHandler<DebounceEventResult<A>>,
-    C: FileIdCache<A> + Drop + Send + 'static,
-    R: Threads + Wait + Clock + Copy + Send + Sync + 'static,
-    A: Allocator + Copy + Send + Sync + 'static,
->(shared: &Shared<C, R, A>, handler: F, pace: Pace) -> Result<JoinHandle<()>, Error<A>>
-    requires { F.ready handler }
-    ensures { IfErr result (λ e. (e ≡ out_of_memory) ⊎ (e ≡ not_started)) }
-{
-    let gate = shared.gate()?;
-    let signals = shared.signals()?;
-    let rt = shared.rt;
-    let alloc = shared.alloc;
-    let run = move ||
-        requires { F.ready handler }
-    { work(&rt, alloc, gate, handler, &signals, pace) };
-    match thread::spawn(&rt, run) {
-        Ok(worker) => Ok(worker),
-        Err(_) => Err(Error::new(alloc, ErrorKind::Io(io::ErrorKind::Other))),
-    }
+    Ok(Fed {
+        feed,
+        spare,
+        worker,
+        start,
+    })
 }
 
 /// Makes the watcher and starts its thread.
@@ -238,12 +275,14 @@ impl<
     /// If the memory for the root is refused then, the watcher goes on watching until `unwatch`, and
     /// the path is no root.
     pub fn watch(&mut self, path: &PathBuf<A>, mode: RecursiveMode) -> Result<(), Error<A>>
-        ensures { AsksFirst (λ answer.
+        ensures asked { AsksFirst (λ answer.
             T.watches self.old.watcher path.now mode answer self.new.watcher) result }
+        ensures seen { RunsOn self.old self.new }
+        ensures ok { OnOk result
+            (Adds self.old.seen (accepted (RootCommand path.now mode) RootedReply) self.new.seen) }
     {
         self.watcher.watch(path, mode)?;
-        let mut book = self.shared.book.lock(&self.shared.rt);
-        root_step(&mut book, path, mode)
+        self.shared.owner.root(&self.shared.rt, path, mode)
     }
 
     /// Watches a path no longer. The debouncer forgets the roots below it too; whether the watcher does
@@ -252,26 +291,32 @@ impl<
     /// The watcher comes first: if it refuses, its error is passed on, and the roots are as they were.
     /// They are also as they were if memory is refused then; `remove_root` does what is left to do.
     pub fn unwatch(&mut self, path: &PathBuf<A>) -> Result<(), Error<A>>
-        ensures { AsksFirst (λ answer.
+        ensures asked { AsksFirst (λ answer.
             T.unwatches self.old.watcher path.now answer self.new.watcher) result }
+        ensures seen { RunsOn self.old self.new }
+        ensures ok { OnOk result
+            (Adds self.old.seen (accepted (UnrootCommand path.now) UnrootedReply) self.new.seen) }
     {
         self.watcher.unwatch(path)?;
-        let mut book = self.shared.book.lock(&self.shared.rt);
-        unroot_step(&mut book, path)
+        self.shared.owner.unroot(&self.shared.rt, path)
     }
 
     /// Drops a root, and the roots below it, and leaves the watcher as it is: what is left to do of an
     /// `unwatch` that was refused as `Memory` after the watcher had agreed. It can be tried again.
     pub fn remove_root(&mut self, path: &PathBuf<A>) -> Result<(), Error<A>>
+        ensures seen { RunsOn self.old self.new }
+        ensures watcher { self.new.watcher ≡ self.old.watcher }
+        ensures ok { OnOk result
+            (Adds self.old.seen (accepted (UnrootCommand path.now) UnrootedReply) self.new.seen) }
         ensures err { IfErr result (λ e. e ≡ out_of_memory) }
     {
-        let mut book = self.shared.book.lock(&self.shared.rt);
-        unroot_step(&mut book, path)
+        self.shared.owner.unroot(&self.shared.rt, path)
     }
 
     /// Changes how the watcher works, and answers what it answers.
     pub fn configure(&mut self, config: Config) -> Result<bool, Error<A>>
-        ensures { T.configures self.old.watcher config result self.new.watcher }
+        ensures asked { T.configures self.old.watcher config result self.new.watcher }
+        ensures unchanged { self.new ≡ record self.old { watcher = self.new.watcher } }
     {
         self.watcher.configure(config)
     }
@@ -295,6 +340,7 @@ impl<
     ///
     /// It waits until each [`Feed`] was dropped: for ever, if a watcher keeps one after its own drop.
     pub fn finish(self) -> (Book<C, A>, u64)
+        ensures left { IsLeft self.seen self.parts result.0 result.1 }
         ensures legal { IfSome result.0.journal (λ es. IsLegal es result.0.core.state) }
         ensures part { IfSome result.0.part (λ es. IsPart es result.0.core.state) }
     {
@@ -302,21 +348,24 @@ impl<
         let Self {
             mut watcher,
             shared,
+            spare,
             worker,
+            start: _,
         } = self;
         watcher.look_last();
         drop(watcher);
-        worker.join(&shared.rt);
+        drop(spare);
+        let teller = worker.join(&shared.rt);
         let Shared {
             rt,
             alloc: _,
-            book,
-            signals,
+            owner,
+            signals: _,
         } = shared;
-        let book = wait_for_last(&rt, book).into_inner();
+        let (book, missed) = owner.close(&rt, teller);
         // The proof reads here that the journal is legal, or the part of it.
         let _ = book.is_journaled();
-        (book, signals.missed.load(Ordering::SeqCst))
+        (book, missed)
     }
 }
 
@@ -353,8 +402,8 @@ impl<T: Drop, C: Drop, R: Threads + Wait + Clock + Drop, A: Allocator + Copy> De
         ensures outlook { IfOk result (λ batch. (s : State) × IsOutlook s batch.items) }
         ensures err { IfErr result (λ e. e ≡ out_of_memory) }
     {
-        let book = self.shared.book.lock(&self.shared.rt);
-        book.outlook()
+        let mut spare = self.spare.lock(&self.shared.rt);
+        spare.outlook(&self.shared.rt)
     }
 
     /// Takes out the entries of the journal so far, while the debouncer runs: all of them, or those since
@@ -363,11 +412,40 @@ impl<T: Drop, C: Drop, R: Threads + Wait + Clock + Drop, A: Allocator + Copy> De
     /// From then on the journal is kept in parts, and `stop_journal` answers as without one. Each part
     /// goes on from the state to which the one before it led, so the parts in a row are the journal. The
     /// last one comes by `finish`, and `take_journal` of its book.
-    pub fn take_journal(&self) -> Vec<Entry<A>, A>
-        ensures { (s : State) × IsPart result.items s }
+    pub fn take_journal(&mut self) -> Vec<Entry<A>, A>
+        ensures unchanged { (self.new.watcher ≡ self.old.watcher)
+            × (self.new.lock ≡ self.old.lock) }
+        ensures parts { self.new.parts ≡ self.old.parts ++ result.items }
+        ensures seen { Begins self.old.seen self.new.seen
+            × (self.new.parts ≡ journal_of self.new.seen) }
+        ensures legal { (s : State) × IsLegal (entries_of self.new.seen) s }
+        ensures part { (s : State) × IsPart result.items s }
     {
-        let mut book = self.shared.book.lock(&self.shared.rt);
-        book.take_journal()
+        self.shared.owner.take_journal(&self.shared.rt)
+    }
+
+    /// Returns another feed of this debouncer, for who reports by hand what its watcher doesn't. As long as it
+    /// isn't dropped, `finish` waits.
+    pub fn feed(&mut self) -> Result<Feed<C, R, A>, Error<A>>
+    where
+        R: Copy,
+        ensures unchanged { self.new ≡ self.old }
+        ensures ok { IfOk result (λ f. (f.lock ≡ self.old.lock) × (f.seen ≡ self.old.seen)) }
+        ensures err { IfErr result (λ e. e ≡ out_of_memory) }
+    {
+        Feed::new(&mut self.shared, self.start)
+    }
+
+    /// Looks at the history up to now. What a receipt shows is in it.
+    pub fn catch_up(&mut self, receipt: Receipt<C, A>)
+        requires { receipt.lock ≡ self.old.lock }
+        ensures watcher { self.new.watcher ≡ self.old.watcher }
+        ensures seen { RunsOn self.old self.new }
+        ensures shown { Begins receipt.seen self.new.seen }
+    {
+        self.shared
+            .owner
+            .catch_up(&self.shared.rt, receipt.into_key());
     }
 
     /// Stops the watcher and the debouncer's thread, and waits until that thread has ended. A turn that
@@ -379,7 +457,9 @@ impl<T: Drop, C: Drop, R: Threads + Wait + Clock + Drop, A: Allocator + Copy> De
         let Self {
             watcher: _,
             shared,
+            spare: _,
             worker,
+            start: _,
         } = self;
         worker.join(&shared.rt);
     }
@@ -394,6 +474,8 @@ impl<T: Drop, C: Drop, R: Threads + Wait + Clock + Drop, A: Allocator + Copy> De
     /// none is kept, or a part of it was taken out. If memory for a copy of the journal is refused, the
     /// thread has ended too.
     pub fn stop_journal(self) -> Result<(Moment, Vec<Entry<A>, A>), Error<A>>
+        ensures left { self.is_whole ≡ true →
+            IfOk result (λ r. GivesJournal self.seen r.0 r.1.items) }
         ensures legal { IfOk result (λ r. IsJournal r.0 r.1.items) }
         ensures kept { IfOk result (λ r. LosesNoChange r.0 r.1.items) }
         ensures raw { IfOk result (λ r. GivesRawPaths r.0 r.1.items) }
@@ -403,12 +485,13 @@ impl<T: Drop, C: Drop, R: Threads + Wait + Clock + Drop, A: Allocator + Copy> De
         self.shared.set_stop();
         let Self {
             watcher: _,
-            shared,
+            mut shared,
+            spare: _,
             worker,
+            start: _,
         } = self;
         worker.join(&shared.rt);
-        let book = shared.book.lock(&shared.rt);
-        book.journal()
+        shared.owner.journal(&shared.rt)
     }
 }
 
@@ -432,25 +515,14 @@ impl<
         path: &PathBuf<A>,
         mode: RecursiveMode,
     ) -> Result<T::Listing, Error<A>>
-        ensures { ListsFirst (λ answer.
+        ensures asked { ListsFirst (λ answer.
             T.lists self.old.watcher path.now mode answer self.new.watcher) result }
+        ensures seen { RunsOn self.old self.new }
+        ensures ok { OnOk result
+            (Adds self.old.seen (accepted (RootCommand path.now mode) RootedReply) self.new.seen) }
     {
         let listing = self.watcher.watch_listed(path, mode)?;
-        let mut book = self.shared.book.lock(&self.shared.rt);
-        root_step(&mut book, path, mode)?;
+        self.shared.owner.root(&self.shared.rt, path, mode)?;
         Ok(listing)
     }
-}
-
-/// Waits until all others have dropped the value, and returns it.
-fn wait_for_last<T, R: Wait + Clock, A: Allocator>(rt: &R, shared: Arc<T, A>) -> T {
-    let mut shared = shared;
-    for _ in rt.forever() {
-        match Arc::try_unwrap(shared) {
-            Ok(value) => return value,
-            Err(back) => shared = back,
-        }
-        thread::sleep(rt, Duration::from_millis(1));
-    }
-    unreachable!()
 }

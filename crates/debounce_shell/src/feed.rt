@@ -1,42 +1,90 @@
 //! What a watcher reports to.
-ghost use Rattle.std.specs.Prelude.{◌≡◌, IfErr};
+ghost use Rattle.std.specs.Prelude.{◌≡◌, ℕ, Bool, [], IfErr, IfOk, OnErr, OnOk};
 ghost use Rattle.notify_paths.specs.Errors.{out_of_memory};
+ghost use Rattle.told_lock.specs.History.{Begins};
+ghost use Rattle.debounce_shell.specs.Adds.{AddsFed, AddsItem};
+ghost use Rattle.debounce_shell.specs.Stands.{seen_by};
 
+use crate::access::Access;
 use crate::clock::now;
-use crate::locked::{Locked, Shared, Signals};
+use crate::locked::Key;
+use crate::shared::{Shared, Signals};
 use file_id_cache::cache::FileIdCache;
 use notify_paths::error::Error;
 use notify_types::event::Event;
 use notify_types::kind::{EventKind, ModifyKind, RenameMode};
-use notify_watch::gate::feed_one;
 use notify_watch::handler::EventHandler;
 use std::alloc::{Allocator, Global};
 use std::fs::Files;
+use std::marker::Model;
 use std::sync::atomic::Ordering;
 use std::sync::{Arc, Wait};
 use std::time::{Clock, Instant};
 
-/// The handler that a debouncer gives to its watcher: it feeds events and errors to the book.
+/// The handler that a debouncer gives to its watcher: it feeds events and errors to the book. Clauses
+/// see how much of the book's history it has seen.
 #[derive(Drop)]
 pub struct Feed<C: Drop, R: Wait + Drop, A: Allocator = Global> {
     rt: R,
     alloc: A,
-    gate: Locked<C, R, A>,
+    access: Access<C, A>,
     signals: Arc<Signals, A>,
     start: Instant,
 }
 
+impl<C: Drop, R: Wait + Drop, A: Allocator> Model for Feed<C, R, A> {
+    ghost use Rattle.debounce_shell.specs.Stands.{Known};
+
+    ghost Value = { Known };
+
+    ghost view = { λ f. record { lock = f.access.lock; seen = f.access.seen } };
+}
+
+/// Shows that something was taken. Clauses see the history up to then. It has no bytes.
+#[derive(Drop)]
+pub struct Receipt<C: Drop, A: Allocator = Global> {
+    key: Key<C, A>,
+}
+
+impl<C: Drop, A: Allocator> Model for Receipt<C, A> {
+    ghost use Rattle.std.specs.Prelude.{◌≡◌, []};
+    ghost use Rattle.debounce_shell.specs.Stands.{Known, seen_by};
+
+    ghost Value = { Known };
+
+    ghost view = { λ r. record { lock = r.key.table_id; seen = seen_by r.key } };
+
+    ghost invariant = { λ r. r.key.me.1 ≡ [] };
+}
+
+impl<C: Drop, A: Allocator> Receipt<C, A> {
+    pub(crate) fn into_key(self) -> Key<C, A>
+        ensures lock { result.table_id ≡ self.lock }
+        ensures free { result.me.1 ≡ [] }
+        ensures seen { seen_by result ≡ self.seen }
+    {
+        let Receipt { key } = self;
+        key
+    }
+}
+
 impl<C: Drop, R: Wait + Copy + Drop, A: Allocator + Copy> Feed<C, R, A> {
     /// The feed of a debouncer that counts from this start.
-    pub(crate) fn new(shared: &Shared<C, R, A>, start: Instant) -> Result<Feed<C, R, A>, Error<A>>
-        ensures { IfErr result (λ e. e ≡ out_of_memory) }
+    pub(crate) fn new(
+        shared: &mut Shared<C, R, A>,
+        start: Instant,
+    ) -> Result<Feed<C, R, A>, Error<A>>
+        ensures same { shared.new.owner ≡ shared.old.owner }
+        ensures ok { IfOk result (λ f.
+            (f.lock ≡ shared.old.owner.lock) × (f.seen ≡ shared.old.owner.seen)) }
+        ensures err { IfErr result (λ e. e ≡ out_of_memory) }
     {
-        let gate = shared.gate()?;
+        let access = shared.another()?;
         let signals = shared.signals()?;
         Ok(Feed {
             rt: shared.rt,
             alloc: shared.alloc,
-            gate,
+            access,
             signals,
             start,
         })
@@ -50,27 +98,50 @@ impl<
 > EventHandler<Result<Event<A>, Error<A>>> for Feed<C, R, A> {
     ghost ready = { λ _. Unit {0} };
 
-    ghost handles = { λ _ _ _. Unit {0} };
+    ghost handles = { λ old item new. (new.lock ≡ old.lock) × AddsItem old.seen item new.seen };
 
     /// Feeds an event or an error to the book. One that is refused is counted as missed.
     fn handle_event(&mut self, event: Result<Event<A>, Error<A>>)
         ensures again { Unit {0} }
-        ensures handled { Unit {0} }
+        ensures handled { (self.new.lock ≡ self.old.lock)
+            × AddsItem self.old.seen event self.new.seen }
     {
         if self.feed(event).is_err() {
+            self.access.miss(&self.rt);
             self.signals.missed.fetch_add(1, Ordering::SeqCst);
         }
     }
 }
 
 impl<C: FileIdCache<A> + Drop, R: Clock + Files + Wait + Drop, A: Allocator + Copy> Feed<C, R, A> {
-    fn feed(&mut self, item: Result<Event<A>, Error<A>>) -> Result<(), Error<A>> {
+    /// Feeds an event or an error to the book, at the moment of the call. Then it is in every history that is
+    /// seen later. One that is refused isn't counted as missed: whoever feeds by hand has the error.
+    pub fn feed(&mut self, item: Result<Event<A>, Error<A>>) -> Result<(), Error<A>>
+        ensures lock { self.new.lock ≡ self.old.lock }
+        ensures ok { OnOk result ((now : ℕ) × (exists : Bool)
+            × AddsFed self.old.seen item now exists self.new.seen) }
+        ensures err { OnErr result (Begins self.old.seen self.new.seen) }
+    {
         let exists = match &item {
             Ok(event) => exists(&self.rt, event),
             Err(_) => false,
         };
         let now = now(&self.rt, self.alloc, self.start)?;
-        feed_one(&mut self.gate, item, now, exists)
+        self.access.feed(&self.rt, item, now, exists)
+    }
+}
+
+impl<C: Drop, R: Wait + Drop, A: Allocator> Feed<C, R, A> {
+    /// Shows as much of the history as this feed has seen, to [`Debouncer::catch_up`].
+    ///
+    /// [`Debouncer::catch_up`]: crate::debouncer::Debouncer::catch_up
+    pub fn receipt(&mut self) -> Receipt<C, A>
+        ensures same { self.new ≡ self.old }
+        ensures shown { result ≡ self.old }
+    {
+        Receipt {
+            key: self.access.shown(),
+        }
     }
 }
 

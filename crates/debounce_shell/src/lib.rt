@@ -13,12 +13,15 @@
 //! ```
 #![tactic(auto)]
 
+mod access;
 mod clock;
 pub mod debouncer;
 mod feed;
 mod locked;
+mod made;
 pub mod send_to;
+mod shared;
 mod worker;
 
 pub use clock::now;
-pub use feed::Feed;
+pub use feed::{Feed, Receipt};

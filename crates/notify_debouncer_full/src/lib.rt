@@ -34,7 +34,7 @@ pub use debounce_model::command::{Command, Reply};
 pub use debounce_model::file_id::FileId;
 pub use debounce_shell::debouncer::{Debouncer, new_debouncer_opt, new_journaled_debouncer};
 pub use debounce_shell::send_to::{SendTo, Unsent};
-pub use debounce_shell::{Feed, now};
+pub use debounce_shell::{Feed, Receipt, now};
 pub use debounce_threads::meet::{Meet, NoMeet};
 pub use debounce_threads::run::run_threads;
 pub use event_order::order::sort_events;

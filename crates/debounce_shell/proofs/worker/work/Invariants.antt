@@ -1,7 +1,9 @@
--- The handler may be called again.
+use Rattle.std.proofs.Common.{◌≡◌}
+use Rattle.told_lock.specs.History.{picked}
+use Rattle.debounce_shell.specs.Handed.{Handed}
+use Rattle.debounce_shell.specs.Happened.{is_emitting}
 use Rattle.debounce_shell.proofs.worker.work.Given as goal
 
 abbrev pub invariant-loop : goal.invariant-loop
-invariant-loop g l =
-    (goal.iterator-loop g).can_next l.iterator' × (goal.iterator-loop g).is_finite l.iterator'
-    × g.H.DebounceEventHandler.ready l.handler
+invariant-loop g l = g.H.DebounceEventHandler.ready l.handler × (l.gate.lock ≡ l.fn.gate.lock)
+    × Handed g.H.DebounceEventHandler.handles l.fn.handler (picked is_emitting l.gate.seen) l.handler
