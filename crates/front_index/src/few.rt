@@ -8,8 +8,9 @@ ghost use Rattle.front_index.specs.Fronts.{IsIndexed};
 ghost use Rattle.front_index.specs.Steps.{AreDuePaths, AreLater, ArePathsDue, AreThere, IsUndue, emitted_of, front_after, given_at, pair_of, taken_at, trimmed_at};
 
 use crate::fronts::{Fronts, pop_due};
+use crate::index::Index;
 use crate::queues::QueueMap;
-use crate::settle::{Pairs, add_pair, insert_pairs, tidy};
+use crate::settle::{Pairs, add_pair, insert_pairs};
 use event_queue::due::Due;
 use notify_paths::path::PathBuf;
 use notify_types::event::DebouncedEvent;
@@ -19,26 +20,6 @@ use std::collections::btree_map::Entry;
 
 /// Paths, in their order.
 pub(crate) type Paths<A> = BTreeSet<PathBuf<A>, A>;
-
-/// The paths of the pairs that are due.
-pub(crate) fn due_paths<A: Allocator + Copy>(
-    fronts: &Fronts<A>,
-    alloc: A,
-    due: Due,
-) -> Result<Paths<A>, AllocError>
-    ensures { IfOk result (λ paths. AreDuePaths due fronts.now paths) }
-{
-    let mut paths = BTreeSet::new(alloc);
-    let mut newer = fronts.iter();
-    while let Some(front) = newer.next_back() {
-        if !due.is_due_at(front.time) {
-            return Ok(paths);
-        }
-        let key = front.path.clone()?;
-        paths.insert(key)?;
-    }
-    Ok(paths)
-}
 
 /// Adds references to what is due at the path, and the pair of what stays there.
 fn lend_at<'a, A: Allocator + Copy>(
@@ -141,39 +122,58 @@ fn drop_due<A: Allocator>(fronts: &mut Fronts<A>, due: Due)
     while let Some(_front) = pop_due(fronts, due) {}
 }
 
-/// Moves what is due at these paths to the end of `out`, which has room for it, in their order, and
-/// returns how many queues had something. The later fronts go into the index first, by what alone can
-/// fail; if that is refused, nothing has changed.
-pub(crate) fn take_few<A: Allocator + Copy>(
-    map: &mut QueueMap<A>,
-    fronts: &mut Fronts<A>,
-    paths: Paths<A>,
-    later: Pairs<A>,
-    due: Due,
-    out: &mut Vec<DebouncedEvent<A>, A>,
-) -> Result<usize, AllocError>
-    requires indexed { IsIndexed fronts.old map.old.entries }
-    requires paths { ArePathsDue due map.old.entries paths }
-    requires later { AreLater due map.old.entries later.items }
-    requires room { vec_len out.old + length (place_list (is_due due) map.old.entries)
-        ≤ vec_capacity out.old }
-    ensures moved { OnOk result (out.new.items ≡ out.old.items
-        ++ place_list (is_due due) map.old.entries) }
-    ensures capacity { vec_capacity out.new ≡ vec_capacity out.old }
-    ensures count { IfOk result (λ count. count ≡ due_fronts (is_due due) map.old.entries) }
-    ensures left { OnOk result (map.new.entries ≡ rests (is_due due) map.old.entries) }
-    ensures unchanged { OnErr result (map.new.entries ≡ map.old.entries) }
-    ensures kept { OnErr result (out.new.items ≡ out.old.items) }
-    ensures indexed { IsIndexed fronts.new map.new.entries }
-{
-    // The proof reads here that the paths ascend, in the map and in the set.
-    let _len = map.len();
-    let count = paths.len();
-    if let Err(refused) = insert_pairs(fronts, later) {
-        tidy(map, fronts);
-        return Err(refused);
+impl<A: Allocator + Copy> Index<A> {
+    /// The paths of the pairs that are due.
+    pub(crate) fn due_paths(&self, due: Due) -> Result<Paths<A>, AllocError>
+        ensures { IfOk result (λ paths. AreDuePaths due self.now.fronts paths) }
+    {
+        let mut paths = BTreeSet::new(self.alloc);
+        let mut newer = self.fronts.iter();
+        while let Some(front) = newer.next_back() {
+            if !due.is_due_at(front.time) {
+                return Ok(paths);
+            }
+            let key = front.path.clone()?;
+            paths.insert(key)?;
+        }
+        Ok(paths)
     }
-    give_few(map, paths, due, out);
-    drop_due(fronts, due);
-    Ok(count)
+
+    /// Moves what is due at these paths to the end of `out`, which has room for it, in their order, and
+    /// returns how many queues had something. The later fronts go into the index first, by what alone can
+    /// fail; if that is refused, nothing has changed.
+    pub(crate) fn take_few(
+        &mut self,
+        paths: Paths<A>,
+        later: Pairs<A>,
+        due: Due,
+        out: &mut Vec<DebouncedEvent<A>, A>,
+    ) -> Result<usize, AllocError>
+        requires indexed { IsIndexed self.old.fronts self.old.map.entries }
+        requires paths { ArePathsDue due self.old.map.entries paths }
+        requires later { AreLater due self.old.map.entries later.items }
+        requires room { vec_len out.old + length (place_list (is_due due) self.old.map.entries)
+            ≤ vec_capacity out.old }
+        ensures moved { OnOk result (out.new.items ≡ out.old.items
+            ++ place_list (is_due due) self.old.map.entries) }
+        ensures capacity { vec_capacity out.new ≡ vec_capacity out.old }
+        ensures count { IfOk result (λ count.
+            count ≡ due_fronts (is_due due) self.old.map.entries) }
+        ensures left { OnOk result (self.new.map.entries
+            ≡ rests (is_due due) self.old.map.entries) }
+        ensures unchanged { OnErr result (self.new.map.entries ≡ self.old.map.entries) }
+        ensures kept { OnErr result (out.new.items ≡ out.old.items) }
+        ensures indexed { IsIndexed self.new.fronts self.new.map.entries }
+    {
+        // The proof reads here that the paths ascend, in the map and in the set.
+        let _len = self.map.len();
+        let count = paths.len();
+        if let Err(refused) = insert_pairs(&mut self.fronts, later) {
+            self.tidy();
+            return Err(refused);
+        }
+        give_few(&mut self.map, paths, due, out);
+        drop_due(&mut self.fronts, due);
+        Ok(count)
+    }
 }

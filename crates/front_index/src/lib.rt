@@ -19,6 +19,7 @@ mod change;
 mod few;
 mod front;
 mod fronts;
+mod index;
 pub mod plan;
 mod push;
 mod put;

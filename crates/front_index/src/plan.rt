@@ -6,11 +6,11 @@ ghost use Rattle.event_queue.specs.Due.{is_due};
 ghost use Rattle.front_index.specs.Fronts.{IsIndexed};
 ghost use Rattle.front_index.specs.Plan.{FindsDue, IsLent, IsPlan, moves};
 
-use crate::few::{Paths, due_paths, lend_few, take_few};
-use crate::fronts::Fronts;
+use crate::few::{Paths, lend_few};
+use crate::index::Index;
 use crate::queues::QueueMap;
 use crate::settle::Pairs;
-use crate::whole::{are_many_due, is_all_due, lend_all_places, take_all};
+use crate::whole::{are_many_due, is_all_due, lend_all_places};
 use event_queue::due::Due;
 use notify_types::event::DebouncedEvent;
 use std::alloc::{AllocError, Allocator};
@@ -28,20 +28,17 @@ pub struct DuePlan<A: Allocator> {
     later: Pairs<A>,
 }
 
-/// The paths of the queues that are due, if these are few.
-fn few_paths<A: Allocator + Copy>(
-    map: &QueueMap<A>,
-    fronts: &Fronts<A>,
-    alloc: A,
-    due: Due,
-) -> Result<Option<Paths<A>>, AllocError>
-    requires { IsIndexed fronts.now map.now.entries }
-    ensures { IfOk result (λ paths. FindsDue due map.now.entries paths) }
-{
-    if are_many_due(fronts, due) {
-        return Ok(None);
+impl<A: Allocator + Copy> Index<A> {
+    /// The paths of the queues that are due, if these are few.
+    fn few_paths(&self, due: Due) -> Result<Option<Paths<A>>, AllocError>
+        requires { IsIndexed self.now.fronts self.now.map.entries }
+        ensures { IfOk result (λ paths. FindsDue due self.now.map.entries paths) }
+    {
+        if are_many_due(&self.fronts, due) {
+            return Ok(None);
+        }
+        Ok(Some(self.due_paths(due)?))
     }
-    Ok(Some(due_paths(fronts, alloc, due)?))
 }
 
 impl<A: Allocator> Model for DuePlan<A> {
@@ -54,26 +51,21 @@ impl<A: Allocator> Model for DuePlan<A> {
 
 impl<A: Allocator + Copy> DuePlan<A> {
     /// Returns the plan for these queues.
-    pub(crate) fn new(
-        map: &QueueMap<A>,
-        fronts: &Fronts<A>,
-        alloc: A,
-        due: Due,
-    ) -> Result<DuePlan<A>, AllocError>
-        requires { IsIndexed fronts.now map.now.entries }
-        ensures { IfOk result (λ plan. IsPlan due map.now.entries plan) }
+    pub(crate) fn new(index: &Index<A>, due: Due) -> Result<DuePlan<A>, AllocError>
+        requires { IsIndexed index.now.fronts index.now.map.entries }
+        ensures { IfOk result (λ plan. IsPlan due index.now.map.entries plan) }
     {
-        if is_all_due(map, due) {
+        if is_all_due(&index.map, due) {
             return Ok(DuePlan {
                 is_whole: true,
                 paths: None,
-                later: Vec::new(alloc),
+                later: Vec::new(index.alloc),
             });
         }
         Ok(DuePlan {
             is_whole: false,
-            paths: few_paths(map, fronts, alloc, due)?,
-            later: Vec::new(alloc),
+            paths: index.few_paths(due)?,
+            later: Vec::new(index.alloc),
         })
     }
 
@@ -112,30 +104,30 @@ impl<A: Allocator + Copy> DuePlan<A> {
     /// returns how many queues had something. If an allocation fails, nothing has changed.
     pub(crate) fn take(
         self,
-        map: &mut QueueMap<A>,
-        fronts: &mut Fronts<A>,
-        alloc: A,
+        index: &mut Index<A>,
         due: Due,
         out: &mut Vec<DebouncedEvent<A>, A>,
     ) -> Result<usize, AllocError>
-        requires indexed { IsIndexed fronts.old map.old.entries }
-        requires lent { IsLent due map.old.entries self }
+        requires indexed { IsIndexed index.old.fronts index.old.map.entries }
+        requires lent { IsLent due index.old.map.entries self }
         requires moves { moves self ≡ true }
-        requires room { vec_len out.old + length (place_list (is_due due) map.old.entries)
+        requires room { vec_len out.old + length (place_list (is_due due) index.old.map.entries)
             ≤ vec_capacity out.old }
         ensures moved { OnOk result (out.new.items ≡ out.old.items
-            ++ place_list (is_due due) map.old.entries) }
+            ++ place_list (is_due due) index.old.map.entries) }
         ensures capacity { vec_capacity out.new ≡ vec_capacity out.old }
-        ensures count { IfOk result (λ count. count ≡ due_fronts (is_due due) map.old.entries) }
-        ensures left { OnOk result (map.new.entries ≡ rests (is_due due) map.old.entries) }
-        ensures unchanged { OnErr result (map.new.entries ≡ map.old.entries) }
+        ensures count { IfOk result (λ count.
+            count ≡ due_fronts (is_due due) index.old.map.entries) }
+        ensures left { OnOk result (index.new.map.entries
+            ≡ rests (is_due due) index.old.map.entries) }
+        ensures unchanged { OnErr result (index.new.map.entries ≡ index.old.map.entries) }
         ensures kept { OnErr result (out.new.items ≡ out.old.items) }
-        ensures indexed { IsIndexed fronts.new map.new.entries }
+        ensures indexed { IsIndexed index.new.fronts index.new.map.entries }
     {
         let DuePlan { paths, later, .. } = self;
         match paths {
-            None => Ok(take_all(map, fronts, alloc, due, out)),
-            Some(paths) => take_few(map, fronts, paths, later, due, out),
+            None => Ok(index.take_all(due, out)),
+            Some(paths) => index.take_few(paths, later, due, out),
         }
     }
 }

@@ -5,10 +5,11 @@ ghost use Rattle.debounce_model.specs.Moved.{with_queues};
 ghost use Rattle.front_index.specs.Fronts.{IsIndexed};
 ghost use Rattle.front_index.specs.Steps.{AreFilled, DifferAt, IsKept, IsWith, put_pairs, put_pairs_at};
 
-use crate::fronts::Fronts;
+use crate::front::Front;
+use crate::index::Index;
 use crate::queues::{Placed, QueueMap};
-use crate::room::{make_room, set_all};
-use crate::settle::{Pairs, add_front_at, add_pair, insert_copies, settle};
+use crate::room::set_all;
+use crate::settle::{Pairs, add_front_at, add_pair, insert_copies};
 use event_queue::queue::Queue;
 use notify_paths::path::PathBuf;
 use std::alloc::{AllocError, Allocator};
@@ -27,45 +28,6 @@ fn add_fronts<A: Allocator + Copy>(
     add_pair(pairs, queue.front_time(), path)
 }
 
-/// The fronts at the paths of these queues, before they are put there and after.
-fn fronts_at<A: Allocator + Copy>(
-    map: &QueueMap<A>,
-    alloc: A,
-    queues: &[(PathBuf<A>, Queue<A>)],
-) -> Result<Pairs<A>, AllocError>
-    ensures { IfOk result (λ pairs. pairs.items ≡ put_pairs map.now.entries queues.now) }
-{
-    let mut pairs = Vec::new(alloc);
-    for (path, queue) in queues {
-        add_fronts(&mut pairs, map, path, queue)?;
-    }
-    Ok(pairs)
-}
-
-/// Puts these queues, after the index got these pairs. If an allocation fails, the index may have some
-/// of them.
-fn insert_and_put<A: Allocator + Copy>(
-    map: &mut QueueMap<A>,
-    fronts: &mut Fronts<A>,
-    spare: &mut PathBuf<A>,
-    pairs: &Pairs<A>,
-    queues: Placed<A>,
-) -> Result<(), AllocError>
-    requires { AreFilled map.old.entries }
-    ensures ok { OnOk result (map.new.entries ≡ with_queues map.old.entries queues.items) }
-    ensures unchanged { OnErr result (map.new.entries ≡ map.old.entries) }
-    ensures put { OnOk result (IsWith pairs.now.items fronts.old fronts.new) }
-    ensures kept { IsKept fronts.old fronts.new }
-    ensures others { DifferAt pairs.now.items fronts.old fronts.new }
-{
-    // The proof reads here that the paths ascend.
-    let _len = map.len();
-    insert_copies(fronts, pairs.as_slice())?;
-    make_room(map, spare, *pairs.allocator(), queues.as_slice())?;
-    set_all(map, queues);
-    Ok(())
-}
-
 /// Takes the only one of these queues out, if it is the only one.
 pub(crate) fn take_only<A: Allocator>(queues: &mut Placed<A>) -> Option<(PathBuf<A>, Queue<A>)>
     ensures some { IfSome result (λ only. queues.old.items ≡ only ∷ []) }
@@ -77,23 +39,50 @@ pub(crate) fn take_only<A: Allocator>(queues: &mut Placed<A>) -> Option<(PathBuf
     queues.pop()
 }
 
-/// Puts each of these queues at its path; of two at one path the first stays. If an allocation fails,
-/// nothing has changed.
-pub(crate) fn put_all<A: Allocator + Copy>(
-    map: &mut QueueMap<A>,
-    fronts: &mut Fronts<A>,
-    spare: &mut PathBuf<A>,
-    alloc: A,
-    queues: Placed<A>,
-) -> Result<(), AllocError>
-    requires indexed { IsIndexed fronts.old map.old.entries }
-    requires filled { AreFilled queues.items }
-    ensures ok { OnOk result (map.new.entries ≡ with_queues map.old.entries queues.items) }
-    ensures unchanged { OnErr result (map.new.entries ≡ map.old.entries) }
-    ensures indexed { IsIndexed fronts.new map.new.entries }
-{
-    let pairs = fronts_at(map, alloc, queues.as_slice())?;
-    let put = insert_and_put(map, fronts, spare, &pairs, queues);
-    settle(map, fronts, pairs.as_slice());
-    put
+impl<A: Allocator + Copy> Index<A> {
+    /// The fronts at the paths of these queues, before they are put there and after.
+    fn fronts_at(&self, queues: &[(PathBuf<A>, Queue<A>)]) -> Result<Pairs<A>, AllocError>
+        ensures { IfOk result (λ pairs. pairs.items ≡ put_pairs self.now.map.entries queues.now) }
+    {
+        let mut pairs = Vec::new(self.alloc);
+        for (path, queue) in queues {
+            add_fronts(&mut pairs, &self.map, path, queue)?;
+        }
+        Ok(pairs)
+    }
+
+    /// Puts these queues, after the index got these pairs. If an allocation fails, the index may have some
+    /// of them.
+    fn insert_and_put(&mut self, pairs: &[Front<A>], queues: Placed<A>) -> Result<(), AllocError>
+        requires { AreFilled self.old.map.entries }
+        ensures ok { OnOk result (self.new.map.entries
+            ≡ with_queues self.old.map.entries queues.items) }
+        ensures unchanged { OnErr result (self.new.map.entries ≡ self.old.map.entries) }
+        ensures put { OnOk result (IsWith pairs.now self.old.fronts self.new.fronts) }
+        ensures kept { IsKept self.old.fronts self.new.fronts }
+        ensures others { DifferAt pairs.now self.old.fronts self.new.fronts }
+    {
+        // The proof reads here that the paths ascend.
+        let _len = self.map.len();
+        insert_copies(&mut self.fronts, pairs)?;
+        self.make_room(queues.as_slice())?;
+        set_all(&mut self.map, queues);
+        Ok(())
+    }
+
+    /// Puts each of these queues at its path; of two at one path the first stays. If an allocation fails,
+    /// nothing has changed.
+    pub(crate) fn put_all(&mut self, queues: Placed<A>) -> Result<(), AllocError>
+        requires indexed { IsIndexed self.old.fronts self.old.map.entries }
+        requires filled { AreFilled queues.items }
+        ensures ok { OnOk result (self.new.map.entries
+            ≡ with_queues self.old.map.entries queues.items) }
+        ensures unchanged { OnErr result (self.new.map.entries ≡ self.old.map.entries) }
+        ensures indexed { IsIndexed self.new.fronts self.new.map.entries }
+    {
+        let pairs = self.fronts_at(queues.as_slice())?;
+        let put = self.insert_and_put(pairs.as_slice(), queues);
+        self.settle(pairs.as_slice());
+        put
+    }
 }

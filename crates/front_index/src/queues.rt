@@ -12,20 +12,16 @@ ghost use Rattle.event_queue.specs.Due.{is_due};
 ghost use Rattle.front_index.specs.Plan.{IsLent, IsPlan, moves};
 ghost use Rattle.front_index.specs.Steps.{AreFilled};
 
-use crate::below::{drop_below, remove};
-use crate::fronts::{Fronts, is_oldest_due};
+use crate::index::Index;
 use crate::plan::DuePlan;
-use crate::push::push;
-use crate::put::put;
-use crate::put_all::{put_all, take_only};
-use crate::trim::trim;
+use crate::put_all::take_only;
 use debounce_model::case::first_path;
 use event_queue::due::Due;
 use event_queue::queue::Queue;
 use notify_paths::path::PathBuf;
 use notify_types::event::DebouncedEvent;
 use std::alloc::{AllocError, Allocator, Global};
-use std::collections::{BTreeMap, BTreeSet};
+use std::collections::BTreeMap;
 use std::marker::Model;
 
 /// The queues by their paths.
@@ -38,11 +34,7 @@ pub type Placed<A> = Vec<(PathBuf<A>, Queue<A>), A>;
 /// a tick goes by.
 #[derive(Drop)]
 pub struct IndexedQueues<A: Allocator = Global> {
-    map: QueueMap<A>,
-    fronts: Fronts<A>,
-    /// Has room for a copy of each key, so that a removal needs no memory. What it holds says nothing.
-    spare: PathBuf<A>,
-    alloc: A,
+    index: Index<A>,
 }
 
 impl<A: Allocator> Model for IndexedQueues<A> {
@@ -50,11 +42,11 @@ impl<A: Allocator> Model for IndexedQueues<A> {
 
     ghost Value = { Queues };
 
-    ghost view = { λ a. a.map.entries };
+    ghost view = { λ a. a.index.map.entries };
 
     ghost use Rattle.front_index.specs.Fronts.{IsIndexed};
 
-    ghost invariant = { λ a. IsIndexed a.fronts a.map.entries };
+    ghost invariant = { λ a. IsIndexed a.index.fronts a.index.map.entries };
 }
 
 impl<A: Allocator + Copy> IndexedQueues<A> {
@@ -63,23 +55,20 @@ impl<A: Allocator + Copy> IndexedQueues<A> {
         ensures { result ≡ [] }
     {
         IndexedQueues {
-            map: BTreeMap::new(alloc),
-            fronts: BTreeSet::new(alloc),
-            spare: PathBuf::empty(alloc),
-            alloc,
+            index: Index::new(alloc),
         }
     }
 
     /// Returns the allocator of the queues.
     pub fn allocator(&self) -> A {
-        self.alloc
+        self.index.alloc
     }
 
     /// Returns the queues by their paths, to look at them.
     pub fn by_path(&self) -> &QueueMap<A>
         ensures { result.now.entries ≡ self.now }
     {
-        &self.map
+        &self.index.map
     }
 
     /// The push: the event comes after the others of its first path, unless their queue skips it. It is
@@ -91,13 +80,7 @@ impl<A: Allocator + Copy> IndexedQueues<A> {
         ensures unchanged { OnErr result (self.new ≡ self.old) }
         ensures sure { OnErr result (skips_it self.old event.event ≡ false) }
     {
-        push(
-            &mut self.map,
-            &mut self.fronts,
-            &mut self.spare,
-            self.alloc,
-            event,
-        )
+        self.index.push(event)
     }
 
     /// Puts a queue in the place of what waits at the path, if something does. If an allocation fails,
@@ -107,16 +90,7 @@ impl<A: Allocator + Copy> IndexedQueues<A> {
         ensures ok { OnOk result (self.new ≡ with_queue self.old path queue) }
         ensures unchanged { OnErr result (self.new ≡ self.old) }
     {
-        let time = queue.front_time().unwrap();
-        put(
-            &mut self.map,
-            &mut self.fronts,
-            &mut self.spare,
-            self.alloc,
-            path,
-            time,
-            queue,
-        )
+        self.index.put(path, queue)
     }
 
     /// Puts the event alone in the place of what waits at its first path, if something does. If an
@@ -128,7 +102,7 @@ impl<A: Allocator + Copy> IndexedQueues<A> {
         ensures unchanged { OnErr result (self.new ≡ self.old) }
     {
         let path = first_path(&event).clone()?;
-        self.put(path, Queue::single(self.alloc, event)?)
+        self.put(path, Queue::single(self.allocator(), event)?)
     }
 
     /// Puts each of these queues at its path; of two at one path the first stays. If an allocation
@@ -142,20 +116,14 @@ impl<A: Allocator + Copy> IndexedQueues<A> {
         if let Some((path, queue)) = take_only(&mut queues) {
             return self.put(path, queue);
         }
-        put_all(
-            &mut self.map,
-            &mut self.fronts,
-            &mut self.spare,
-            self.alloc,
-            queues,
-        )
+        self.index.put_all(queues)
     }
 
     /// Takes out what waits at the path. It takes no memory.
     pub fn take_out(&mut self, path: &PathBuf<A>)
         ensures { self.new ≡ without_queue self.old path.now }
     {
-        remove(&mut self.map, &mut self.fronts, path);
+        self.index.take_out(path);
     }
 
     /// Takes out what waits at these paths. It takes no memory.
@@ -172,23 +140,21 @@ impl<A: Allocator + Copy> IndexedQueues<A> {
     pub fn drop_below(&mut self, path: &PathBuf<A>)
         ensures { self.new ≡ without_below self.old path.now }
     {
-        drop_below(&mut self.map, &mut self.fronts, path, &mut self.spare);
+        self.index.drop_below(path);
     }
 
     /// Whether the front of some queue is due. It looks at one pair of the index.
     pub fn is_any_due(&self, due: Due) -> bool
         ensures { result ≡ is_any_due (is_due due) self.now }
     {
-        // The proof reads here that the paths ascend.
-        let _len = self.map.len();
-        is_oldest_due(&self.fronts, due)
+        self.index.is_any_due(due)
     }
 
     /// Returns how a tick comes to the queues that are due. The plan is for the queues as they are now.
     pub fn plan(&self, due: Due) -> Result<DuePlan<A>, AllocError>
         ensures { IfOk result (λ plan. IsPlan due self.now plan) }
     {
-        DuePlan::new(&self.map, &self.fronts, self.alloc, due)
+        DuePlan::new(&self.index, due)
     }
 
     /// Adds references to what is due, in the order of the paths: of each queue's due beginning the last
@@ -205,7 +171,7 @@ impl<A: Allocator + Copy> IndexedQueues<A> {
         ensures lent { OnOk result (IsLent due self.now plan.new) }
         ensures same { moves plan.new ≡ moves plan.old }
     {
-        plan.lend(places, &self.map, due)
+        plan.lend(places, &self.index.map, due)
     }
 
     /// Moves what is due to the end of `out`, which has room for it, in the order of the paths, and
@@ -229,7 +195,7 @@ impl<A: Allocator + Copy> IndexedQueues<A> {
         ensures unchanged { OnErr result (self.new ≡ self.old) }
         ensures kept { OnErr result (out.new.items ≡ out.old.items) }
     {
-        plan.take(&mut self.map, &mut self.fronts, self.alloc, due, out)
+        plan.take(&mut self.index, due, out)
     }
 
     /// Drops the due beginning of each queue, and returns how many queues had one. It goes over all
@@ -239,7 +205,7 @@ impl<A: Allocator + Copy> IndexedQueues<A> {
         ensures ok { OnOk result (self.new ≡ rests (is_due due) self.old) }
         ensures unchanged { OnErr result (self.new ≡ self.old) }
     {
-        trim(&mut self.map, &mut self.fronts, due)
+        self.index.trim(due)
     }
 
     /// Returns how many events wait.
@@ -247,10 +213,6 @@ impl<A: Allocator + Copy> IndexedQueues<A> {
         requires { waiting_in self.now < 2 ^ 64 }
         ensures { result ≡ waiting_in self.now }
     {
-        let mut count = 0;
-        for (_path, queue) in &self.map {
-            count += queue.events().len() as u64;
-        }
-        count
+        self.index.waiting()
     }
 }

@@ -1,52 +1,18 @@
 //! Room in the map for queues that come: an empty queue at each path that has none. If an allocation
 //! fails, the empty queues go again.
-ghost use Rattle.std.specs.Prelude.{◌≡◌, true, is_some, OnOk, OnErr};
+ghost use Rattle.std.specs.Prelude.{◌≡◌, OnOk, OnErr};
 ghost use Rattle.debounce_model.specs.Due.{waits};
 ghost use Rattle.debounce_model.specs.MapSteps.{HasRoom, nonempty_of, reserved, reserved_all};
 ghost use Rattle.debounce_model.specs.Moved.{with_queues};
 ghost use Rattle.front_index.specs.Steps.{AreFilled};
 
 use crate::change::{Change, change_values};
+use crate::index::Index;
 use crate::put::set;
 use crate::queues::{Placed, QueueMap};
 use event_queue::queue::Queue;
 use notify_paths::path::PathBuf;
 use std::alloc::{AllocError, Allocator};
-
-/// Puts an empty queue at the path, if it has none, and leaves room in `spare` for the path.
-fn reserve<A: Allocator + Copy>(
-    map: &mut QueueMap<A>,
-    spare: &mut PathBuf<A>,
-    alloc: A,
-    path: &PathBuf<A>,
-) -> Result<(), AllocError>
-    ensures ok { OnOk result (map.new.entries ≡ reserved map.old.entries path.now) }
-    ensures unchanged { OnErr result (map.new.entries ≡ map.old.entries) }
-{
-    if map.contains_key(path) {
-        return Ok(());
-    }
-    spare.reserve(path)?;
-    let key = path.clone()?;
-    map.insert(key, Queue::new(Vec::new(alloc)))?;
-    Ok(())
-}
-
-/// Makes room for these queues, as far as there is memory.
-fn reserve_all<A: Allocator + Copy>(
-    map: &mut QueueMap<A>,
-    spare: &mut PathBuf<A>,
-    alloc: A,
-    queues: &[(PathBuf<A>, Queue<A>)],
-) -> Result<(), AllocError>
-    ensures ok { OnOk result (map.new.entries ≡ reserved_all map.old.entries queues.now) }
-    ensures filled { OnErr result (nonempty_of map.new.entries ≡ nonempty_of map.old.entries) }
-{
-    for (path, _queue) in queues {
-        reserve(map, spare, alloc, path)?;
-    }
-    Ok(())
-}
 
 /// Keeps a queue in which something waits.
 #[derive(Drop)]
@@ -69,22 +35,50 @@ fn drop_empty<A: Allocator>(map: &mut QueueMap<A>)
     change_values(map, &KeepWaiting);
 }
 
-/// Makes room for these queues, or leaves all as it was.
-pub(crate) fn make_room<A: Allocator + Copy>(
-    map: &mut QueueMap<A>,
-    spare: &mut PathBuf<A>,
-    alloc: A,
-    queues: &[(PathBuf<A>, Queue<A>)],
-) -> Result<(), AllocError>
-    requires { AreFilled map.old.entries }
-    ensures ok { OnOk result (map.new.entries ≡ reserved_all map.old.entries queues.now) }
-    ensures unchanged { OnErr result (map.new.entries ≡ map.old.entries) }
-{
-    match reserve_all(map, spare, alloc, queues) {
-        Ok(()) => Ok(()),
-        Err(refused) => {
-            drop_empty(map);
-            Err(refused)
+impl<A: Allocator + Copy> Index<A> {
+    /// Puts an empty queue at the path, if it has none, and leaves room in `spare` for the path.
+    fn reserve(&mut self, path: &PathBuf<A>) -> Result<(), AllocError>
+        ensures ok { OnOk result (self.new.map.entries ≡ reserved self.old.map.entries path.now) }
+        ensures unchanged { OnErr result (self.new.map.entries ≡ self.old.map.entries) }
+        ensures fronts { self.new.fronts ≡ self.old.fronts }
+    {
+        if self.map.contains_key(path) {
+            return Ok(());
+        }
+        self.spare.reserve(path)?;
+        let key = path.clone()?;
+        self.map.insert(key, Queue::new(Vec::new(self.alloc)))?;
+        Ok(())
+    }
+
+    /// Makes room for these queues, as far as there is memory.
+    fn reserve_all(&mut self, queues: &[(PathBuf<A>, Queue<A>)]) -> Result<(), AllocError>
+        ensures ok { OnOk result (self.new.map.entries
+            ≡ reserved_all self.old.map.entries queues.now) }
+        ensures filled { OnErr result (nonempty_of self.new.map.entries
+            ≡ nonempty_of self.old.map.entries) }
+        ensures fronts { self.new.fronts ≡ self.old.fronts }
+    {
+        for (path, _queue) in queues {
+            self.reserve(path)?;
+        }
+        Ok(())
+    }
+
+    /// Makes room for these queues, or leaves all as it was.
+    pub(crate) fn make_room(&mut self, queues: &[(PathBuf<A>, Queue<A>)]) -> Result<(), AllocError>
+        requires { AreFilled self.old.map.entries }
+        ensures ok { OnOk result (self.new.map.entries
+            ≡ reserved_all self.old.map.entries queues.now) }
+        ensures unchanged { OnErr result (self.new.map.entries ≡ self.old.map.entries) }
+        ensures fronts { self.new.fronts ≡ self.old.fronts }
+    {
+        match self.reserve_all(queues) {
+            Ok(()) => Ok(()),
+            Err(refused) => {
+                drop_empty(&mut self.map);
+                Err(refused)
+            }
         }
     }
 }

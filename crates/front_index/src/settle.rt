@@ -2,11 +2,12 @@
 //! are changed, and then the index loses what is no front.
 ghost use Rattle.std.specs.Prelude.{◌≡◌, ◌++◌, ℕ, OnOk, OnErr, true};
 ghost use Rattle.notify_paths.specs.Path.{PathValue};
-ghost use Rattle.front_index.specs.Fronts.{has, is_front};
-ghost use Rattle.front_index.specs.Steps.{DifferAt, IsKept, IsSame, IsSettled, IsSettledPair, IsWith, IsWithPair, front_pair, pair_of};
+ghost use Rattle.front_index.specs.Fronts.{IsIndexed, has, is_front};
+ghost use Rattle.front_index.specs.Steps.{AreFilled, DifferAt, IsKept, IsSame, IsSettled, IsSettledPair, IsWith, IsWithPair, front_pair, pair_of};
 
 use crate::front::Front;
 use crate::fronts::{Fronts, front_of, is_front};
+use crate::index::Index;
 use crate::queues::QueueMap;
 use notify_paths::path::PathBuf;
 use notify_types::time::Moment;
@@ -91,29 +92,38 @@ pub(crate) fn insert_copies<A: Allocator + Copy>(
     Ok(())
 }
 
-/// Takes the pair out of the index, unless it is a front.
-fn settle_one<A: Allocator>(map: &QueueMap<A>, fronts: &mut Fronts<A>, pair: &Front<A>)
-    ensures { IsSettledPair map.now.entries pair.now fronts.old fronts.new }
-{
-    if !is_front(map, &pair.path, pair.time) {
-        fronts.remove(pair);
+impl<A: Allocator + Copy> Index<A> {
+    /// Takes the pair out of the index, unless it is a front.
+    fn settle_one(&mut self, pair: &Front<A>)
+        ensures fronts { IsSettledPair self.old.map.entries pair.now
+            self.old.fronts self.new.fronts }
+        ensures map { self.new.map.entries ≡ self.old.map.entries }
+    {
+        if !is_front(&self.map, &pair.path, pair.time) {
+            self.fronts.remove(pair);
+        }
     }
-}
 
-/// Takes these pairs out of the index, but for those that are fronts.
-pub(crate) fn settle<A: Allocator>(map: &QueueMap<A>, fronts: &mut Fronts<A>, pairs: &[Front<A>])
-    ensures { IsSettled map.now.entries pairs.now fronts.old fronts.new }
-{
-    for pair in pairs {
-        settle_one(map, fronts, pair);
+    /// Takes these pairs out of the index, but for those that are fronts.
+    pub(crate) fn settle(&mut self, pairs: &[Front<A>])
+        ensures fronts { IsSettled self.old.map.entries pairs.now self.old.fronts self.new.fronts }
+        ensures map { self.new.map.entries ≡ self.old.map.entries }
+    {
+        for pair in pairs {
+            self.settle_one(pair);
+        }
     }
-}
 
-/// Takes out of the index whatever is no front.
-pub(crate) fn tidy<A: Allocator>(map: &QueueMap<A>, fronts: &mut Fronts<A>)
-    requires covered { (t : ℕ) (p : PathValue) → is_front map.now.entries t p ≡ true →
-        has fronts.old t p ≡ true }
-    ensures { (t : ℕ) (p : PathValue) → has fronts.new t p ≡ is_front map.now.entries t p }
-{
-    fronts.retain(|front| is_front(map, &front.path, front.time));
+    /// Takes out of the index whatever is no front.
+    pub(crate) fn tidy(&mut self)
+        requires covered { (t : ℕ) (p : PathValue) → is_front self.old.map.entries t p ≡ true →
+            has self.old.fronts t p ≡ true }
+        requires filled { AreFilled self.old.map.entries }
+        ensures map { self.new.map.entries ≡ self.old.map.entries }
+        ensures indexed { IsIndexed self.new.fronts self.new.map.entries }
+    {
+        let map = &self.map;
+        self.fronts
+            .retain(|front| is_front(map, &front.path, front.time));
+    }
 }

@@ -1,5 +1,5 @@
 //! What is due is dropped, by a walk over all queues.
-ghost use Rattle.std.specs.Prelude.{◌≡◌, ◌++◌, IfOk, OnErr, OnOk};
+ghost use Rattle.std.specs.Prelude.{◌≡◌, IfOk, OnErr, OnOk};
 ghost use Rattle.debounce_model.specs.Due.{due_fronts, rest_after, rests, waits};
 ghost use Rattle.event_queue.specs.Due.{is_due};
 ghost use Rattle.front_index.specs.Fronts.{IsIndexed};
@@ -8,8 +8,8 @@ ghost use Rattle.front_index.specs.Steps.{HasLater, IsKept, IsWith, IsWithLater,
 use crate::change::{Change, change_values};
 use crate::front::Front;
 use crate::fronts::Fronts;
+use crate::index::Index;
 use crate::queues::QueueMap;
-use crate::settle::tidy;
 use crate::whole::counted;
 use event_queue::due::Due;
 use event_queue::queue::Queue;
@@ -51,24 +51,6 @@ fn insert_later<A: Allocator + Copy>(
     insert_front(fronts, queue.time_after(due), path)
 }
 
-/// Puts the later fronts into the index, by a look at each queue. If an allocation fails, it may have
-/// some of them.
-fn insert_all_later<A: Allocator + Copy>(
-    fronts: &mut Fronts<A>,
-    map: &QueueMap<A>,
-    due: Due,
-) -> Result<(), AllocError>
-    ensures ok { OnOk result (IsWithLater due map.now.entries fronts.old fronts.new) }
-    ensures kept { IsKept fronts.old fronts.new }
-{
-    // The proof reads here that the paths ascend.
-    let _len = map.len();
-    for (path, queue) in map {
-        insert_later(fronts, path, queue, due)?;
-    }
-    Ok(())
-}
-
 /// How many queues have a front that is due.
 fn count_due<A: Allocator>(map: &QueueMap<A>, due: Due) -> usize
     ensures { result ≡ due_fronts (is_due due) map.now.entries }
@@ -98,38 +80,56 @@ impl<A: Allocator> Change<Queue<A>> for DueTrim {
     }
 }
 
-/// Drops the due beginning of each queue, and from the index each pair that is due; the later fronts are
-/// in it already. Returns how many queues had a front that was due.
-fn trim_all<A: Allocator>(map: &mut QueueMap<A>, fronts: &mut Fronts<A>, due: Due) -> usize
-    requires { HasLater due fronts.old map.old.entries }
-    ensures rests { map.new.entries ≡ rests (is_due due) map.old.entries }
-    ensures indexed { IsIndexed fronts.new map.new.entries }
-    ensures count { result ≡ due_fronts (is_due due) map.old.entries }
-{
-    let count = count_due(map, due);
-    change_values(map, &DueTrim { due });
-    fronts.retain(|front| !due.is_due_at(front.time));
-    count
-}
-
-/// Drops the due beginning of each queue, and returns how many queues had one. The later fronts go
-/// into the index first, by what alone can fail; if that is refused, nothing has changed.
-pub(crate) fn trim<A: Allocator + Copy>(
-    map: &mut QueueMap<A>,
-    fronts: &mut Fronts<A>,
-    due: Due,
-) -> Result<usize, AllocError>
-    requires { IsIndexed fronts.old map.old.entries }
-    ensures count { IfOk result (λ count. count ≡ due_fronts (is_due due) map.old.entries) }
-    ensures ok { OnOk result (map.new.entries ≡ rests (is_due due) map.old.entries) }
-    ensures unchanged { OnErr result (map.new.entries ≡ map.old.entries) }
-    ensures indexed { IsIndexed fronts.new map.new.entries }
-{
-    // The proof reads here that the paths ascend.
-    let _len = map.len();
-    if let Err(refused) = insert_all_later(fronts, map, due) {
-        tidy(map, fronts);
-        return Err(refused);
+impl<A: Allocator + Copy> Index<A> {
+    /// Puts the later fronts into the index, by a look at each queue. If an allocation fails, it may have
+    /// some of them.
+    fn insert_all_later(&mut self, due: Due) -> Result<(), AllocError>
+        ensures ok { OnOk result (IsWithLater due self.old.map.entries
+            self.old.fronts self.new.fronts) }
+        ensures kept { IsKept self.old.fronts self.new.fronts }
+        ensures map { self.new.map.entries ≡ self.old.map.entries }
+    {
+        let map = &self.map;
+        let fronts = &mut self.fronts;
+        // The proof reads here that the paths ascend.
+        let _len = map.len();
+        for (path, queue) in map {
+            insert_later(fronts, path, queue, due)?;
+        }
+        Ok(())
     }
-    Ok(trim_all(map, fronts, due))
+
+    /// Drops the due beginning of each queue, and from the index each pair that is due; the later fronts
+    /// are in it already. Returns how many queues had a front that was due.
+    fn trim_all(&mut self, due: Due) -> usize
+        requires { HasLater due self.old.fronts self.old.map.entries }
+        ensures rests { self.new.map.entries ≡ rests (is_due due) self.old.map.entries }
+        ensures indexed { IsIndexed self.new.fronts self.new.map.entries }
+        ensures count { result ≡ due_fronts (is_due due) self.old.map.entries }
+    {
+        let count = count_due(&self.map, due);
+        change_values(&mut self.map, &DueTrim { due });
+        self.fronts.retain(|front| !due.is_due_at(front.time));
+        count
+    }
+
+    /// Drops the due beginning of each queue, and returns how many queues had one. The later fronts go
+    /// into the index first, by what alone can fail; if that is refused, nothing has changed.
+    pub(crate) fn trim(&mut self, due: Due) -> Result<usize, AllocError>
+        requires { IsIndexed self.old.fronts self.old.map.entries }
+        ensures count { IfOk result (λ count.
+            count ≡ due_fronts (is_due due) self.old.map.entries) }
+        ensures ok { OnOk result (self.new.map.entries
+            ≡ rests (is_due due) self.old.map.entries) }
+        ensures unchanged { OnErr result (self.new.map.entries ≡ self.old.map.entries) }
+        ensures indexed { IsIndexed self.new.fronts self.new.map.entries }
+    {
+        // The proof reads here that the paths ascend.
+        let _len = self.map.len();
+        if let Err(refused) = self.insert_all_later(due) {
+            self.tidy();
+            return Err(refused);
+        }
+        Ok(self.trim_all(due))
+    }
 }
