@@ -1,20 +1,19 @@
 -- When a book may be put back under its lock, and what that shows.
-use Rattle.std.proofs.Common.{◌≡◌, ◌⊎◌, inl, inr, ℕ, Bool, true, false, List, [], ◌∷◌, ◌++◌, Option, Some, None, Result, Ok, Err, OnOk, OnErr, sym, refl, ap, ◌∙◌, subst, ⊎_elim, append-nil, append_assoc}
-use Rattle.std.specs.Prelude.{◌%◌, ◌^◌}
+use Rattle.std.proofs.Common.{◌≡◌, ◌⊎◌, inl, inr, ℕ, Bool, true, List, [], ◌∷◌, ◌++◌, Result, Ok, Err, OnOk, sym, refl, ap, ◌∙◌, subst, ⊎_elim, append-nil}
 use Rattle.std.specs.declared.vec.Vec.{Vec}
 use Rattle.atomic_table.specs.Seated.{TableId}
 use Rattle.notify_paths.specs.Errors.{ErrorValue}
 use Rattle.notify_types.specs.Event.{EventValue, Timed}
-use Rattle.debounce_model.specs.Command.{CommandValue, ErrorsCommand, TickCommand, ReplyValue, ErrorsReply, BatchReply}
+use Rattle.debounce_model.specs.Command.{CommandValue, ErrorsCommand, ReplyValue, ErrorsReply}
 use Rattle.debounce_book.specs.Book.{Kept, kept_entries, parted, written}
 use Rattle.debounce_book.specs.Journal.{EntryValue}
-use Rattle.told_lock.specs.declared.lock.Hand.{Hand}
+use Rattle.told_lock.specs.declared.hand.Hand.{Hand}
 use Rattle.told_lock.specs.History.{Begins, picked, beside, MayGive, Took, Gave}
 use Rattle.told_lock.proofs.Moves.{begins_self, begins_trans}
 use Rattle.debounce_shell.specs.declared.locked.Locked.{Locked}
-use Rattle.debounce_shell.specs.Adds.{Adds, AddsFed, BatchMakes, CommandMakes, Does, ErrorsMake, FedMakes, GainsTick, AddsTick, Makes, TickMakes}
+use Rattle.debounce_shell.specs.Adds.{Adds, AddsFed, BatchMakes, CommandMakes, Does, FedMakes, GainsTick, AddsTick, Makes, TickMakes}
 use Rattle.debounce_shell.specs.Happened.{HappenedValue, History, Missed, accepted, entries_of, is_emitting, journal_of}
-use Rattle.debounce_shell.specs.Stands.{BeginsAs, GivesJournal, GoesOn, IsLeft, IsTold, Lasts, LeadsTo, Reach, Stands}
+use Rattle.debounce_shell.specs.Stands.{GoesOn, IsLeft, IsTold, Lasts, LeadsTo, Reach, Stands}
 use Rattle.debounce_shell.specs.Taken.{TakesAll, all_out}
 use Rattle.debounce_shell.proofs.Steps.{picked_append, parted_stands}
 
@@ -24,11 +23,11 @@ reach_of id v = record { lock = id; seen = v.seen; out = v.taken; keeps = v.keep
 
 module _ {C A : Type 0} where
   abbrev StandsIn : Locked C A → History → History → Type 0
-  StandsIn l out log = Stands l.book l.missed out log
+  StandsIn l out log = Stands l.book.value l.missed out log
 
   -- with what happened by what was done
   pub may_go : (v : Hand HappenedValue) (l : Locked C A) (hs : History) → v.holds ≡ true → Makes l.made.value hs
-      → Stands l.book l.missed v.taken (v.seen ++ hs) → (v.tells ≡ true) ⊎ (picked is_emitting hs ≡ [])
+      → Stands l.book.value l.missed v.taken (v.seen ++ hs) → (v.tells ≡ true) ⊎ (picked is_emitting hs ≡ [])
       → MayGive StandsIn is_emitting (λ before out l after now. Does l.made.value before out after now) v l
   may_go v l hs holds makes stands quiet = record {
     log = v.seen ++ hs;
@@ -67,11 +66,11 @@ module _ {C A : Type 0} where
 
   -- with all entries taken out
   pub may_take : (v : Hand HappenedValue) (l : Locked C A) (old : Kept C) → v.holds ≡ true → v.keeps ≡ true
-      → Stands old l.missed v.taken v.seen → l.book ≡ parted old
-      → MayGive StandsIn is_emitting (λ before out l after now. TakesAll l.book before out after now) v l
+      → Stands old l.missed v.taken v.seen → l.book.value ≡ parted old
+      → MayGive StandsIn is_emitting (λ before out l after now. TakesAll l.book.value before out after now) v l
   may_take v l old holds keeps stands same = record {
     log = v.seen;
-    taken = all_out (kept_entries l.book) v.taken v.seen;
+    taken = all_out (kept_entries l.book.value) v.taken v.seen;
     holds = holds;
     goes_on = begins_self v.seen;
     stands = subst (λ (k : Kept C). Stands k l.missed (all_out (kept_entries k) v.taken v.seen) v.seen) (sym same)
@@ -119,21 +118,21 @@ module _ {C A : Type 0} where
 
   -- the way that alone takes entries out knows at which history they were
   pub left_by : (u v : Hand HappenedValue) (x : Locked C A) → u.keeps ≡ true → Took StandsIn is_emitting u x v
-      → IsLeft u.seen (entries_of u.taken) x.book x.missed
+      → IsLeft u.seen (entries_of u.taken) x.book.value x.missed
   left_by u v x keeps took = (
     v.seen,
     took.goes_on,
-    subst (λ (l : History). LeadsTo x.book x.missed (entries_of l)
+    subst (λ (l : History). LeadsTo x.book.value x.missed (entries_of l)
         v.seen) (took.taken keeps) took.stands.0,
   )
 
   pub told_by : (u v : Hand HappenedValue) (x : Locked C A) (seen : History) → u.keeps ≡ true
       → Took StandsIn is_emitting u x v → Begins seen v.seen → picked is_emitting seen ≡ picked is_emitting v.seen
-      → IsTold seen (entries_of u.taken) x.book x.missed
+      → IsTold seen (entries_of u.taken) x.book.value x.missed
   told_by u v x seen keeps took begins told = (
     v.seen,
     begins,
-    subst (λ (l : History). LeadsTo x.book x.missed
+    subst (λ (l : History). LeadsTo x.book.value x.missed
         (entries_of l) v.seen) (took.taken keeps) took.stands.0,
     told,
   )

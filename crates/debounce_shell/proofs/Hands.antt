@@ -1,5 +1,5 @@
 -- What a turn hands over, and what a run of turns does.
-use Rattle.std.proofs.Common.{◌≡◌, ◌⊎◌, ℕ, List, [], ◌∷◌, ◌++◌, Result, Ok, Err, sym, refl, ap, ◌∙◌, subst, ⊎_elim}
+use Rattle.std.proofs.Common.{◌≡◌, ℕ, List, [], ◌∷◌, ◌++◌, Result, Ok, Err, sym, refl, subst, ⊎_elim}
 use Rattle.std.specs.declared.vec.Vec.{Vec}
 use Rattle.notify_paths.specs.Errors.{ErrorValue}
 use Rattle.notify_types.specs.Event.{Timed}
@@ -8,7 +8,7 @@ use Rattle.debounce_model.specs.Command.{ErrorsCommand, ErrorsReply}
 use Rattle.told_lock.specs.History.{picked}
 use Rattle.debounce_shell.specs.Adds.{BatchMakes, ErrorsMake, TicksOn}
 use Rattle.debounce_shell.specs.Handed.{Handed, HandsOn}
-use Rattle.debounce_shell.specs.Happened.{HappenedValue, History, accepted, is_emitting}
+use Rattle.debounce_shell.specs.Happened.{History, accepted, is_emitting}
 use Rattle.debounce_shell.specs.Stands.{Known}
 
 module _ {H A : Type 0} (handles : H → Outcome A → H → Type 0) where

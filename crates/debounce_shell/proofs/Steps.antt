@@ -1,5 +1,5 @@
 -- What each step under the lock does to the history.
-use Rattle.std.proofs.Common.{◌≡◌, ◌⊎◌, inl, inr, ℕ, ◌+◌, Bool, true, false, if◌then◌else◌, List, [], ◌∷◌, ◌++◌, Option, Some, None, Result, Ok, Err, OnOk, OnErr, IfErr, IfOk, sym, refl, ap, ◌∙◌, subst, ⊎_elim, append_assoc, append-nil, arith}
+use Rattle.std.proofs.Common.{◌≡◌, inl, inr, ℕ, ◌+◌, Bool, true, false, if◌then◌else◌, List, [], ◌∷◌, ◌++◌, Option, Some, None, Result, Ok, Err, OnOk, OnErr, IfErr, IfOk, sym, refl, ap, ◌∙◌, subst, ⊎_elim, append_assoc, append-nil, arith}
 use Rattle.std.proofs.Math.Nat.{mod-add-mod}
 use Rattle.std.specs.Option.{option_or, option_map}
 use Rattle.std.specs.Prelude.{◌%◌, ◌^◌, is_some, unwrap_or}
@@ -10,13 +10,13 @@ use Rattle.notify_types.specs.Event.{EventValue, Timed}
 use Rattle.notify_types.specs.declared.event.RecursiveMode.{RecursiveMode}
 use Rattle.debounce_model.specs.Cache.{Rules}
 use Rattle.debounce_model.specs.Command.{CommandValue, EventCommand, ErrorCommand, RootCommand, UnrootCommand, ErrorsCommand, TickCommand, ReplyValue, TakenReply, NotedReply, RootedReply, UnrootedReply, ErrorsReply, BatchReply}
-use Rattle.debounce_model.specs.State.{State, Core}
+use Rattle.debounce_model.specs.State.{State}
 use Rattle.debounce_book.specs.Book.{Kept, kept_entries, written, parted, with_entry, entry_of, fed_command, fed_reply, IsDone, IsNotDone, IsUnwritten, Ticks, GivesErrors, TicksBoth}
 use Rattle.debounce_book.specs.Journal.{EntryValue, Accepts, IsLegal}
 use Rattle.debounce_book.proofs.Replay.{IsLegal-append, state-refused, Accepts-step, timeout-accepts}
 use Rattle.told_lock.specs.History.{Begins, picked}
 use Rattle.debounce_shell.specs.Adds.{CommandMakes, FedMakes, BatchMakes, ErrorsMake, TickMakes}
-use Rattle.debounce_shell.specs.Happened.{HappenedValue, History, Missed, accepted, asks, entry_in, entries_of, misses, missed_in, is_emitting, is_nil, is_journaled, journal_of}
+use Rattle.debounce_shell.specs.Happened.{HappenedValue, History, Missed, accepted, asks, entry_in, entries_of, missed_in, is_emitting, is_nil, is_journaled, journal_of}
 use Rattle.debounce_shell.specs.Stands.{BeginsAs, GivesJournal, IsRest, LeadsTo, Stands}
 use Rattle.debounce_shell.specs.Taken.{all_out}
 

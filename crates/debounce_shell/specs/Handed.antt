@@ -1,12 +1,12 @@
 -- What a handler was called with.
-use Rattle.std.specs.Prelude.{◌≡◌, ◌++◌, List, [], ◌∷◌, Ok, Err}
+use Rattle.std.specs.Prelude.{◌≡◌, ◌++◌, [], ◌∷◌, Ok}
 use Rattle.std.specs.declared.vec.Vec.{Vec}
 use Rattle.notify_paths.specs.Errors.{ErrorValue}
 use Rattle.notify_types.specs.Event.{Timed}
 use Rattle.notify_watch.specs.Turn.{Outcome, HandsBatch, HandsErrors}
 use Rattle.debounce_model.specs.Command.{ReplyValue, ErrorsReply, BatchReply}
 use Rattle.told_lock.specs.History.{picked}
-use Rattle.debounce_shell.specs.Happened.{HappenedValue, History, Opened, Accepted, Missed, is_emitting}
+use Rattle.debounce_shell.specs.Happened.{HappenedValue, History, Accepted, is_emitting}
 use Rattle.debounce_shell.specs.Stands.{Known}
 
 module _ {H A : Type 0} (handles : H → Outcome A → H → Type 0) where

@@ -1,5 +1,5 @@
 -- What happens to the book of a debouncer, from its start on.
-use Rattle.std.specs.Prelude.{◌≡◌, ◌+◌, ℕ, Bool, true, false, if◌then◌else◌, List, [], ◌∷◌, ◌++◌}
+use Rattle.std.specs.Prelude.{◌+◌, ℕ, Bool, true, false, if◌then◌else◌, List, [], ◌∷◌, ◌++◌}
 use Rattle.debounce_model.specs.Command.{CommandValue, TickCommand, ErrorsCommand, ReplyValue}
 use Rattle.debounce_book.specs.Book.{entry_of}
 use Rattle.debounce_book.specs.Journal.{EntryValue}

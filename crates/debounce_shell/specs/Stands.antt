@@ -1,13 +1,11 @@
 -- The history of a book under its lock, and what each that reaches the book knows of it.
 use Rattle.std.specs.Prelude.{◌≡◌, ◌%◌, ◌^◌, ℕ, Bool, true, List, [], ◌∷◌, ◌++◌, Option, Some, None, is_some}
 use Rattle.atomic_table.specs.Seated.{TableId}
-use Rattle.crossbeam_queue.specs.Passes.{Pass, view}
-use Rattle.debounce_model.specs.State.{State}
+use Rattle.told_lock.specs.Passes.{Pass, view}
 use Rattle.debounce_book.specs.Book.{Kept, kept_entries}
 use Rattle.debounce_book.specs.Journal.{EntryValue, IsLegal}
 use Rattle.told_lock.specs.History.{Begins, picked}
-use Rattle.told_lock.specs.declared.lock.Hand.{Hand}
-use Rattle.debounce_shell.specs.Happened.{HappenedValue, History, Opened, entries_of, is_journaled, journal_of, missed_in, is_emitting}
+use Rattle.debounce_shell.specs.Happened.{History, Opened, entries_of, is_journaled, journal_of, missed_in, is_emitting}
 
 -- it begins with the opening of a book of this timeout, with a journal or without
 abbrev pub BeginsAs : ℕ → Bool → History → Type 0
@@ -45,16 +43,20 @@ IsTold seen parts book count =
 abbrev pub opening : {C : Type 0} → Kept C → History
 opening book = Opened book.core.state.timeout (is_some (kept_entries book)) ∷ []
 
-abbrev pub seen_by : {T E : Type 0} → Pass T (Hand E) → List E
+-- the history as far as this pass has seen it
+abbrev pub seen_by : {T E : Type 0} → Pass T E → List E
 seen_by pass = (view pass).seen
 
-abbrev pub taken_by : {T E : Type 0} → Pass T (Hand E) → List E
+-- the history at which entries were last taken out, as far as it knows
+abbrev pub taken_by : {T E : Type 0} → Pass T E → List E
 taken_by pass = (view pass).taken
 
-abbrev pub keeps_of : {T E : Type 0} → Pass T (Hand E) → Bool
+-- whether it alone takes entries out
+abbrev pub keeps_of : {T E : Type 0} → Pass T E → Bool
 keeps_of pass = (view pass).keeps
 
-abbrev pub tells_of : {T E : Type 0} → Pass T (Hand E) → Bool
+-- whether it alone emits
+abbrev pub tells_of : {T E : Type 0} → Pass T E → Bool
 tells_of pass = (view pass).tells
 
 -- what a feed, a receipt or the worker shows: of which lock it is, and the history as far as it has seen it
@@ -82,9 +84,13 @@ pub record GoesOn (old new : Reach) : Type 0 where
 abbrev pub Lasts : Reach → Reach → Type 0
 Lasts old new = GoesOn old new × (old.keeps ≡ true → new.out ≡ old.out)
 
+-- all stays but the right to emit, which another has now
+abbrev pub StaysButTells : Reach → Reach → Type 0
+StaysButTells old new =
+    (new.lock ≡ old.lock) × (new.seen ≡ old.seen) × (new.out ≡ old.out) × (new.keeps ≡ old.keeps)
+
 -- what a debouncer that runs shows: its watcher, of which lock it is, the history as far as it has seen it, the parts
--- of
--- the journal that were taken out, and whether none was
+-- of the journal that were taken out, and whether none was
 pub record Running (T : Type 0) : Type 0 where
   pub watcher : T
   pub lock : TableId

@@ -1,4 +1,4 @@
-//! The ways to the book under its lock. Each call that does something holds the lock meanwhile.
+//! The ways to the book under its lock.
 ghost use Rattle.std.specs.Prelude.{◌≡◌, ◌++◌, ◌∷◌, [], Ok, true, IfErr, IfOk, OnErr, OnOk};
 ghost use Rattle.std.specs.Arc.{arc_value};
 ghost use Rattle.notify_paths.specs.Errors.{out_of_memory};
@@ -10,9 +10,9 @@ ghost use Rattle.debounce_book.specs.Journal.{IsJournal, IsLegal, IsPart};
 ghost use Rattle.debounce_book.specs.JournalLaws.{LosesNoChange, GivesRawPaths, InventsNoRename};
 ghost use Rattle.debounce_shell.specs.Adds.{Adds, AddsFed, AddsTick, CommandMakes, GainsTick};
 ghost use Rattle.debounce_shell.specs.Happened.{Missed, accepted, entries_of, is_emitting, journal_of};
-ghost use Rattle.debounce_shell.specs.Stands.{GivesJournal, GoesOn, IsLeft, IsTold, Lasts, Stands, opening, seen_by, tells_of};
+ghost use Rattle.debounce_shell.specs.Stands.{GivesJournal, GoesOn, IsLeft, IsTold, Lasts, Stands, StaysButTells, opening, seen_by, tells_of};
 
-use crate::locked::{BookLock, Goes, Key, Locked, Opens, TakesOut};
+use crate::locked::{BookLock, Goes, Key, Locked, TakesOut};
 use crate::made::Made;
 use debounce_book::book::Book;
 use debounce_book::entry::Entry;
@@ -27,10 +27,11 @@ use std::marker::Model;
 use std::sync::{Arc, Wait};
 use std::thread;
 use std::time::{Clock, Duration};
-use told_lock::lock::{Lock, Nothing};
+use told_lock::hand::Nothing;
+use told_lock::lock::Lock;
 use told_lock::shown::Shown;
 
-/// A way to a book. Clauses see how much of the book's history it has seen.
+/// A way to a book. Each call that names the runtime waits for the lock, and holds it meanwhile.
 #[derive(Drop)]
 pub(crate) struct Access<C: Drop, A: Allocator> {
     lock: BookLock<C, A>,
@@ -39,7 +40,7 @@ pub(crate) struct Access<C: Drop, A: Allocator> {
 
 impl<C: Drop, A: Allocator> Model for Access<C, A> {
     ghost use Rattle.std.specs.Arc.{arc_value};
-    ghost use Rattle.crossbeam_queue.specs.Passes.{IsPassOf};
+    ghost use Rattle.told_lock.specs.Passes.{IsPassOf};
     ghost use Rattle.debounce_shell.specs.Stands.{Reach, keeps_of, seen_by, taken_by, tells_of};
 
     ghost Value = { Reach };
@@ -52,26 +53,22 @@ impl<C: Drop, A: Allocator> Model for Access<C, A> {
       tells = tells_of a.key;
     } };
 
-    ghost invariant = { λ a. IsPassOf (arc_value a.lock).cell a.key };
+    ghost invariant = { λ a. IsPassOf (arc_value a.lock).table.shared.table_id a.key };
 }
 
 impl<C: Drop, A: Allocator + Copy> Access<C, A> {
     /// Puts a new book under a lock. This way to it alone takes entries out, and emits.
-    pub(crate) fn open<R: Wait>(
-        rt: &R,
-        alloc: A,
-        book: Book<C, A>,
-    ) -> Result<Access<C, A>, AllocError>
+    pub(crate) fn open(alloc: A, book: Book<C, A>) -> Result<Access<C, A>, AllocError>
         requires { Stands book 0 [] (opening book) }
         ensures seen { IfOk result (λ a. (a.seen ≡ opening book) × (a.out ≡ [])) }
         ensures rights { IfOk result (λ a. (a.keeps ≡ true) × (a.tells ≡ true)) }
     {
         let held = Locked {
-            book,
+            book: Box::new(alloc, book)?,
             missed: 0,
             made: Shown::of(&Made::Nothing),
         };
-        let (lock, key) = Lock::new::<Opens, R>(rt, alloc, held)?;
+        let (lock, key) = Lock::new(alloc, held)?;
         let lock = Arc::new(alloc, lock)?;
         Ok(Access { lock, key })
     }
@@ -90,8 +87,7 @@ impl<C: Drop, A: Allocator + Copy> Access<C, A> {
     /// Another way to the book, which alone emits from then on.
     pub(crate) fn telling(&mut self) -> Result<Access<C, A>, AllocError>
         requires { self.old.tells ≡ true }
-        ensures same { (self.new.lock ≡ self.old.lock) × (self.new.seen ≡ self.old.seen)
-            × (self.new.out ≡ self.old.out) × (self.new.keeps ≡ self.old.keeps) }
+        ensures same { StaysButTells self.old self.new }
         ensures other { IfOk result (λ a.
             (a.lock ≡ self.old.lock) × (a.seen ≡ self.old.seen) × (a.tells ≡ true)) }
     {
@@ -105,8 +101,8 @@ impl<C: Drop, A: Allocator> Access<C, A> {
     /// What this way has seen, for whoever is to be shown it.
     pub(crate) fn shown(&mut self) -> Key<C, A>
         ensures same { self.new ≡ self.old }
-        ensures key { (result.table_id ≡ self.old.lock) × (seen_by result ≡ self.old.seen)
-            × (result.me.1 ≡ []) }
+        ensures lock { (result.table_id ≡ self.old.lock) × (result.me.1 ≡ []) }
+        ensures seen { seen_by result ≡ self.old.seen }
     {
         self.lock.another(&mut self.key)
     }
@@ -131,7 +127,7 @@ impl<C: Drop, A: Allocator> Access<C, A> {
         let turn = lock.turn(rt);
         let held = lock.take(rt, key);
         lock.compare(key, shown);
-        lock.give::<Nothing, R>(rt, key, held);
+        lock.give::<Nothing>(key, held);
         drop(turn);
     }
 
@@ -145,7 +141,7 @@ impl<C: Drop, A: Allocator> Access<C, A> {
         let mut held = lock.take(rt, key);
         held.missed = held.missed.wrapping_add(1);
         held.made = Shown::of(&Made::Missed);
-        lock.give::<Goes, R>(rt, key, held);
+        lock.give::<Goes>(key, held);
         drop(turn);
     }
 }
@@ -169,7 +165,7 @@ impl<C: FileIdCache<A> + Drop, A: Allocator + Copy> Access<C, A> {
         let answer = feed_step(&mut held.book, item, now, exists);
         let made = Made::Fed(fed, now, exists, Shown::of(&answer));
         held.made = Shown::of(&made);
-        lock.give::<Goes, R>(rt, key, held);
+        lock.give::<Goes>(key, held);
         drop(turn);
         answer
     }
@@ -189,7 +185,7 @@ impl<C: FileIdCache<A> + Drop, A: Allocator + Copy> Access<C, A> {
         let ticked = tick_step(&mut held.book, now);
         let made = Made::Ticked(now, Shown::of(&ticked));
         held.made = Shown::of(&made);
-        lock.give::<Goes, R>(rt, key, held);
+        lock.give::<Goes>(key, held);
         drop(turn);
         ticked
     }
@@ -212,7 +208,7 @@ impl<C: FileIdCache<A> + Drop, A: Allocator + Copy> Access<C, A> {
         let answer = root_step(&mut held.book, path, mode);
         let made = Made::Rooted(Shown::of(path), mode, Shown::of(&answer));
         held.made = Shown::of(&made);
-        lock.give::<Goes, R>(rt, key, held);
+        lock.give::<Goes>(key, held);
         drop(turn);
         answer
     }
@@ -230,7 +226,7 @@ impl<C: FileIdCache<A> + Drop, A: Allocator + Copy> Access<C, A> {
         let answer = unroot_step(&mut held.book, path);
         let made = Made::Unrooted(Shown::of(path), Shown::of(&answer));
         held.made = Shown::of(&made);
-        lock.give::<Goes, R>(rt, key, held);
+        lock.give::<Goes>(key, held);
         drop(turn);
         answer
     }
@@ -246,7 +242,7 @@ impl<C: Drop, A: Allocator + Copy> Access<C, A> {
         let turn = lock.turn(rt);
         let held = lock.take(rt, key);
         let batch = held.book.outlook();
-        lock.give::<Nothing, R>(rt, key, held);
+        lock.give::<Nothing>(key, held);
         drop(turn);
         batch
     }
@@ -265,7 +261,7 @@ impl<C: Drop, A: Allocator + Copy> Access<C, A> {
         let turn = lock.turn(rt);
         let mut held = lock.take(rt, key);
         let entries = held.book.take_journal();
-        lock.give::<TakesOut, R>(rt, key, held);
+        lock.give::<TakesOut>(key, held);
         drop(turn);
         entries
     }
@@ -287,7 +283,7 @@ impl<C: Drop, A: Allocator + Copy> Access<C, A> {
         let turn = lock.turn(rt);
         let held = lock.take(rt, key);
         let journal = held.book.journal();
-        lock.give::<Nothing, R>(rt, key, held);
+        lock.give::<Nothing>(key, held);
         drop(turn);
         journal
     }
@@ -304,13 +300,13 @@ impl<C: Drop, A: Allocator + Copy> Access<C, A> {
         let Access { lock, mut key } = self;
         let lock = wait_for_last(rt, lock);
         let held = lock.take(rt, &mut key);
-        lock.end(&mut key, teller);
+        lock.compare(&mut key, teller);
         let Locked {
             book,
             missed,
             made: _,
         } = held;
-        (book, missed)
+        (Box::into_inner(book), missed)
     }
 }
 

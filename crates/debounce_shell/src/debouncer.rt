@@ -11,7 +11,7 @@ ghost use Rattle.debounce_book.specs.JournalLaws.{LosesNoChange, GivesRawPaths, 
 ghost use Rattle.told_lock.specs.History.{Begins, picked};
 ghost use Rattle.debounce_shell.specs.Adds.{Adds};
 ghost use Rattle.debounce_shell.specs.Happened.{Opened, accepted, entries_of, is_emitting, journal_of};
-ghost use Rattle.debounce_shell.specs.Stands.{GivesJournal, IsLeft, IsStarted, RunsOn};
+ghost use Rattle.debounce_shell.specs.Stands.{GivesJournal, IsLeft, IsStarted, RunsOn, StaysButTells};
 ghost use Rattle.debounce_shell.specs.Start.{IsIo, IsStartError, IsStopped, IsTooSlow, too_slow, tick_nanos};
 ghost use Rattle.debounce_shell.specs.Watched.{AsksFirst, ListsFirst};
 
@@ -40,6 +40,9 @@ use std::time::{Clock, Duration, Instant};
 
 /// A debouncer that runs: a watcher of type `T` feeds it, and a thread of its own calls the handler.
 /// `C` is the cache of file numbers, and `R` the runtime.
+///
+/// Clauses see its watcher, the history of its book as far as it has seen it, and the parts of the
+/// journal that were taken out.
 ///
 /// Dropping it asks its thread to end, and does not wait for it. What still waits then is dropped.
 pub struct Debouncer<T: Drop, C: Drop, R: Threads + Wait + Drop, A: Allocator = Global> {
@@ -229,10 +232,7 @@ fn start_fed<
     requires ready { F.ready handler }
     requires tells { shared.old.owner.tells ≡ true }
     requires fresh { picked is_emitting shared.old.owner.seen ≡ [] }
-    ensures same { (shared.new.owner.lock ≡ shared.old.owner.lock)
-        × (shared.new.owner.seen ≡ shared.old.owner.seen)
-        × (shared.new.owner.out ≡ shared.old.owner.out)
-        × (shared.new.owner.keeps ≡ shared.old.owner.keeps) }
+    ensures same { StaysButTells shared.old.owner shared.new.owner }
     ensures ok { IfOk result (λ f. f.worker.promise.access.value.lock ≡ shared.old.owner.lock) }
     ensures err { IfErr result (λ e. (e ≡ out_of_memory) ⊎ IsIo e) }
 {
@@ -413,19 +413,19 @@ impl<T: Drop, C: Drop, R: Threads + Wait + Clock + Drop, A: Allocator + Copy> De
     /// goes on from the state to which the one before it led, so the parts in a row are the journal. The
     /// last one comes by `finish`, and `take_journal` of its book.
     pub fn take_journal(&mut self) -> Vec<Entry<A>, A>
-        ensures unchanged { (self.new.watcher ≡ self.old.watcher)
-            × (self.new.lock ≡ self.old.lock) }
+        ensures watcher { self.new.watcher ≡ self.old.watcher }
+        ensures lock { self.new.lock ≡ self.old.lock }
+        ensures seen { Begins self.old.seen self.new.seen }
         ensures parts { self.new.parts ≡ self.old.parts ++ result.items }
-        ensures seen { Begins self.old.seen self.new.seen
-            × (self.new.parts ≡ journal_of self.new.seen) }
+        ensures taken { self.new.parts ≡ journal_of self.new.seen }
         ensures legal { (s : State) × IsLegal (entries_of self.new.seen) s }
         ensures part { (s : State) × IsPart result.items s }
     {
         self.shared.owner.take_journal(&self.shared.rt)
     }
 
-    /// Returns another feed of this debouncer, for who reports by hand what its watcher doesn't. As long as it
-    /// isn't dropped, `finish` waits.
+    /// Returns another feed of this debouncer, for who reports by hand what its watcher doesn't.
+    /// `finish` waits until it was dropped.
     pub fn feed(&mut self) -> Result<Feed<C, R, A>, Error<A>>
     where
         R: Copy,
@@ -436,7 +436,7 @@ impl<T: Drop, C: Drop, R: Threads + Wait + Clock + Drop, A: Allocator + Copy> De
         Feed::new(&mut self.shared, self.start)
     }
 
-    /// Looks at the history up to now. What a receipt shows is in it.
+    /// Looks at the history up to now. What the receipt shows is in it.
     pub fn catch_up(&mut self, receipt: Receipt<C, A>)
         requires { receipt.lock ≡ self.old.lock }
         ensures watcher { self.new.watcher ≡ self.old.watcher }

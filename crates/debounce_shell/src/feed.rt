@@ -114,8 +114,8 @@ impl<
 }
 
 impl<C: FileIdCache<A> + Drop, R: Clock + Files + Wait + Drop, A: Allocator + Copy> Feed<C, R, A> {
-    /// Feeds an event or an error to the book, at the moment of the call. Then it is in every history that is
-    /// seen later. One that is refused isn't counted as missed: whoever feeds by hand has the error.
+    /// Feeds an event or an error to the book, at the moment of the call. One that is refused isn't
+    /// counted as missed: who feeds by hand has the error.
     pub fn feed(&mut self, item: Result<Event<A>, Error<A>>) -> Result<(), Error<A>>
         ensures lock { self.new.lock ≡ self.old.lock }
         ensures ok { OnOk result ((now : ℕ) × (exists : Bool)
@@ -132,9 +132,7 @@ impl<C: FileIdCache<A> + Drop, R: Clock + Files + Wait + Drop, A: Allocator + Co
 }
 
 impl<C: Drop, R: Wait + Drop, A: Allocator> Feed<C, R, A> {
-    /// Shows as much of the history as this feed has seen, to [`Debouncer::catch_up`].
-    ///
-    /// [`Debouncer::catch_up`]: crate::debouncer::Debouncer::catch_up
+    /// Shows as much of the history as this feed has seen, to `Debouncer::catch_up`.
     pub fn receipt(&mut self) -> Receipt<C, A>
         ensures same { self.new ≡ self.old }
         ensures shown { result ≡ self.old }

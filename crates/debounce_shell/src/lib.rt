@@ -5,6 +5,9 @@
 //! paths are watched. What happens in a turn of its thread is `turn` of `notify_watch`, whose contract
 //! says what the handler is called with; what happens under the lock is a step of `debounce_book`.
 //!
+//! The lock is that of `told_lock`: the contract of each call says what it adds to the history of the
+//! book, so what comes back at the end is what was under the lock.
+//!
 //! ```text
 //! let handler = |outcome: DebounceEventResult| { .. };
 //! let mut debouncer: Debouncer<MyWatcher, NoCache, HostRuntime> =

@@ -1,7 +1,7 @@
 //! What the threads of a debouncer share.
 ghost use Rattle.std.specs.Prelude.{◌≡◌, [], true, IfErr, IfOk};
 ghost use Rattle.notify_paths.specs.Errors.{out_of_memory};
-ghost use Rattle.debounce_shell.specs.Stands.{Stands, opening};
+ghost use Rattle.debounce_shell.specs.Stands.{Stands, StaysButTells, opening};
 
 use crate::access::Access;
 use debounce_book::book::Book;
@@ -57,7 +57,7 @@ impl<C: Drop, R: Wait + Copy + Drop, A: Allocator + Copy> Shared<C, R, A> {
             (s.owner.keeps ≡ true) × (s.owner.tells ≡ true)) }
         ensures err { IfErr result (λ e. e ≡ out_of_memory) }
     {
-        let Ok(owner) = Access::open(&rt, alloc, book) else {
+        let Ok(owner) = Access::open(alloc, book) else {
             return Err(Error::out_of_memory(alloc));
         };
         let Ok(signals) = Arc::new(alloc, Signals::new()) else {
@@ -87,10 +87,7 @@ impl<C: Drop, R: Wait + Copy + Drop, A: Allocator + Copy> Shared<C, R, A> {
     /// The worker's way to the book, which alone emits.
     pub(crate) fn telling(&mut self) -> Result<Access<C, A>, Error<A>>
         requires { self.old.owner.tells ≡ true }
-        ensures same { (self.new.owner.lock ≡ self.old.owner.lock)
-            × (self.new.owner.seen ≡ self.old.owner.seen)
-            × (self.new.owner.out ≡ self.old.owner.out)
-            × (self.new.owner.keeps ≡ self.old.owner.keeps) }
+        ensures same { StaysButTells self.old.owner self.new.owner }
         ensures other { IfOk result (λ a. (a.lock ≡ self.old.owner.lock)
             × (a.seen ≡ self.old.owner.seen) × (a.tells ≡ true)) }
         ensures err { IfErr result (λ e. e ≡ out_of_memory) }

@@ -3,7 +3,7 @@ use crate::build::{Host, Running, new_heap, path, sleep_a_turn, start};
 use crate::memory::Silent;
 use crate::running::wait_for_more;
 use notify_debouncer_full::{
-    Book, Command, Config, DebounceDataInner, DebounceEventResult, DebouncedEvent, Entry,
+    Book, Command, Config, DebounceDataInner, DebounceEventResult, DebouncedEvent, Entry, Error,
     ErrorKind, Feed, NoCache, PathBuf, RecursiveMode, Watcher, new_debouncer_opt,
     new_journaled_debouncer,
 };
@@ -151,6 +151,25 @@ pub fn a_journal_that_was_taken_is_not_given_whole<
     let taken = debouncer.take_journal();
     let (_, journal) = debouncer.stop_journal().expect(&rt, "memory");
     assert_eq!(rt; (taken.len(), journal.len()), (5, 0));
+}
+
+pub fn what_is_fed_by_hand_is_in_the_book<
+    T: Watcher<Feed<NoCache, R, A>, R, A>,
+    R: Host,
+    A: TestHeap,
+>(rt: R)
+    requires takes { (feed : _) → T.takes feed }
+{
+    let heap: A = new_heap(&rt);
+    let mut debouncer: Running<T, R, A> = start(rt, heap, long(), Silent);
+    let mut feed = debouncer.feed().expect(&rt, "memory");
+    let error = Error::new(heap, ErrorKind::PathNotFound);
+    feed.feed(Err(error)).expect(&rt, "memory");
+    let receipt = feed.receipt();
+    drop(feed);
+    debouncer.catch_up(receipt);
+    let (book, missed) = debouncer.finish();
+    assert_eq!(rt; (book.core().pending_errors().len(), missed), (1, 0));
 }
 
 pub fn a_long_tick_does_not_hold_up_a_stop<

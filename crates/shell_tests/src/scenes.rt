@@ -6,7 +6,7 @@ use crate::ending::{
     a_closure_counts_what_it_cannot_send, a_journal_that_was_taken_is_not_given_whole,
     a_long_tick_does_not_hold_up_a_stop, a_root_that_a_refused_unwatch_left_is_removed,
     a_tick_of_nothing_does_not_spin, the_parts_of_a_journal_in_a_row_are_the_journal,
-    what_was_never_emitted_is_in_the_book,
+    what_is_fed_by_hand_is_in_the_book, what_was_never_emitted_is_in_the_book,
 };
 use crate::losses::{
     a_clock_that_fails_is_counted_for_who_reads_it, a_refused_turn_is_counted_and_loses_nothing,
@@ -112,6 +112,7 @@ fn play_stubborn<T: Watcher<Feed<NoCache, R, A>, R, A>, R: Host, A: TestHeap>(rt
 {
     a_refused_watch_adds_no_root_and_a_refused_unwatch_drops_none::<T, R, A>(rt);
     a_long_tick_does_not_hold_up_a_stop::<T, R, A>(rt);
+    what_is_fed_by_hand_is_in_the_book::<T, R, A>(rt);
     a_watch_says_what_goes_wrong::<T, R, A>(rt);
 }
 

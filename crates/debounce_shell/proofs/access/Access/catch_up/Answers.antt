@@ -1,4 +1,4 @@
-use Rattle.crossbeam_queue.specs.Passes.{view}
+use Rattle.told_lock.specs.Passes.{view}
 use Rattle.debounce_shell.proofs.Gives.{lasts_beside, may_stay_beside}
 use Rattle.debounce_shell.proofs.access.Access.catch_up.Goals as goal
 

@@ -1,4 +1,4 @@
-use Rattle.crossbeam_queue.specs.Passes.{view}
+use Rattle.told_lock.specs.Passes.{view}
 use Rattle.debounce_shell.proofs.Gives.{left_by, told_by}
 use Rattle.debounce_shell.proofs.access.Access.close.Goals as goal
 
@@ -6,11 +6,13 @@ pub returns-clause-left : goal.returns-clause-left
 returns-clause-left g c =
     let took = c.take-held.ensures.took in
     let keeps = rw (← c.self.view_is) at c.requires.keeps in
-    rw (← c.self.view_is) (left_by (view c.self.inside.key) (view c.take-held.new.pass) c.take-held.result keeps took)
+    rw (← c.self.view_is, c.into_inner.ensures) (left_by (view c.self.inside.key) (view c.take-held.new.pass)
+    c.take-held.result keeps took)
 
 pub returns-clause-told : goal.returns-clause-told
 returns-clause-told g c =
     let took = c.take-held.ensures.took in
     let keeps = rw (← c.self.view_is) at c.requires.keeps in
-    rw (← c.self.view_is) (told_by (view c.self.inside.key) (view c.take-held.new.pass) c.take-held.result
-    (view c.args.teller).seen keeps took c.end.ensures.begins c.end.ensures.told)
+    rw (← c.self.view_is, c.into_inner.ensures) (told_by (view c.self.inside.key) (view c.take-held.new.pass)
+    c.take-held.result (view c.args.teller).seen keeps took c.compare.ensures.begins
+    (c.compare.ensures.told c.requires.tells))

@@ -1,5 +1,5 @@
-use Rattle.std.proofs.Common.{inr, ◌∙◌, sym, ap}
-use Rattle.crossbeam_queue.specs.Passes.{view}
+use Rattle.std.proofs.Common.{inr}
+use Rattle.told_lock.specs.Passes.{view}
 use Rattle.debounce_shell.proofs.Gives.{lasts_by, fed_adds, may_go}
 use Rattle.debounce_shell.proofs.Steps.{fed_stands}
 use Rattle.debounce_shell.proofs.access.Access.feed.Goals as goal
@@ -8,7 +8,8 @@ pub give-requires-clause-may : goal.give-requires-clause-may
 give-requires-clause-may g c =
     let took = c.take-held.ensures.took in
     let step = c.feed_step-answer in
-    let fed = fed_stands g.C.FileIdCache.rules _ _ _ _ _ c.args.item c.args.now c.args.exists step.result took.stands
+    let fed = fed_stands g.C.FileIdCache.rules _ _ _ _ _ c.args.item c.args.now c.args.exists step.result
+    (rw (← c.deref_mut.ensures.value) at took.stands)
     step.ensures.ok step.ensures.err in
     may_go _ _ fed.0 took.holds (rw (c.of-held.ensures, c.of-fed.ensures, c.of.ensures) fed.1) fed.2 (inr fed.3)
 

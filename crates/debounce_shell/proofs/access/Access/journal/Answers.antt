@@ -1,5 +1,5 @@
 use Rattle.std.proofs.Common.{◌∙◌}
-use Rattle.crossbeam_queue.specs.Passes.{view}
+use Rattle.told_lock.specs.Passes.{view}
 use Rattle.debounce_shell.proofs.Gives.{may_stay}
 use Rattle.debounce_shell.proofs.Steps.{gives_journal}
 use Rattle.debounce_shell.proofs.access.Access.journal.Goals as goal
@@ -10,6 +10,7 @@ give-requires-clause-may g c = let took = c.take-held.ensures.took in may_stay _
 pub returns-clause-left : goal.returns-clause-left
 returns-clause-left g c =
     let took = c.take-held.ensures.took in
-    rw (← c.self.view_is) (λ keeps first. gives_journal c.take-held.result.book c.take-held.result.missed
+    rw (← c.self.view_is) (λ keeps first. gives_journal c.deref-3.result.now c.take-held.result.missed
     (view c.self.inside.key).seen (view c.take-held.new.pass).taken (view c.take-held.new.pass).seen
-    c.journal-journal.result took.goes_on took.stands (took.taken keeps ∙ first) c.journal-journal.ensures.ok)
+    c.journal-journal.result took.goes_on (rw (← c.deref-3.ensures) at took.stands) (took.taken keeps ∙ first)
+    c.journal-journal.ensures.ok)

@@ -1,5 +1,4 @@
 use Rattle.std.proofs.Common.{inr, refl, [], ◌∷◌}
-use Rattle.crossbeam_queue.specs.Passes.{view}
 use Rattle.debounce_shell.specs.Happened.{Missed}
 use Rattle.debounce_shell.proofs.Gives.{lasts_by, may_go, miss_adds}
 use Rattle.debounce_shell.proofs.Steps.{miss_stands}

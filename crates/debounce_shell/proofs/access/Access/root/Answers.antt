@@ -1,5 +1,5 @@
 use Rattle.std.proofs.Common.{inr}
-use Rattle.crossbeam_queue.specs.Passes.{view}
+use Rattle.told_lock.specs.Passes.{view}
 use Rattle.debounce_model.specs.Command.{RootCommand, RootedReply}
 use Rattle.debounce_shell.proofs.Gives.{lasts_by, may_go, command_adds}
 use Rattle.debounce_shell.proofs.Steps.{root_stands}
@@ -9,7 +9,8 @@ pub give-requires-clause-may : goal.give-requires-clause-may
 give-requires-clause-may g c =
     let took = c.take-held.ensures.took in
     let step = c.root_step-answer in
-    let made = root_stands g.C.FileIdCache.rules _ _ _ _ _ c.args.path.now c.args.mode step.result took.stands
+    let made = root_stands g.C.FileIdCache.rules _ _ _ _ _ c.args.path.now c.args.mode step.result
+    (rw (← c.deref_mut.ensures.value) at took.stands)
     step.ensures.ok step.ensures.err in
     may_go _ _ made.0 took.holds (rw (c.of-held.ensures, c.of.ensures, c.of-2.ensures) made.1) made.2 (inr made.3)
 

@@ -1,5 +1,5 @@
 use Rattle.std.proofs.Common.{◌∙◌}
-use Rattle.crossbeam_queue.specs.Passes.{view}
+use Rattle.told_lock.specs.Passes.{view}
 use Rattle.debounce_book.proofs.Shown.{IsPart-written}
 use Rattle.debounce_shell.proofs.Gives.{goes_on_by, may_take, taken_out, whole_out}
 use Rattle.debounce_shell.proofs.access.Access.take_journal.Goals as goal
@@ -7,8 +7,8 @@ use Rattle.debounce_shell.proofs.access.Access.take_journal.Goals as goal
 pub give-requires-clause-may : goal.give-requires-clause-may
 give-requires-clause-may g c =
     let took = c.take-held.ensures.took in
-    may_take _ _ c.take-held.result.book took.holds (took.keeps ∙ (rw (← c.self.view_is) at c.requires)) took.stands
-    c.take_journal-entries.ensures.parted
+    may_take _ _ c.deref_mut.result.now took.holds (took.keeps ∙ (rw (← c.self.view_is) at c.requires))
+    (rw (← c.deref_mut.ensures.value) at took.stands) c.take_journal-entries.ensures.parted
 
 pub returns-clause-on : goal.returns-clause-on
 returns-clause-on g c =
@@ -22,9 +22,10 @@ returns-clause-parts g c =
     let gave = c.give.ensures.gave in
     let taken = c.take_journal-entries in
     let keeps = rw (← c.self.view_is) at c.requires in
-    rw (← c.self.view_is) (taken_out c.take-held.result.book taken.new.self c.take-held.result.missed
+    rw (← c.self.view_is) (taken_out c.deref_mut.result.now taken.new.self c.take-held.result.missed
     (view c.take-held.new.pass).taken (view c.self.inside.key).taken (view c.take-held.new.pass).seen
-    (view c.give.new.pass).taken taken.result.items took.stands taken.ensures.parted gave.makes.1 (took.taken keeps)
+    (view c.give.new.pass).taken taken.result.items
+    (rw (← c.deref_mut.ensures.value) at took.stands) taken.ensures.parted gave.makes.1 (took.taken keeps)
     taken.ensures.journal)
 
 pub returns-clause-taken : goal.returns-clause-taken
@@ -32,9 +33,9 @@ returns-clause-taken g c =
     let took = c.take-held.ensures.took in
     let gave = c.give.ensures.gave in
     let taken = c.take_journal-entries in
-    whole_out c.take-held.result.book taken.new.self c.take-held.result.missed (view c.take-held.new.pass).taken
-    (view c.take-held.new.pass).seen (view c.give.new.pass).taken (view c.give.new.pass).seen took.stands
-    taken.ensures.parted gave.makes.1 gave.makes.0
+    whole_out c.deref_mut.result.now taken.new.self c.take-held.result.missed (view c.take-held.new.pass).taken
+    (view c.take-held.new.pass).seen (view c.give.new.pass).taken (view c.give.new.pass).seen
+    (rw (← c.deref_mut.ensures.value) at took.stands) taken.ensures.parted gave.makes.1 gave.makes.0
 
 pub returns-clause-part : goal.returns-clause-part
 returns-clause-part g c =

@@ -1,5 +1,5 @@
 use Rattle.std.proofs.Common.{inl, ◌∙◌}
-use Rattle.crossbeam_queue.specs.Passes.{view}
+use Rattle.told_lock.specs.Passes.{view}
 use Rattle.debounce_shell.proofs.Gives.{lasts_by, may_go, tick_adds, tick_gains}
 use Rattle.debounce_shell.proofs.Steps.{tick_stands}
 use Rattle.debounce_shell.proofs.access.Access.tick.Goals as goal
@@ -7,7 +7,8 @@ use Rattle.debounce_shell.proofs.access.Access.tick.Goals as goal
 pub give-requires-clause-may : goal.give-requires-clause-may
 give-requires-clause-may g c =
     let took = c.take-held.ensures.took in
-    let gained = tick_stands g.C.FileIdCache.rules _ _ _ _ _ c.args.now _ _ took.stands c.tick_step-ticked.ensures in
+    let gained = tick_stands g.C.FileIdCache.rules _ _ _ _ _ c.args.now _ _
+    (rw (← c.deref_mut.ensures.value) at took.stands) c.tick_step-ticked.ensures in
     may_go _ _ gained.0 took.holds (rw (c.of-held.ensures, c.of.ensures) gained.1) gained.2
     (inl (took.tells ∙ (rw (← c.self.view_is) at c.requires)))
 
