@@ -50,7 +50,7 @@ impl<A: Allocator + Copy> Follower<A> {
         ensures reader { result.reader ≡ [] }
     {
         let core = DebounceDataInner::new(alloc, NoCache::new(), timeout);
-        // The proof reads here that the queues are well-formed.
+        // This call shows the proof that the queues are well-formed.
         let _waiting = core.waiting();
         Follower {
             core,

@@ -5,7 +5,7 @@ ghost use Rattle.debounce_model.specs.Command.{EventCommand, ErrorCommand, RootC
 ghost use Rattle.debounce_book.specs.Book.{IsDone, IsNotDone, IsUnwritten};
 
 use crate::book::Book;
-use crate::written::{draft, draft_batch, draft_errors, write};
+use crate::written::{draft, draft_errors, reserve, write};
 use debounce_model::command::{Command, Reply};
 use file_id_cache::cache::FileIdCache;
 use notify_paths::error::{Error, ErrorKind};
@@ -142,8 +142,9 @@ impl<C: FileIdCache<A>, A: Allocator + Copy> Book<C, A> {
         Ok(errors)
     }
 
-    /// Emits what is expired at the moment. The entry's batch is a copy of what waits, made before:
-    /// afterwards a refused copy could not be taken back.
+    /// Emits what is expired at the moment. With a journal each tick is an entry, also one that emits
+    /// nothing, and can be refused for want of room for it. The entry's batch is a copy, which the core makes
+    /// before it moves anything out: what was moved out couldn't be put back after a refusal.
     pub(crate) fn debounced_events(
         &mut self,
         from: usize,
@@ -163,9 +164,9 @@ impl<C: FileIdCache<A>, A: Allocator + Copy> Book<C, A> {
         let Some(journal) = journal else {
             return core.debounced_events(now);
         };
-        let copies = draft_batch(*alloc, core, journal, now)?;
-        let batch = core.debounced_events(now)?;
-        write(journal, from, Command::Tick(now), Reply::Batch(copies));
+        reserve(*alloc, journal)?;
+        let (batch, copy) = core.debounced_events_and_copy(now)?;
+        write(journal, from, Command::Tick(now), Reply::Batch(copy));
         Ok(batch)
     }
 }

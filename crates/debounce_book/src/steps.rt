@@ -41,8 +41,9 @@ pub fn feed_step<C: FileIdCache<A>, A: Allocator + Copy>(
 }
 
 /// Emits what is expired at the moment, and then the errors. A tick that is refused doesn't keep
-/// the errors back. If there is no memory for the errors' entry in the journal, they are kept, and
-/// none is emitted; without a journal they always are emitted.
+/// the errors back. If there is no memory for the errors' entry in the journal, they wait for the next
+/// tick, and no error is emitted, which isn't counted as a refusal; without a journal errors are always
+/// emitted.
 pub fn tick_step<C: FileIdCache<A>, A: Allocator + Copy>(
     book: &mut Book<C, A>,
     now: Moment,

@@ -1,21 +1,21 @@
-//! What a journal writes of a command: its copies are made before the command is carried out, and the
-//! entry is written after it.
+//! What a journal writes of a command: its copies are made before anything has changed, and the entry is
+//! written after it.
 ghost use Rattle.std.specs.Prelude.{◌≡◌, ◌+◌, ◌≤◌, ◌++◌, ◌∷◌, [], IfOk, IfErr, OnOk, vec_len, vec_capacity};
 ghost use Rattle.notify_paths.specs.Errors.{out_of_memory};
 ghost use Rattle.debounce_model.specs.CommandView.{command_value, reply_value};
-ghost use Rattle.debounce_model.specs.Tick.{IsOnlyBatch};
 ghost use Rattle.debounce_book.specs.Book.{entry_of};
 
 use crate::entry::Entry;
 use debounce_core::data::DebounceDataInner;
 use debounce_model::command::{Command, Reply};
 use notify_paths::error::Error;
-use notify_types::event::DebouncedEvent;
-use notify_types::time::Moment;
 use std::alloc::Allocator;
 
 /// Room for one more entry.
-fn reserve<A: Allocator + Copy>(alloc: A, journal: &mut Vec<Entry<A>, A>) -> Result<(), Error<A>>
+pub(crate) fn reserve<A: Allocator + Copy>(
+    alloc: A,
+    journal: &mut Vec<Entry<A>, A>,
+) -> Result<(), Error<A>>
     ensures room { OnOk result (vec_len journal.new + 1 ≤ vec_capacity journal.new) }
     ensures same { journal.new.items ≡ journal.old.items }
     ensures err { IfErr result (λ e. e ≡ out_of_memory) }
@@ -53,22 +53,6 @@ pub(crate) fn draft_errors<C, A: Allocator + Copy>(
     core.pending_errors()
         .to_vec(alloc)
         .map_err(|_| Error::out_of_memory(alloc))
-}
-
-/// Room for one more entry, and the batch that a tick at the moment will emit.
-pub(crate) fn draft_batch<C, A: Allocator + Copy>(
-    alloc: A,
-    core: &DebounceDataInner<C, A>,
-    journal: &mut Vec<Entry<A>, A>,
-    now: Moment,
-) -> Result<Vec<DebouncedEvent<A>, A>, Error<A>>
-    ensures ok { IfOk result (λ batch. IsOnlyBatch core.now.state now batch.items) }
-    ensures room { OnOk result (vec_len journal.new + 1 ≤ vec_capacity journal.new) }
-    ensures same { journal.new.items ≡ journal.old.items }
-    ensures err { IfErr result (λ e. e ≡ out_of_memory) }
-{
-    reserve(alloc, journal)?;
-    core.batch_at(now)
 }
 
 /// Writes the entry of a command that had this reply into the journal, in which there is room.

@@ -8,11 +8,11 @@ ghost use Rattle.debounce_model.specs.Table.{FitsCase, renamed_to};
 ghost use Rattle.debounce_model.specs.WellFormed.{AreQueues};
 ghost use Rattle.debounce_core.specs.StateView.{IsRow};
 
+use crate::joined_rename::join::join;
 use crate::rename_slot::{RenameSlot, first_half};
 use debounce_model::case::Case;
 use debounce_model::file_id::FileId;
-use front_index::queues::IndexedQueues;
-use joined_rename::join::join;
+use event_queues::queues::IndexedQueues;
 use notify_types::event::DebouncedEvent;
 use std::alloc::{AllocError, Allocator};
 

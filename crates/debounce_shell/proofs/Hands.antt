@@ -3,7 +3,8 @@ use Rattle.std.proofs.Common.{◌≡◌, ℕ, List, [], ◌∷◌, ◌++◌, Res
 use Rattle.std.specs.declared.vec.Vec.{Vec}
 use Rattle.notify_paths.specs.Errors.{ErrorValue}
 use Rattle.notify_types.specs.Event.{Timed}
-use Rattle.notify_watch.specs.Turn.{Outcome, Turns, HandsList, HandsBatch, HandsErrors}
+use Rattle.notify_watch.specs.Handler.{Outcome}
+use Rattle.debounce_shell.specs.Turn.{Turns, HandsList, HandsBatch, HandsErrors}
 use Rattle.debounce_model.specs.Command.{ErrorsCommand, ErrorsReply}
 use Rattle.told_lock.specs.History.{picked}
 use Rattle.debounce_shell.specs.Adds.{BatchMakes, ErrorsMake, TicksOn}

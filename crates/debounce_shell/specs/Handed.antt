@@ -3,7 +3,8 @@ use Rattle.std.specs.Prelude.{◌≡◌, ◌++◌, [], ◌∷◌, Ok}
 use Rattle.std.specs.declared.vec.Vec.{Vec}
 use Rattle.notify_paths.specs.Errors.{ErrorValue}
 use Rattle.notify_types.specs.Event.{Timed}
-use Rattle.notify_watch.specs.Turn.{Outcome, HandsBatch, HandsErrors}
+use Rattle.notify_watch.specs.Handler.{Outcome}
+use Rattle.debounce_shell.specs.Turn.{HandsBatch, HandsErrors}
 use Rattle.debounce_model.specs.Command.{ReplyValue, ErrorsReply, BatchReply}
 use Rattle.told_lock.specs.History.{picked}
 use Rattle.debounce_shell.specs.Happened.{HappenedValue, History, Accepted, is_emitting}

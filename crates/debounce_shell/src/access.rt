@@ -170,8 +170,8 @@ impl<C: FileIdCache<A> + Drop, A: Allocator + Copy> Access<C, A> {
         answer
     }
 
-    /// Emits what is expired at the moment, and then the errors. Nothing else was emitted since the last
-    /// such call.
+    /// Emits what is expired at the moment, and then the errors. The history tells that nothing was emitted
+    /// since the last such call.
     pub(crate) fn tick<R: Wait>(&mut self, rt: &R, now: Moment) -> Ticked<A>
         requires { self.old.tells ≡ true }
         ensures lasts { Lasts self.old self.new }

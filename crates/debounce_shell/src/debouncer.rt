@@ -48,7 +48,7 @@ use std::time::{Clock, Duration, Instant};
 pub struct Debouncer<T: Drop, C: Drop, R: Threads + Wait + Drop, A: Allocator = Global> {
     watcher: T,
     shared: Shared<C, R, A>,
-    /// For who asks without a `&mut`.
+    /// For whoever asks without a `&mut`.
     spare: Mutex<Access<C, A>>,
     worker: Worker<C, A>,
     /// The moment from which it counts.
@@ -363,7 +363,7 @@ impl<
             signals: _,
         } = shared;
         let (book, missed) = owner.close(&rt, teller);
-        // The proof reads here that the journal is legal, or the part of it.
+        // This call shows the proof that the journal is legal, or the part of it.
         let _ = book.is_journaled();
         (book, missed)
     }
@@ -424,7 +424,7 @@ impl<T: Drop, C: Drop, R: Threads + Wait + Clock + Drop, A: Allocator + Copy> De
         self.shared.owner.take_journal(&self.shared.rt)
     }
 
-    /// Returns another feed of this debouncer, for who reports by hand what its watcher doesn't.
+    /// Returns another feed of this debouncer, for whoever reports by hand what its watcher doesn't.
     /// `finish` waits until it was dropped.
     pub fn feed(&mut self) -> Result<Feed<C, R, A>, Error<A>>
     where

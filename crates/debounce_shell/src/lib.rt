@@ -2,8 +2,8 @@
 //! batches and errors.
 //!
 //! [`debouncer::new_debouncer_opt`] starts it all and returns a [`debouncer::Debouncer`], by which
-//! paths are watched. What happens in a turn of its thread is `turn` of `notify_watch`, whose contract
-//! says what the handler is called with; what happens under the lock is a step of `debounce_book`.
+//! paths are watched. What happens in a turn of its thread is [`turn::turn`], whose contract says what the
+//! handler is called with; what happens under the lock is a step of `debounce_book`.
 //!
 //! The lock is that of `told_lock`: the contract of each call says what it adds to the history of the
 //! book, so what comes back at the end is what was under the lock.
@@ -24,6 +24,7 @@ mod locked;
 mod made;
 pub mod send_to;
 mod shared;
+pub mod turn;
 mod worker;
 
 pub use clock::now;

@@ -25,7 +25,7 @@ pub(crate) struct Shared<C: Drop, R: Wait + Drop, A: Allocator> {
 pub(crate) struct Signals {
     /// Set once the worker is to end.
     pub stop: AtomicBool,
-    /// How many events and errors of the watcher were refused, for who doesn't wait for the lock.
+    /// How many events and errors of the watcher were refused, for whoever doesn't wait for the lock.
     pub missed: AtomicU64,
     /// How many turns of the worker were refused.
     pub refused_turns: AtomicU64,

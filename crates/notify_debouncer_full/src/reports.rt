@@ -171,7 +171,7 @@ impl<T: Drop, R: DebouncerRuntime, A: DebouncerAllocator> Reports<T, R, A> {
         self.queue.recv_timeout(&self.rt, duration).ok()
     }
 
-    /// Returns the channel by which the reports come, for who waits otherwise than by `next` and
+    /// Returns the channel by which the reports come, for whoever waits otherwise than by `next` and
     /// `next_within`. What is received from it isn't given by them.
     pub fn queue(&self) -> &Receiver<DebounceEventResult<A>, A>
         ensures { result.now ≡ self.now.queue }

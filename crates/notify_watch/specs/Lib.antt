@@ -1,2 +1,2 @@
 pub mod Config
-pub mod Turn
+pub mod Handler

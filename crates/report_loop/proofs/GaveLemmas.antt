@@ -2,7 +2,7 @@
 use Rattle.std.proofs.Common.{◌≡◌, ◌∙◌, List, [], ◌∷◌, ◌++◌, refl, sym, subst, ap}
 use Rattle.std.specs.Prelude.{ℕ, Some, Result, Ok, Err, MatchResult, map}
 use Rattle.std.specs.declared.alloc.Global.{Global}
-use Rattle.notify_watch.specs.Turn.{Outcome}
+use Rattle.notify_watch.specs.Handler.{Outcome}
 use Rattle.watch_program.specs.declared.fault.Fault.{Fault}
 use Rattle.report_loop.specs.declared.source.Rest.{Rest}
 use Rattle.report_loop.specs.Loop.{Answer, Calls, DoesAll, Follows, Program, Source, Step, TakesEach, TakesRest}

@@ -2,7 +2,7 @@
 use Rattle.std.proofs.Common.{◌≡◌, List, [], ◌∷◌, subst, ap}
 use Rattle.std.specs.Prelude.{ℕ, Some, None, Result, Ok, Err, MatchResult}
 use Rattle.std.specs.declared.alloc.Global.{Global}
-use Rattle.notify_watch.specs.Turn.{Outcome}
+use Rattle.notify_watch.specs.Handler.{Outcome}
 use Rattle.watch_program.specs.declared.fault.Fault.{Fault}
 use Rattle.report_loop.specs.declared.source.Given.TheVariants.{Over}
 use Rattle.report_loop.specs.declared.source.Rest.{Rest}

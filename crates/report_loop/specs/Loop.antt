@@ -2,7 +2,7 @@
 use Rattle.std.specs.Prelude.{◌≡◌, ℕ, List, [], ◌∷◌, Option, None, Some, Result, Ok, Err, MatchResult}
 use Rattle.std.specs.declared.alloc.Global.{Global}
 use Rattle.std.specs.declared.time.Duration.{Duration}
-use Rattle.notify_watch.specs.Turn.{Outcome}
+use Rattle.notify_watch.specs.Handler.{Outcome}
 use Rattle.watch_program.specs.declared.fault.Fault.{Fault}
 use Rattle.report_loop.specs.declared.source.Given.{Given}
 use Rattle.report_loop.specs.declared.source.Given.TheVariants.{Report, Nothing, Over}

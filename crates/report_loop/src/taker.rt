@@ -12,7 +12,7 @@ use watch_program::Fault;
 pub trait TakesReports: Drop {
     ghost use Rattle.std.specs.declared.alloc.Global.{Global};
     ghost use Rattle.std.specs.declared.time.Duration.{Duration};
-    ghost use Rattle.notify_watch.specs.Turn.{Outcome};
+    ghost use Rattle.notify_watch.specs.Handler.{Outcome};
     ghost use Rattle.report_loop.specs.Loop.{Answer};
 
     /// What its beginning answers and leaves.

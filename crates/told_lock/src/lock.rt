@@ -53,12 +53,13 @@ impl<T: Told<E> + Drop, E, A: Allocator + Copy> Lock<T, E, A> {
 }
 
 impl<T: Told<E> + Drop, E, A: Allocator> Lock<T, E, A> {
-    /// Waits for its turn. Who has the turn finds the value in its place.
+    /// Waits for its turn. Whoever has the turn finds the value in its place, so `take` succeeds at once: the
+    /// mutex makes threads wait, and the table says what was in it.
     pub fn turn<R: Wait>(&self, rt: &R) -> MutexGuard<'_, ()> {
         self.turn.lock(rt)
     }
 
-    /// Takes the value out.
+    /// Takes the value out. Without the turn it tries until the value is back.
     pub fn take<R: Wait>(&self, rt: &R, pass: &mut Pass<T, E>) -> T
         requires { IsPassOf self.now.table.shared.table_id pass.old }
         ensures lock { IsHolderOf self.now.table.shared.table_id pass.new }

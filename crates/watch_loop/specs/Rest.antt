@@ -4,7 +4,7 @@ use Rattle.std.specs.declared.alloc.Global.{Global}
 use Rattle.std.specs.declared.vec.Vec.{Vec}
 use Rattle.notify_paths.specs.Errors.{ErrorValue}
 use Rattle.notify_types.specs.Event.{Timed}
-use Rattle.notify_watch.specs.Turn.{Outcome}
+use Rattle.notify_watch.specs.Handler.{Outcome}
 use Rattle.debounce_model.specs.State.{State}
 use Rattle.debounce_model.specs.Tick.{IsOutlook}
 

@@ -1,7 +1,7 @@
 //! What is left when a debouncer ends.
 ghost use Rattle.std.specs.Prelude.{◌≡◌, ◌++◌, List, IfErr, IfOk, OnOk};
 ghost use Rattle.std.specs.declared.alloc.Global.{Global};
-ghost use Rattle.notify_watch.specs.Turn.{Outcome};
+ghost use Rattle.notify_watch.specs.Handler.{Outcome};
 ghost use Rattle.watch_loop.specs.Rest.{IsBatchOf, IsLeft, IsListOf, Waits};
 ghost use Rattle.watch_program.specs.declared.fault.Fault.TheVariants.{Memory};
 

@@ -1,0 +1,61 @@
+//! The queues of all paths and an index of their fronts, as two values that need not fit.
+ghost use Rattle.std.specs.Prelude.{◌≡◌, ◌<◌, ◌^◌, []};
+ghost use Rattle.debounce_model.specs.Due.{is_any_due};
+ghost use Rattle.debounce_model.specs.Queues.{waiting_in};
+ghost use Rattle.event_queues.specs.Due.{is_due};
+ghost use Rattle.event_queues.specs.Fronts.{IsIndexed};
+
+use crate::due::Due;
+use crate::fronts::{Fronts, is_oldest_due};
+use crate::queues::QueueMap;
+use notify_paths::path::PathBuf;
+use std::alloc::Allocator;
+use std::collections::{BTreeMap, BTreeSet};
+
+/// The queues of all paths, and an index of their fronts. It has no law, since one of the two changes
+/// before the other: each method says what it asks of them, and what it leaves.
+#[derive(Drop)]
+pub(crate) struct Index<A: Allocator> {
+    pub(crate) map: QueueMap<A>,
+    pub(crate) fronts: Fronts<A>,
+    /// Has room for a copy of each key, so that a removal needs no memory. What it holds says nothing.
+    pub(crate) spare: PathBuf<A>,
+    pub(crate) alloc: A,
+}
+
+impl<A: Allocator + Copy> Index<A> {
+    /// Returns the index of no queue.
+    pub(crate) fn new(alloc: A) -> Index<A>
+        ensures map { result.map.entries ≡ [] }
+        ensures indexed { IsIndexed result.fronts result.map.entries }
+    {
+        Index {
+            map: BTreeMap::new(alloc),
+            fronts: BTreeSet::new(alloc),
+            spare: PathBuf::empty(alloc),
+            alloc,
+        }
+    }
+
+    /// Whether the front of some queue is due. It looks at one pair.
+    pub(crate) fn is_any_due(&self, due: Due) -> bool
+        requires { IsIndexed self.now.fronts self.now.map.entries }
+        ensures { result ≡ is_any_due (is_due due) self.now.map.entries }
+    {
+        // This call shows the proof that the paths ascend.
+        let _len = self.map.len();
+        is_oldest_due(&self.fronts, due)
+    }
+
+    /// Returns how many events wait.
+    pub(crate) fn waiting(&self) -> u64
+        requires { waiting_in self.now.map.entries < 2 ^ 64 }
+        ensures { result ≡ waiting_in self.now.map.entries }
+    {
+        let mut count = 0;
+        for (_path, queue) in &self.map {
+            count += queue.events().len() as u64;
+        }
+        count
+    }
+}

@@ -1,0 +1,37 @@
+//! The queues of all paths: the events that wait at each, what of them is due, and an index of the queues by
+//! the time of their fronts, newer ones first.
+//!
+//! [`queue::Queue`] is the queue of one path, [`due::Due`] says which of its events are due, and [`first`]
+//! what its first event says of the path. [`queues::IndexedQueues`] holds the queues of all paths and the
+//! index, and each of its methods leaves the index with just the fronts of the queues. A tick looks at the
+//! oldest pair of the index, and opens only the queues of the pairs that are due; if these are many, it
+//! goes over all queues instead of a search for each ([`plan::DuePlan`]).
+//!
+//! ```text
+//! let mut queues = IndexedQueues::new(rt.alloc());
+//! queues.push(event)?;
+//! if queues.is_any_due(due) {
+//!     let opened = queues.trim(due)?;
+//! }
+//! ```
+#![tactic(auto)]
+
+mod below;
+mod change;
+pub mod due;
+mod few;
+pub mod first;
+mod front;
+mod fronts;
+mod index;
+pub mod plan;
+mod push;
+mod put;
+mod put_all;
+pub mod queue;
+pub mod queues;
+mod removal;
+mod room;
+mod settle;
+mod trim;
+mod whole;
