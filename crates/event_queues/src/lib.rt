@@ -11,7 +11,7 @@
 //! let mut queues = IndexedQueues::new(rt.alloc());
 //! queues.push(event)?;
 //! if queues.is_any_due(due) {
-//!     let opened = queues.trim(due)?;
+//!     let visited = queues.trim(due)?;
 //! }
 //! ```
 #![tactic(auto)]

@@ -33,7 +33,7 @@ give_first-requires g c =
     let n : length p.items ≡ length a + length b = order_counted (a ++ b) p.items
     c.requires.places ∙ length-append a b in
     let longer : length c.take_due.new.out.items ≡ length m.items + length b =
-    ap length c.in_ok-opened.ensures.moved ∙ length-append m.items b in
+    ap length c.in_ok-visited.ensures.moved ∙ length-append m.items b in
     omega (
       arith,
       n,

@@ -1,5 +1,5 @@
 -- What the core answers is what the book answers, with one entry if a journal is kept.
-use Rattle.std.proofs.Common.{Err, Some, inr, refl, sym}
+use Rattle.std.proofs.Common.{Err, Some, inr, refl}
 use Rattle.std.proofs.lemmas.Result.{err_from_is_err_and}
 use Rattle.debounce_model.specs.Command.{BatchReply, TickCommand}
 use Rattle.debounce_book.proofs.Replay.{IsDone-written, IsNotDone-refused, IsUnwritten-kept, LeadsTo-written, tick-refused}
@@ -19,9 +19,9 @@ returns-in_err-batch-clause-err g c =
     let b = c.self.inside in
     let p = err_from_is_err_and c.from_residual-in_err-batch.result c.from_residual-in_err-batch.ensures.1 in
     rw (p.1, p.2, ← c.self.view_is, c.in-Some.is, c.in_ok-reserve.ensures.same)
-    (IsNotDone-refused g.C.FileIdCache.rules b.core c.debounced_events_and_copy-batch.new.self b.is_whole
+    (IsNotDone-refused g.C.FileIdCache.rules b.core c.debounced_events_and_copy.new.self b.is_whole
     (Some c.in-Some.journal.items) (TickCommand c.args.now) _
-    (tick-refused {T = Unit {0}} g.C.FileIdCache.rules b.core c.debounced_events_and_copy-batch.new.self c.args.now
+    (tick-refused {T = Unit {0}} g.C.FileIdCache.rules b.core c.debounced_events_and_copy.new.self c.args.now
     (Err c.in_err-batch.field-0.0) c.in_err-batch.ensures.err c.in_err-batch.ensures.sure))
 
 pub invariant_of-self-2 : goal.invariant_of-self-2
@@ -29,7 +29,7 @@ invariant_of-self-2 g c =
     let b = c.self.inside in
     let leads = rw c.in-Some.is at c.self.invariant in
     rw (c.write.ensures, c.in_ok-reserve.ensures.same, c.in_ok-batch.ensures.copy)
-    (LeadsTo-written g.C.FileIdCache.rules b.core c.debounced_events_and_copy-batch.new.self b.is_whole
+    (LeadsTo-written g.C.FileIdCache.rules b.core c.debounced_events_and_copy.new.self b.is_whole
     c.in-Some.journal.items c.args.from (TickCommand c.args.now) (BatchReply c.in_ok-batch.batch.items) refl
     (c.in_ok-batch.ensures.batch, c.in_ok-batch.ensures.ok) leads)
 
@@ -43,6 +43,6 @@ returns-clause-ok g c =
       c.in_ok-reserve.ensures.same,
       c.in_ok-batch.ensures.copy,
     )
-    (IsDone-written g.C.FileIdCache.rules b.core c.debounced_events_and_copy-batch.new.self b.is_whole
+    (IsDone-written g.C.FileIdCache.rules b.core c.debounced_events_and_copy.new.self b.is_whole
     c.in-Some.journal.items c.args.from (TickCommand c.args.now) (BatchReply c.in_ok-batch.batch.items)
     (c.in_ok-batch.ensures.batch, c.in_ok-batch.ensures.ok))

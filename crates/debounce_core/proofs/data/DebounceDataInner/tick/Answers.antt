@@ -61,7 +61,7 @@ returns-clause-ok g c =
       ← c.state.view_is,
       c.in-Ok.ensures.rests,
       c.in-Ok.ensures.slot,
-      c.in-Ok.ensures.opened,
+      c.in-Ok.ensures.visited,
       c.len.ensures,
       b.ok.0,
       c.max-now.ensures,
