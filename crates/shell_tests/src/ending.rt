@@ -1,5 +1,7 @@
 //! Debouncers that end: how soon, and what they give back then.
-use crate::build::{Host, Running, new_heap, path, sleep_a_turn, start};
+use crate::build::{
+    Host, Running, finish, new_heap, path, sleep_a_turn, start, stop_journal, unwatch, watch,
+};
 use crate::memory::Silent;
 use crate::running::wait_for_more;
 use notify_debouncer_full::{
@@ -33,11 +35,9 @@ pub fn what_was_never_emitted_is_in_the_book<
 {
     let heap: A = new_heap(&rt);
     let mut debouncer: Running<T, R, A> = start(rt, heap, long(), Silent);
-    debouncer
-        .watch(&path(&rt, heap, "/w"), RecursiveMode::Recursive)
-        .expect(&rt, "a watch");
+    watch(&rt, heap, &mut debouncer, "/w");
     let seen = debouncer.outlook().expect(&rt, "memory");
-    let (book, missed) = debouncer.finish();
+    let (book, missed) = finish(debouncer);
     assert_eq!(rt; missed, 0);
     check_pending(&rt, &book, &seen);
     let (timeout, journal) = book.into_journal();
@@ -79,22 +79,17 @@ pub fn the_parts_of_a_journal_in_a_row_are_the_journal<
     requires takes { (feed : _) → T.takes feed }
 {
     let heap: A = new_heap(&rt);
-    let place = path(&rt, heap, "/w");
     let mut debouncer: Running<T, R, A> = start(rt, heap, long(), Silent);
-    debouncer
-        .watch(&place, RecursiveMode::Recursive)
-        .expect(&rt, "a watch");
+    watch(&rt, heap, &mut debouncer, "/w");
     heap.refuse(1);
     let first = debouncer.take_journal();
     let asked = heap.left() == 0;
     heap.refuse(0);
     let empty = debouncer.take_journal();
-    debouncer.unwatch(&place).expect(&rt, "no watch any longer");
+    unwatch(&rt, heap, &mut debouncer, "/w");
     let second = debouncer.take_journal();
-    debouncer
-        .watch(&place, RecursiveMode::Recursive)
-        .expect(&rt, "a watch");
-    let (book, missed) = debouncer.finish();
+    watch(&rt, heap, &mut debouncer, "/w");
+    let (book, missed) = finish(debouncer);
     assert!(rt; !asked && missed == 0);
     assert_eq!(rt; [first.len(), empty.len(), second.len()], [5, 0, 1]);
     check_parts(&rt, heap, first, second, book);
@@ -145,11 +140,9 @@ pub fn a_journal_that_was_taken_is_not_given_whole<
 {
     let heap: A = new_heap(&rt);
     let mut debouncer: Running<T, R, A> = start(rt, heap, long(), Silent);
-    debouncer
-        .watch(&path(&rt, heap, "/w"), RecursiveMode::Recursive)
-        .expect(&rt, "a watch");
+    watch(&rt, heap, &mut debouncer, "/w");
     let taken = debouncer.take_journal();
-    let (_, journal) = debouncer.stop_journal().expect(&rt, "memory");
+    let (_, journal) = stop_journal(&rt, debouncer);
     assert_eq!(rt; (taken.len(), journal.len()), (5, 0));
 }
 
@@ -168,7 +161,7 @@ pub fn what_is_fed_by_hand_is_in_the_book<
     let receipt = feed.receipt();
     drop(feed);
     debouncer.catch_up(receipt);
-    let (book, missed) = debouncer.finish();
+    let (book, missed) = finish(debouncer);
     assert_eq!(rt; (book.core().pending_errors().len(), missed), (1, 0));
 }
 
@@ -187,7 +180,7 @@ pub fn a_long_tick_does_not_hold_up_a_stop<
         let stopped: Running<T, R, A> = start(rt, heap, long(), Silent);
         stopped.stop();
         let finished: Running<T, R, A> = start(rt, heap, long(), Silent);
-        finished.finish();
+        finish(finished);
         if millis_since(&rt, begun) < 2000 {
             soon = true;
             break;
@@ -213,7 +206,7 @@ pub fn a_tick_of_nothing_does_not_spin<T: Watcher<Feed<NoCache, R>, R, Global>, 
     for _ in 0..20 {
         sleep_a_turn(&rt);
     }
-    let (_, journal) = debouncer.stop_journal().expect(&rt, "memory");
+    let (_, journal) = stop_journal(&rt, debouncer);
     let ticks = journal
         .iter()
         .filter(|entry| matches!(entry.command, Command::Tick(_)))
@@ -246,11 +239,9 @@ pub fn a_closure_counts_what_it_cannot_send<T: Watcher<Feed<NoCache, R>, R, Glob
         Config::default(),
     );
     let mut debouncer = made.expect(&rt, "a debouncer");
-    debouncer
-        .watch(&path(&rt, rt.alloc(), "/w"), RecursiveMode::Recursive)
-        .expect(&rt, "a watch");
+    watch(&rt, rt.alloc(), &mut debouncer, "/w");
     let counted = wait_for_more(&rt, &lost, 0);
-    debouncer.finish();
+    finish(debouncer);
     assert!(rt; counted);
 }
 
@@ -266,6 +257,14 @@ fn is_starved<T: Watcher<Feed<NoCache, R, A>, R, A>, R: Host, A: TestHeap>(
     refusal == Some(ErrorKind::Memory)
 }
 
+/// Drops the root, and answers whether that was done.
+fn is_removed<T: Watcher<Feed<NoCache, R, A>, R, A>, R: Host, A: TestHeap>(
+    debouncer: &mut Running<T, R, A>,
+    place: &PathBuf<A>,
+) -> bool {
+    debouncer.remove_root(place).is_ok()
+}
+
 pub fn a_root_that_a_refused_unwatch_left_is_removed<
     T: Watcher<Feed<NoCache, R, A>, R, A>,
     R: Host,
@@ -276,12 +275,10 @@ pub fn a_root_that_a_refused_unwatch_left_is_removed<
     let heap: A = new_heap(&rt);
     let mut debouncer: Running<T, R, A> = start(rt, heap, long(), Silent);
     let place = path(&rt, heap, "/w");
-    debouncer
-        .watch(&place, RecursiveMode::Recursive)
-        .expect(&rt, "memory");
+    watch(&rt, heap, &mut debouncer, "/w");
     let starved = is_starved(heap, &mut debouncer, &place);
-    let removed = debouncer.remove_root(&place).is_ok();
-    let (book, _) = debouncer.finish();
+    let removed = is_removed(&mut debouncer, &place);
+    let (book, _) = finish(debouncer);
     let mode = book.core().recursive_mode(&place);
     assert_eq!(rt;
         (starved, removed, mode),

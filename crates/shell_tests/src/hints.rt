@@ -1,9 +1,8 @@
 //! Hints: a watcher that looks each hour, and is asked to look at once.
 use crate::build::{Host, path};
-use crate::reports::{entry, new_top};
+use crate::reports::{entry, finish, new_top, start_reports, watch};
 use notify_debouncer_full::{
-    Config, DebounceEventResult, DebouncedEvent, Hints, PathBuf, RecommendedReports, RecursiveMode,
-    Reports,
+    Config, DebounceEventResult, DebouncedEvent, Hints, RecommendedReports, RecursiveMode,
 };
 use std::fs::Files;
 use std::os::unix::fs::symlink;
@@ -12,15 +11,16 @@ use std::time::{Clock, Duration, Instant};
 use std::{fs, process};
 
 /// Watches a path by looks each hour.
-fn start<R: Host>(rt: R, place: &PathBuf) -> RecommendedReports<R> {
+fn start<R: Host>(rt: R, place: &str) -> RecommendedReports<R> {
     let config = Config::default().with_poll_interval(Duration::from_secs(3600));
-    let timeout = Duration::from_millis(4);
-    let started = Reports::start(rt, rt.alloc(), timeout, None, config);
-    let mut reports: RecommendedReports<R> = started.expect(&rt, "a start");
+    let mut reports = start_reports(rt, config);
+    watch(rt, &mut reports, place, RecursiveMode::Recursive);
     reports
-        .watch(place, RecursiveMode::Recursive)
-        .expect(&rt, "a watch");
-    reports
+}
+
+/// What takes hints for the watcher.
+fn hints_of<R: Host>(rt: R, reports: &RecommendedReports<R>) -> Hints<R> {
+    reports.debouncer().watcher().hints().expect(&rt, "memory")
 }
 
 /// Asks for a look at an entry of the folder.
@@ -61,14 +61,14 @@ fn push_letters<R: Host>(rt: R, letters: &mut Vec<u8>, batch: &[DebouncedEvent])
 
 /// Makes three files, and hints at the last one. Returns the letters of their events, in order.
 fn follow_hint<R: Host>(rt: R, top: &str) -> Vec<u8> {
-    let reports = start(rt, &path(&rt, rt.alloc(), top));
-    let hints = reports.debouncer().watcher().hints().expect(&rt, "memory");
+    let reports = start(rt, top);
+    let hints = hints_of(rt, &reports);
     for name in ["/x", "/y", "/z"] {
         fs::write(&rt, entry(&rt, top, name).as_str(), "x").expect(&rt, "a file");
     }
     hint(rt, &hints, top, "/z");
     let letters = next_letters(rt, &reports, 3);
-    reports.finish();
+    finish(reports);
     letters
 }
 
@@ -98,6 +98,12 @@ fn make_tree(rt: &(impl Abort + AllocGlobal + Files), top: &str) {
     turn_link(rt, top, "/d");
 }
 
+/// Changes the file in the folder, and lets the link lead back.
+fn change_file(rt: &(impl Abort + AllocGlobal + Files), top: &str) {
+    fs::write(rt, entry(rt, top, "/d/x").as_str(), "xx").expect(rt, "a file");
+    turn_link(rt, top, "/d");
+}
+
 /// Whether a batch comes, after errors of rounds that were made before the link led back.
 fn tells<R: Host>(reports: &RecommendedReports<R>) -> bool {
     for _ in 0..LIMIT {
@@ -113,16 +119,14 @@ fn tells<R: Host>(reports: &RecommendedReports<R>) -> bool {
 /// Hints at a file below a link that leads to itself. Then the link leads back, and the file has changed.
 /// Returns whether an error came of the hint, and whether the change is reported though no hint tells of it.
 fn follow_refused_look<R: Host>(rt: R, top: &str) -> (bool, bool) {
-    let file = entry(&rt, top, "/l/x");
-    let reports = start(rt, &path(&rt, rt.alloc(), file.as_str()));
-    let hints = reports.debouncer().watcher().hints().expect(&rt, "memory");
+    let reports = start(rt, entry(&rt, top, "/l/x").as_str());
+    let hints = hints_of(rt, &reports);
     turn_link(&rt, top, "/l");
     hint(rt, &hints, top, "/l/x");
     let refused = matches!(next(&reports), Some(Err(_)));
-    fs::write(&rt, entry(&rt, top, "/d/x").as_str(), "xx").expect(&rt, "a file");
-    turn_link(&rt, top, "/d");
+    change_file(&rt, top);
     let told = tells(&reports);
-    reports.finish();
+    finish(reports);
     (refused, told)
 }
 
@@ -137,10 +141,10 @@ fn a_refused_look_is_followed_by_a_round(rt: HostRuntime) {
 
 /// Starts, hints, and stops while the watcher sleeps. Returns what hints answer before and after.
 fn stop_asleep<R: Host>(rt: R, top: &str) -> (bool, bool) {
-    let reports = start(rt, &path(&rt, rt.alloc(), top));
-    let hints = reports.debouncer().watcher().hints().expect(&rt, "memory");
+    let reports = start(rt, top);
+    let hints = hints_of(rt, &reports);
     let before = hints.look_at_all();
-    reports.finish();
+    finish(reports);
     (before, hint(rt, &hints, top, "/x"))
 }
 

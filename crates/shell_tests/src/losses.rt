@@ -1,10 +1,12 @@
 //! What could not be sent, and turns that were refused.
+use crate::build;
 use crate::build::{Host, Outcome, Running, TURNS, channel, new_heap, path, sleep_turns, start};
 use crate::memory::Silent;
 use crate::stage::{Staged, take_turn};
 use crossbeam_channel::Receiver;
 use notify_debouncer_full::{
-    Config, DebounceEventHandler, Feed, NoCache, PathBuf, RecursiveMode, Reports, SendTo, Watcher,
+    Config, DebounceEventHandler, Feed, LastReports, NoCache, PathBuf, RecursiveMode, Reports,
+    SendTo, Watcher,
 };
 use refusing_allocator::{Heap, TestHeap};
 use std::alloc::Allocator;
@@ -69,9 +71,7 @@ pub fn a_refused_turn_is_counted_and_loses_nothing<
     let handler = SendTo::new(rt, sender);
     rt.stage().is_held.store(true, Ordering::SeqCst);
     let mut debouncer: Running<T, R, A> = start(rt, heap, Duration::from_millis(8), handler);
-    debouncer
-        .watch(&path(&rt, heap, "/w"), RecursiveMode::Recursive)
-        .expect(&rt, "a watch");
+    build::watch(&rt, heap, &mut debouncer, "/w");
     sleep_turns(&rt, 10);
     heap.refuse(u64::MAX);
     let refused = turn_twice(&rt, &debouncer);
@@ -95,9 +95,7 @@ pub fn a_clock_that_fails_is_counted_for_who_reads_it<
     let mut debouncer: Running<T, R, A> = start(rt, heap, Duration::from_millis(8), Silent);
     rt.stage().is_broken.store(true, Ordering::SeqCst);
     // Three events and an error are reported.
-    debouncer
-        .watch(&path(&rt, heap, "/w"), RecursiveMode::Recursive)
-        .expect(&rt, "a watch");
+    build::watch(&rt, heap, &mut debouncer, "/w");
     let fed = counts_of(&debouncer);
     let turned = turn_twice(&rt, &debouncer);
     rt.stage().is_broken.store(false, Ordering::SeqCst);
@@ -116,22 +114,44 @@ pub fn what_reports_cannot_send_is_counted<
 {
     let heap: A = new_heap(&rt);
     rt.stage().is_held.store(true, Ordering::SeqCst);
-    let (timeout, rate) = (Duration::from_secs(3600), Some(Duration::from_millis(8)));
-    let made = Reports::start(rt, heap, timeout, rate, Config::default());
-    let mut reports: Reports<T, R, A> = made.expect(&rt, "reports");
+    let mut reports: Reports<T, R, A> = start_reports(rt, heap);
     let place = path(&rt, heap, "/w");
     send_in_vain(&rt, heap, &mut reports, &place);
     send_in_vain(&rt, heap, &mut reports, &place);
     rt.stage().is_broken.store(true, Ordering::SeqCst);
     watch(&rt, &mut reports, &place);
-    let refused_turns = reports.debouncer().refused_turns();
-    assert_eq!(rt;
-        [reports.unsent(), reports.missed(), refused_turns],
-        [2, 4, 0]
-    );
+    assert_eq!(rt; lost(&reports), [2, 4, 0]);
     rt.stage().is_held.store(false, Ordering::SeqCst);
-    let last = reports.finish();
+    let last = finish(reports);
     assert_eq!(rt; [last.unsent, last.missed], [2, 4]);
+}
+
+/// Starts reports that emit no event while a test runs.
+fn start_reports<T: Watcher<Feed<NoCache, R, A>, R, A>, R: Host, A: TestHeap>(
+    rt: R,
+    heap: A,
+) -> Reports<T, R, A>
+    requires takes { (feed : _) → T.takes feed }
+{
+    let (timeout, rate) = (Duration::from_secs(3600), Some(Duration::from_millis(8)));
+    let made = Reports::start(rt, heap, timeout, rate, Config::default());
+    made.expect(&rt, "reports")
+}
+
+/// How many reports could not be sent, how many items were missed, and how many turns were refused.
+fn lost<T: Drop, R: Host, A: TestHeap>(reports: &Reports<T, R, A>) -> [u64; 3] {
+    [
+        reports.unsent(),
+        reports.missed(),
+        reports.debouncer().refused_turns(),
+    ]
+}
+
+/// Ends the reports, and returns what is left.
+fn finish<T: Watcher<Feed<NoCache, R, A>, R, A>, R: Host, A: TestHeap>(
+    reports: Reports<T, R, A>,
+) -> LastReports<A> {
+    reports.finish()
 }
 
 /// Three events and an error are reported to the debouncer.

@@ -1,5 +1,7 @@
 //! Each request for memory refused in turn, and what a feed notes of an event.
-use crate::build::{Host, Outcome, Running, channel, fill, new_heap, path, start};
+use crate::build::{
+    Host, Outcome, Running, channel, fill, new_heap, path, start, stop_journal, watch,
+};
 use crate::starting::has_ended;
 use crate::words::word_of;
 use notify_debouncer_full::{
@@ -172,9 +174,7 @@ fn is_copy_refused<T: Watcher<Feed<NoCache, R, A>, R, A>, R: Host, A: TestHeap>(
     // The worker sleeps all the while, and asks for no memory.
     let long = Duration::from_secs(240);
     let mut debouncer: Running<T, R, A> = start(rt, heap, long, SendTo::new(rt, to));
-    debouncer
-        .watch(&path(&rt, heap, "/a"), RecursiveMode::Recursive)
-        .expect(&rt, "memory");
+    watch(&rt, heap, &mut debouncer, "/a");
     heap.refuse(n);
     let answer = word_of(debouncer.stop_journal().map(|_| ()));
     let came = heap.left() == 0;
@@ -206,10 +206,8 @@ pub fn a_feed_sees_whether_the_path_of_a_half_exists<
     let heap: A = new_heap(&rt);
     let mut debouncer: Running<T, R, A> = start(rt, heap, Duration::from_millis(4), Silent);
     for place in ["/", "/nothing has this name"] {
-        debouncer
-            .watch(&path(&rt, heap, place), RecursiveMode::Recursive)
-            .expect(&rt, "memory");
+        watch(&rt, heap, &mut debouncer, place);
     }
-    let (_, journal) = debouncer.stop_journal().expect(&rt, "memory");
+    let (_, journal) = stop_journal(&rt, debouncer);
     assert_eq!(rt; existing(&rt, &journal).as_str(), "yes no ");
 }

@@ -3,8 +3,8 @@ use crate::build::{Host, Outcome, TURNS, channel, path, sleep_a_turn};
 use crate::losses::has_batch;
 use crate::words::push_event;
 use notify_debouncer_full::{
-    Config, DebouncerRuntime, PathBuf, RecommendedReports, RecursiveMode, Reports, SendTo,
-    new_debouncer, new_debouncer_with_config,
+    Config, DebouncerRuntime, Feed, LastReports, NoCache, PathBuf, RecommendedReports,
+    RecursiveMode, Reports, SendTo, Watcher, new_debouncer, new_debouncer_with_config,
 };
 use std::alloc::Global;
 use std::fs::Files;
@@ -17,6 +17,35 @@ use std::{env, fs, process};
 /// The path of an entry of the folder at `top`.
 pub(crate) fn entry(rt: &(impl Abort + AllocGlobal), top: &str, name: &str) -> String {
     format!(in rt.alloc(); "{top}{name}").expect(rt, "memory")
+}
+
+/// Starts reports. What is old is reported after some milliseconds.
+pub(crate) fn start_reports<T: Watcher<Feed<NoCache, R>, R, Global>, R: Host>(
+    rt: R,
+    config: Config,
+) -> Reports<T, R>
+    requires takes { (feed : _) → T.takes feed }
+{
+    let started = Reports::start(rt, rt.alloc(), Duration::from_millis(4), None, config);
+    started.expect(&rt, "a start")
+}
+
+/// Watches a path, which is not refused.
+pub(crate) fn watch<T: Watcher<Feed<NoCache, R>, R, Global>, R: Host>(
+    rt: R,
+    reports: &mut Reports<T, R>,
+    place: &str,
+    mode: RecursiveMode,
+) {
+    let watched = reports.watch(&path(&rt, rt.alloc(), place), mode);
+    watched.expect(&rt, "a watch");
+}
+
+/// Ends the reports, and returns what is left.
+pub(crate) fn finish<T: Watcher<Feed<NoCache, R>, R, Global>, R: Host>(
+    reports: Reports<T, R>,
+) -> LastReports {
+    reports.finish()
 }
 
 /// Makes a folder with a file in it, and a link to it.
@@ -65,10 +94,10 @@ fn follow_link(
     rt: &(impl Abort + AllocGlobal + Files + Clock),
     top: &str,
     reports: &RecommendedReports<impl DebouncerRuntime>,
-    file: &PathBuf,
+    file: &str,
 ) -> ([usize; 2], bool, bool) {
     turn_link(rt, top, "/l");
-    let told = tells(rt, reports, Some(file));
+    let told = tells(rt, reports, Some(&path(rt, rt.alloc(), file)));
     let first = counts(reports);
     turn_link(rt, top, "/d");
     (first, told, tells(rt, reports, None))
@@ -94,20 +123,11 @@ fn the_path_that_fails_is_told(rt: HostRuntime) {
 /// Returns what [`follow_link`] does, and how many items and calls were lost.
 fn watch_link<R: Host>(rt: R, top: &str) -> (([usize; 2], bool, bool), (u64, u64)) {
     let config = Config::default().with_poll_interval(Duration::from_millis(2));
-    let timeout = Duration::from_millis(4);
-    let mut reports: RecommendedReports<R> = Reports::start(
-        rt,
-        rt.alloc(),
-        timeout,
-        None,
-        config,
-    ).expect(&rt, "a start");
-    let file = PathBuf::parse(rt.alloc(), entry(&rt, top, "/l/x").as_str()).expect(&rt, "memory");
-    reports
-        .watch(&file, RecursiveMode::Recursive)
-        .expect(&rt, "a watch");
-    let answer = follow_link(&rt, top, &reports, &file);
-    let last = reports.finish();
+    let file = entry(&rt, top, "/l/x");
+    let mut reports: RecommendedReports<R> = start_reports(rt, config);
+    watch(rt, &mut reports, file.as_str(), RecursiveMode::Recursive);
+    let answer = follow_link(&rt, top, &reports, file.as_str());
+    let last = finish(reports);
     (answer, (last.missed, last.unsent))
 }
 

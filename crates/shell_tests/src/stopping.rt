@@ -1,5 +1,5 @@
 //! Debouncers that are stopped, and watchers that refuse.
-use crate::build::{Host, Running, new_heap, path, sleep_turns, start};
+use crate::build::{Host, Running, new_heap, path, sleep_turns, start, stop_journal, watch};
 use crate::memory::Silent;
 use crate::running::{Holder, wait_for, wait_for_more};
 use crate::stage::{Staged, is_paused, take_turn};
@@ -161,9 +161,7 @@ fn start_watched<T: Watcher<Feed<NoCache, R, A>, R, A>, R: Staged, A: TestHeap>(
         config,
     );
     let mut debouncer = made.expect(&rt, "a debouncer");
-    debouncer
-        .watch(&path(&rt, heap, "/w"), RecursiveMode::Recursive)
-        .expect(&rt, "a watch");
+    watch(&rt, heap, &mut debouncer, "/w");
     debouncer
 }
 
@@ -230,7 +228,7 @@ pub fn a_refused_watch_adds_no_root_and_a_refused_unwatch_drops_none<
         ["PathNotFound", "Memory", "", "WatchNotFound"]
     );
     assert!(rt; debouncer.configure(Config::default()).unwrap_or(false));
-    let (_, journal) = debouncer.stop_journal().expect(&rt, "memory");
+    let (_, journal) = stop_journal(&rt, debouncer);
     let roots = roots_in(&rt, heap, journal, places);
     assert_eq!(rt; roots, [false, false, true]);
 }

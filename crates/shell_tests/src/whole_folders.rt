@@ -1,8 +1,8 @@
 //! A watcher that begins with nothing, and looks once more before its end: a reader has the whole folder.
 use crate::build::{Host, path};
-use crate::reports::{entry, new_top};
+use crate::reports::{entry, finish, new_top, start_reports, watch};
 use notify_debouncer_full::{
-    Config, LastReports, PathBuf, RealFolders, RecommendedReports, RecursiveMode, Reports, list,
+    Config, LastReports, PathBuf, RealFolders, RecommendedReports, RecursiveMode, list,
 };
 use path_sets::PathSet;
 use std::fs::Files;
@@ -16,17 +16,13 @@ fn start<R: Host>(rt: R, interval: Duration) -> RecommendedReports<R> {
     let config = Config::default()
         .with_poll_interval(interval)
         .with_initial_events(true);
-    let timeout = Duration::from_millis(4);
-    let started = Reports::start(rt, rt.alloc(), timeout, None, config);
-    started.expect(&rt, "a start")
+    start_reports(rt, config)
 }
 
 /// Watches the folder by looks each hour: any look but the first and the last is one that was asked for.
 fn start_watched<R: Host>(rt: R, top: &str) -> RecommendedReports<R> {
     let mut reports = start(rt, Duration::from_secs(3600));
-    reports
-        .watch(&path(&rt, rt.alloc(), top), RecursiveMode::Recursive)
-        .expect(&rt, "a watch");
+    watch(rt, &mut reports, top, RecursiveMode::Recursive);
     reports
 }
 
@@ -73,7 +69,7 @@ fn paths_there<R: Host>(rt: R, top: &str) -> Vec<PathBuf> {
 fn is_read<R: Host>(rt: R, top: &str, turn: u32) -> bool {
     let reports = start_watched(rt, top);
     change(&rt, top, turn);
-    let last = reports.finish();
+    let last = finish(reports);
     read_paths(&rt, &last) == paths_there(rt, top)
 }
 
@@ -95,7 +91,7 @@ fn what_changed_before_the_end_is_read(rt: HostRuntime) {
 fn reports_soon<R: Host>(rt: R, top: &str) -> bool {
     let reports = start_watched(rt, top);
     let report = reports.next_within(Duration::from_secs(10));
-    reports.finish();
+    finish(reports);
     matches!(report, Some(Ok(_)))
 }
 
@@ -108,20 +104,21 @@ fn what_stands_there_is_reported_soon(rt: HostRuntime) {
     assert!(rt; reported);
 }
 
+/// Watches a path no longer.
+fn unwatch<R: Host>(rt: R, reports: &mut RecommendedReports<R>, place: &str) {
+    let unwatched = reports.unwatch(&path(&rt, rt.alloc(), place));
+    unwatched.expect(&rt, "it was watched");
+}
+
 /// Watches a part of the folder, then all of it too, and then all of it alone, while the part changes at
 /// three moments and the watcher looks again and again.
 fn watch_both<R: Host>(rt: R, top: &str, reports: &mut RecommendedReports<R>, moment: u32) {
     let part = entry(&rt, top, "/part");
-    let place = path(&rt, rt.alloc(), part.as_str());
-    reports
-        .watch(&place, RecursiveMode::NonRecursive)
-        .expect(&rt, "a watch");
+    watch(rt, reports, part.as_str(), RecursiveMode::NonRecursive);
     change(&rt, part.as_str(), moment);
-    reports
-        .watch(&path(&rt, rt.alloc(), top), RecursiveMode::Recursive)
-        .expect(&rt, "a second watch");
+    watch(rt, reports, top, RecursiveMode::Recursive);
     change(&rt, part.as_str(), moment.saturating_add(1));
-    reports.unwatch(&place).expect(&rt, "it was watched");
+    unwatch(rt, reports, part.as_str());
     change(&rt, part.as_str(), moment.saturating_add(2));
 }
 
@@ -129,7 +126,7 @@ fn watch_both<R: Host>(rt: R, top: &str, reports: &mut RecommendedReports<R>, mo
 fn is_read_by_two_roots<R: Host>(rt: R, top: &str, moment: u32) -> bool {
     let mut reports = start(rt, Duration::from_millis(2));
     watch_both(rt, top, &mut reports, moment);
-    let last = reports.finish();
+    let last = finish(reports);
     read_paths(&rt, &last) == paths_there(rt, top)
 }
 
