@@ -9,7 +9,8 @@ are; it is built first if it has to be. N is 100000 if it isn't given, and then 
 more.
 
 Each run is a process of its own. A figure is the least of five runs; the two programs take turns, and
-each goes first in every second round.
+each goes first in every second round. Both print a sum over what they emitted, but the crate none of rmdir;
+the table ends if two sums differ.
 
 With --instructions a figure is how many instructions the whole program executes, in millions, as
 `valgrind --tool=callgrind` counts them: one run each, and the same on a machine that is busy. N is 5000 if
@@ -28,15 +29,22 @@ COUNTED = KINDS[:4]
 ROUNDS = 5
 
 
+def check_sums(outputs):
+    """Ends if two runs of one workload say that they emitted different events."""
+    found = {line for output in outputs for line in re.findall(r"^([a-z]+ \d+) (\d+)$", output, re.MULTILINE)}
+    if len(found) > len({workload for workload, _ in found}):
+        sys.exit(f"what was emitted differs: {sorted(found)}")
+
+
 def run(words):
-    """Runs a program, and returns the nanoseconds of an operation and the process's peak memory in MB."""
+    """Runs a program, and returns the nanoseconds of an operation, the peak memory in MB, and the output."""
     process = subprocess.Popen(words, stdout=subprocess.PIPE, stderr=subprocess.STDOUT, text=True)
     output = process.stdout.read()
     _, status, usage = os.wait4(process.pid, 0)
     if status != 0:
         sys.exit(f"{' '.join(words)} failed:\n{output}")
     figures = next(words for words in map(str.split, output.splitlines()) if len(words) == 4)
-    return float(figures[3]), usage.ru_maxrss / 1024
+    return float(figures[3]), usage.ru_maxrss / 1024, output
 
 
 def least_of_turns(programs):
@@ -46,6 +54,7 @@ def least_of_turns(programs):
         for i in range(len(programs)):
             which = (turn + i) % len(programs)
             runs[which].append(run(programs[which]))
+    check_sums(output for outputs in runs for _, _, output in outputs)
     return [tuple(map(min, zip(*figures))) for figures in runs]
 
 
@@ -58,13 +67,13 @@ def ratio_row(name, here, there, unit):
 
 
 def instructions(words):
-    """Runs a program, and returns how many millions of instructions it executes."""
+    """Runs a program, and returns how many millions of instructions it executes, and the output."""
     words = ["valgrind", "--tool=callgrind", "--callgrind-out-file=/dev/null", *words]
     run = subprocess.run(words, stdout=subprocess.PIPE, stderr=subprocess.STDOUT, text=True)
     counted = re.search(r"Collected : (\d+)", run.stdout)
     if run.returncode != 0 or counted is None:
         sys.exit(f"{' '.join(words)} failed:\n{run.stdout}")
-    return int(counted[1]) / 1e6
+    return int(counted[1]) / 1e6, run.stdout
 
 
 def head(n):
@@ -76,7 +85,8 @@ def head(n):
 def count(bench, crate, n, kinds):
     head(n)
     for kind in kinds or COUNTED:
-        here, there = instructions([bench, n, kind]), instructions([crate, n, kind])
+        (here, ours), (there, theirs) = instructions([bench, n, kind]), instructions([crate, n, kind])
+        check_sums([ours, theirs])
         row(kind, f"{here:.1f} M", f"{there:.1f} M", f"{here / there:.2f}")
 
 
@@ -89,12 +99,12 @@ def measure(bench, crate, n, kinds):
             turns.append([crate, n, kind])
         elif idle is None:
             turns.append([crate, n, "idle"])
-        (here, memory), *crates = least_of_turns(turns)
+        (here, memory, _), *crates = least_of_turns(turns)
         # Each tick of the crate looks at every queue, so one with ten events due takes no less than an
         # idle one.
-        there, crate_memory = crates[0] if crates else idle
+        there, crate_memory, _ = crates[0] if crates else idle
         if kind == "idle":
-            idle = there, crate_memory
+            idle = crates[0]
         ratio_row(kind, here, there, "ns")
         if kind == "create":
             ratio_row("create, peak memory", memory, crate_memory, "MB")

@@ -1,5 +1,5 @@
 // The workloads of crates/bench over the Rust crate's own code, of which this is a child module. Events
-// are made before the clock starts, and what is emitted is dropped after it stops.
+// are made before the clock starts, and what is emitted is summed up and dropped after it stops.
 
 use crate::{sort_events, time, DebounceDataInner, DebouncedEvent, NoCache};
 use notify::event::{CreateKind, DataChange, Event, EventKind, ModifyKind, RemoveKind, RenameMode};
@@ -12,12 +12,39 @@ use std::{
 const KINDS: [&str; 6] = ["create", "modify", "idle", "rename", "rmdir", "sort"];
 const TIMEOUT: u64 = 50_000;
 
+/// What a workload took, over how many operations, and the sum over what was emitted; rmdir has none, since
+/// the crate has no outlook.
+type Figures = (Duration, usize, Option<u64>);
+
 fn at(nanos: u64) -> Instant {
     time::instant(nanos)
 }
 
 fn state(timeout: u64) -> DebounceDataInner<NoCache> {
     DebounceDataInner::new(NoCache::new(), Duration::from_nanos(timeout))
+}
+
+/// The sum that crates/bench/src/checksum.rs defines, over all that was emitted.
+fn checksum_of(batches: &[Vec<DebouncedEvent>]) -> u64 {
+    let mut sum = 0u64;
+    for (i, event) in batches.iter().flatten().enumerate() {
+        sum = sum.wrapping_add((i as u64 + 1).wrapping_mul(value_of(event)));
+    }
+    sum
+}
+
+fn value_of(event: &DebouncedEvent) -> u64 {
+    let time = time::moment(event.time);
+    match event.paths.last() {
+        Some(path) => time.wrapping_add(number_of(path.as_os_str().as_encoded_bytes())),
+        None => time,
+    }
+}
+
+fn number_of(text: &[u8]) -> u64 {
+    text.iter().fold(0, |number, &byte| {
+        number.wrapping_mul(31).wrapping_add(u64::from(byte))
+    })
 }
 
 fn file(i: usize) -> PathBuf {
@@ -31,7 +58,7 @@ fn creations(n: usize) -> Vec<Event> {
 }
 
 /// Event i comes at moment i; one tick after all are expired. An operation is an event.
-fn create(n: usize) -> (Duration, usize) {
+fn create(n: usize) -> Figures {
     let events = creations(n);
     let mut data = state(TIMEOUT);
     let begin = Instant::now();
@@ -43,13 +70,12 @@ fn create(n: usize) -> (Duration, usize) {
     let batch = data.debounced_events();
     let total = begin.elapsed();
     assert_eq!(batch.len(), n);
-    black_box(batch);
-    (total, n)
+    (total, n, Some(checksum_of(&[batch])))
 }
 
 /// Event i comes at moment 10 i on path /m{i % 1000}; after every 1000 events a tick at the moment
 /// of the last one. So from the 5000th event on about 5000 wait. An operation is an event.
-fn modify(n: usize) -> (Duration, usize) {
+fn modify(n: usize) -> Figures {
     let events: Vec<Event> = (0..n)
         .map(|i| {
             Event::new(EventKind::Modify(ModifyKind::Data(DataChange::Any)))
@@ -67,13 +93,12 @@ fn modify(n: usize) -> (Duration, usize) {
         }
     }
     let total = begin.elapsed();
-    black_box(batches);
-    (total, n)
+    (total, n, Some(checksum_of(&batches)))
 }
 
 /// N queues of one creation each, all at moment 0; then 1000 ticks at moments 0 to 999. Only the
 /// ticks are measured, and an operation is a tick.
-fn idle(n: usize) -> (Duration, usize) {
+fn idle(n: usize) -> Figures {
     let mut data = state(TIMEOUT);
     time::set(at(0));
     for event in creations(n) {
@@ -88,12 +113,12 @@ fn idle(n: usize) -> (Duration, usize) {
     }
     let total = begin.elapsed();
     assert_eq!(data.queues.len(), n);
-    (total, 1000)
+    (total, 1000, Some(n as u64))
 }
 
 /// Pair i: From /d{i % 1000}/a{i} at 2 i, To /d{i % 1000}/b{i} at 2 i + 1, both with tracker i; one
 /// tick after all are expired. An operation is a pair.
-fn rename(n: usize) -> (Duration, usize) {
+fn rename(n: usize) -> Figures {
     let name = |mode, letter: char, i: usize| {
         Event::new(EventKind::Modify(ModifyKind::Name(mode)))
             .add_path(PathBuf::from(format!("/d{}/{letter}{i}", i % 1000)))
@@ -112,13 +137,12 @@ fn rename(n: usize) -> (Duration, usize) {
     let batch = data.debounced_events();
     let total = begin.elapsed();
     assert_eq!(batch.len(), n);
-    black_box(batch);
-    (total, n)
+    (total, n, Some(checksum_of(&[batch])))
 }
 
 /// N queues of one creation each in 1000 folders; then Remove(Folder) of each folder. Only the
 /// removals are measured, and an operation is a removal.
-fn rmdir(n: usize) -> (Duration, usize) {
+fn rmdir(n: usize) -> Figures {
     let mut data = state(TIMEOUT);
     for (i, event) in creations(n).into_iter().enumerate() {
         time::set(at(i as u64));
@@ -137,13 +161,13 @@ fn rmdir(n: usize) -> (Duration, usize) {
     }
     let total = begin.elapsed();
     assert_eq!(data.queues.len(), 1000);
-    (total, 1000)
+    (total, 1000, None)
 }
 
 /// N events on paths /s{i % (N / 10)}, the time of event i being the next value of the generator
 /// x -> 6364136223846793005 x + 1442695040888963407 (mod 2^64, from x = 1), its upper 32 bits,
 /// mod N. An operation is an event.
-fn sort(n: usize) -> (Duration, usize) {
+fn sort(n: usize) -> Figures {
     let paths = (n / 10).max(1);
     let mut x = 1u64;
     let events: Vec<DebouncedEvent> = (0..n)
@@ -160,8 +184,7 @@ fn sort(n: usize) -> (Duration, usize) {
     let sorted = sort_events(events);
     let total = begin.elapsed();
     assert_eq!(sorted.len(), n);
-    black_box(sorted);
-    (total, n)
+    (total, n, Some(checksum_of(&[sorted])))
 }
 
 /// What the crate's code asks in place of `Path::exists`.
@@ -179,7 +202,7 @@ pub fn main() {
         eprintln!("usage: rust_crate N KIND; KIND is one of {}", KINDS.join(", "));
         std::process::exit(2);
     }
-    let (total, operations) = match kind {
+    let (total, operations, checksum) = match kind {
         "create" => create(n),
         "modify" => modify(n),
         "idle" => idle(n),
@@ -188,5 +211,8 @@ pub fn main() {
         _ => sort(n),
     };
     let total = total.as_nanos();
-    println!("{kind} {n} {total} {:.1}", total as f64 / operations as f64);
+    if let Some(checksum) = checksum {
+        println!("{kind} {n} {checksum}");
+    }
+    eprintln!("{kind} {n} {total} {:.1}", total as f64 / operations as f64);
 }

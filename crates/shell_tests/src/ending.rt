@@ -1,9 +1,11 @@
 //! Debouncers that end: how soon, and what they give back then.
 use crate::build::{
-    Host, Running, finish, new_heap, path, sleep_a_turn, start, stop_journal, unwatch, watch,
+    Host, Running, finish, new_heap, path, sleep_turns, start, stop_journal, unwatch, watch,
 };
 use crate::memory::Silent;
 use crate::running::wait_for_more;
+use crate::words::word_of;
+use crossbeam_channel::Sender;
 use notify_debouncer_full::{
     Book, Command, Config, DebounceDataInner, DebounceEventResult, DebouncedEvent, Entry, Error,
     ErrorKind, Feed, NoCache, PathBuf, RecursiveMode, Watcher, new_debouncer_opt,
@@ -26,6 +28,18 @@ fn millis_since(rt: &(impl Abort + Clock), start: Instant) -> u128 {
     start.elapsed(rt).expect(rt, "a clock").as_millis()
 }
 
+/// Starts a debouncer that emits nothing while a test runs, and watches a path.
+fn start_watched<T: Watcher<Feed<NoCache, R, A>, R, A>, R: Host, A: TestHeap>(
+    rt: R,
+    heap: A,
+) -> Running<T, R, A>
+    requires takes { (feed : _) → T.takes feed }
+{
+    let mut debouncer: Running<T, R, A> = start(rt, heap, long(), Silent);
+    watch(&rt, heap, &mut debouncer, "/w");
+    debouncer
+}
+
 pub fn what_was_never_emitted_is_in_the_book<
     T: Watcher<Feed<NoCache, R, A>, R, A>,
     R: Host,
@@ -33,15 +47,20 @@ pub fn what_was_never_emitted_is_in_the_book<
 >(rt: R)
     requires takes { (feed : _) → T.takes feed }
 {
-    let heap: A = new_heap(&rt);
-    let mut debouncer: Running<T, R, A> = start(rt, heap, long(), Silent);
-    watch(&rt, heap, &mut debouncer, "/w");
+    let debouncer = start_watched::<T, R, A>(rt, new_heap(&rt));
     let seen = debouncer.outlook().expect(&rt, "memory");
     let (book, missed) = finish(debouncer);
     assert_eq!(rt; missed, 0);
     check_pending(&rt, &book, &seen);
+    drop(seen);
+    check_journal(&rt, book);
+}
+
+/// Checks that the book's journal has five entries.
+fn check_journal<A: TestHeap>(rt: &impl Abort, book: Book<NoCache, A>) {
     let (timeout, journal) = book.into_journal();
     assert_eq!(rt; (timeout, journal.len()), (3_600_000_000_000, 5));
+    drop(journal);
 }
 
 /// Checks that the book has these events, which are three, and an error, and nothing was emitted.
@@ -53,6 +72,7 @@ fn check_pending<A: TestHeap>(
     let rest = book.outlook().expect(rt, "memory");
     assert!(rt; &rest == seen);
     assert_eq!(rt; rest.len(), 3);
+    drop(rest);
     assert_eq!(rt; book.core().pending_errors().len(), 1);
 }
 
@@ -64,7 +84,10 @@ fn goes_on<A: TestHeap>(core: &mut DebounceDataInner<NoCache, A>, part: Vec<Entr
             command,
             reply,
         } = entry;
-        if core.step(command) != reply {
+        let given = core.step(command);
+        let agrees = given == reply;
+        drop((given, reply));
+        if !agrees {
             return false;
         }
     }
@@ -79,20 +102,39 @@ pub fn the_parts_of_a_journal_in_a_row_are_the_journal<
     requires takes { (feed : _) → T.takes feed }
 {
     let heap: A = new_heap(&rt);
-    let mut debouncer: Running<T, R, A> = start(rt, heap, long(), Silent);
-    watch(&rt, heap, &mut debouncer, "/w");
+    let mut debouncer = start_watched::<T, R, A>(rt, heap);
+    let first = take_first_part(&rt, heap, &mut debouncer);
+    let second = take_second_part(&rt, heap, &mut debouncer);
+    let (book, missed) = finish(debouncer);
+    assert_eq!(rt; (first.len(), second.len(), missed), (5, 1, 0));
+    check_parts(&rt, heap, first, second, book);
+}
+
+/// Takes the journal, for which no memory is asked, and then what is empty.
+fn take_first_part<T: Drop, R: Host, A: TestHeap>(
+    rt: &R,
+    heap: A,
+    debouncer: &mut Running<T, R, A>,
+) -> Vec<Entry<A>, A> {
     heap.refuse(1);
-    let first = debouncer.take_journal();
+    let part = debouncer.take_journal();
     let asked = heap.left() == 0;
     heap.refuse(0);
-    let empty = debouncer.take_journal();
-    unwatch(&rt, heap, &mut debouncer, "/w");
-    let second = debouncer.take_journal();
-    watch(&rt, heap, &mut debouncer, "/w");
-    let (book, missed) = finish(debouncer);
-    assert!(rt; !asked && missed == 0);
-    assert_eq!(rt; [first.len(), empty.len(), second.len()], [5, 0, 1]);
-    check_parts(&rt, heap, first, second, book);
+    let empty = debouncer.take_journal().is_empty();
+    assert!(rt; !asked && empty);
+    part
+}
+
+/// Takes the journal of an unwatch, and watches the path again.
+fn take_second_part<T: Watcher<Feed<NoCache, R, A>, R, A>, R: Host, A: TestHeap>(
+    rt: &R,
+    heap: A,
+    debouncer: &mut Running<T, R, A>,
+) -> Vec<Entry<A>, A> {
+    unwatch(rt, heap, debouncer, "/w");
+    let part = debouncer.take_journal();
+    watch(rt, heap, debouncer, "/w");
+    part
 }
 
 /// Checks that these parts of a journal, and then five entries of the book's own, lead a new core to the
@@ -110,6 +152,8 @@ fn check_parts<A: TestHeap>(
     assert!(rt; goes_on(&mut core, second));
     check_last_part(rt, &mut core, &mut book);
     assert!(rt; is_same(rt, &core, &book));
+    drop(core);
+    drop(book);
 }
 
 fn check_last_part<A: TestHeap>(
@@ -138,12 +182,11 @@ pub fn a_journal_that_was_taken_is_not_given_whole<
 >(rt: R)
     requires takes { (feed : _) → T.takes feed }
 {
-    let heap: A = new_heap(&rt);
-    let mut debouncer: Running<T, R, A> = start(rt, heap, long(), Silent);
-    watch(&rt, heap, &mut debouncer, "/w");
-    let taken = debouncer.take_journal();
+    let mut debouncer = start_watched::<T, R, A>(rt, new_heap(&rt));
+    let taken = debouncer.take_journal().len();
     let (_, journal) = stop_journal(&rt, debouncer);
-    assert_eq!(rt; (taken.len(), journal.len()), (5, 0));
+    assert_eq!(rt; (taken, journal.len()), (5, 0));
+    drop(journal);
 }
 
 pub fn what_is_fed_by_hand_is_in_the_book<
@@ -155,14 +198,20 @@ pub fn what_is_fed_by_hand_is_in_the_book<
 {
     let heap: A = new_heap(&rt);
     let mut debouncer: Running<T, R, A> = start(rt, heap, long(), Silent);
-    let mut feed = debouncer.feed().expect(&rt, "memory");
+    feed_error(&rt, heap, &mut debouncer);
+    let (book, missed) = finish(debouncer);
+    assert_eq!(rt; (book.core().pending_errors().len(), missed), (1, 0));
+    drop(book);
+}
+
+/// Feeds an error by hand.
+fn feed_error<T: Drop, R: Host, A: TestHeap>(rt: &R, heap: A, debouncer: &mut Running<T, R, A>) {
+    let mut feed = debouncer.feed().expect(rt, "memory");
     let error = Error::new(heap, ErrorKind::PathNotFound);
-    feed.feed(Err(error)).expect(&rt, "memory");
+    feed.feed(Err(error)).expect(rt, "memory");
     let receipt = feed.receipt();
     drop(feed);
     debouncer.catch_up(receipt);
-    let (book, missed) = finish(debouncer);
-    assert_eq!(rt; (book.core().pending_errors().len(), missed), (1, 0));
 }
 
 pub fn a_long_tick_does_not_hold_up_a_stop<
@@ -176,45 +225,63 @@ pub fn a_long_tick_does_not_hold_up_a_stop<
     let mut soon = false;
     // A machine that is busy elsewhere may need another try.
     for _ in 0..3 {
-        let begun = Instant::now(&rt).expect(&rt, "a clock");
-        let stopped: Running<T, R, A> = start(rt, heap, long(), Silent);
-        stopped.stop();
-        let finished: Running<T, R, A> = start(rt, heap, long(), Silent);
-        finish(finished);
-        if millis_since(&rt, begun) < 2000 {
-            soon = true;
-            break;
-        }
+        soon = soon || ends_soon::<T, R, A>(rt, heap);
     }
     assert!(rt; soon);
+}
+
+/// Ends two debouncers, in two ways, and answers whether this took less than two seconds.
+fn ends_soon<T: Watcher<Feed<NoCache, R, A>, R, A>, R: Host, A: TestHeap>(rt: R, heap: A) -> bool
+    requires takes { (feed : _) → T.takes feed }
+{
+    let begun = Instant::now(&rt).expect(&rt, "a clock");
+    start::<T, _, R, A>(rt, heap, long(), Silent).stop();
+    drop(finish(start::<T, _, R, A>(rt, heap, long(), Silent)));
+    millis_since(&rt, begun) < 2000
 }
 
 pub fn a_tick_of_nothing_does_not_spin<T: Watcher<Feed<NoCache, R>, R, Global>, R: Host>(rt: R)
     requires takes { (feed : _) → T.takes feed }
 {
     let start = Instant::now(&rt).expect(&rt, "a clock");
-    let made: Result<Running<T, R, Global>, _> = new_journaled_debouncer(
-        rt,
-        rt.alloc(),
-        Duration::from_millis(4),
-        Some(Duration::from_nanos(0)),
-        |_outcome: DebounceEventResult| {},
-        NoCache::new(),
-        Config::default(),
-    );
-    let debouncer = made.expect(&rt, "a debouncer");
-    for _ in 0..20 {
-        sleep_a_turn(&rt);
-    }
+    let debouncer = start_restless::<T, R>(rt);
+    sleep_turns(&rt, 20);
     let (_, journal) = stop_journal(&rt, debouncer);
-    let ticks = journal
-        .iter()
-        .filter(|entry| matches!(entry.command, Command::Tick(_)))
-        .count();
+    let ticks = count_ticks(journal.as_slice());
+    drop(journal);
     assert!(rt;
-        ticks as u128 <= millis_since(&rt, start).saturating_add(1),
+        ticks <= millis_since(&rt, start).saturating_add(1),
         "{ticks}"
     );
+}
+
+/// Starts a debouncer with a tick of no time, and a closure as its handler.
+fn start_restless<T: Watcher<Feed<NoCache, R>, R, Global>, R: Host>(rt: R) -> Running<T, R, Global>
+    requires takes { (feed : _) → T.takes feed }
+{
+    let (timeout, rate) = (Duration::from_millis(4), Some(Duration::from_nanos(0)));
+    let (handler, config) = (|_outcome: DebounceEventResult| {}, Config::default());
+    let made = new_journaled_debouncer(
+        rt,
+        rt.alloc(),
+        timeout,
+        rate,
+        handler,
+        NoCache::new(),
+        config,
+    );
+    made.expect(&rt, "a debouncer")
+}
+
+/// How many ticks the journal has.
+fn count_ticks(journal: &[Entry]) -> u128 {
+    let mut count = 0u128;
+    for entry in journal {
+        if matches!(entry.command, Command::Tick(_)) {
+            count = count.saturating_add(1);
+        }
+    }
+    count
 }
 
 pub fn a_closure_counts_what_it_cannot_send<T: Watcher<Feed<NoCache, R>, R, Global>, R: Host>(rt: R)
@@ -222,27 +289,32 @@ pub fn a_closure_counts_what_it_cannot_send<T: Watcher<Feed<NoCache, R>, R, Glob
 {
     let (to, from) = crossbeam_channel::unbounded(rt.alloc()).expect(&rt, "memory");
     let lost = Arc::new(rt.alloc(), AtomicU64::new(0)).expect(&rt, "memory");
+    drop(from);
     let count = Arc::try_clone(&lost).expect(&rt, "memory");
+    let mut debouncer = start_sending::<T, R>(rt, to, count);
+    watch(&rt, rt.alloc(), &mut debouncer, "/w");
+    let counted = wait_for_more(&rt, &lost, 0);
+    drop(finish(debouncer));
+    drop(lost);
+    assert!(rt; counted);
+}
+
+/// Starts a debouncer whose handler is a closure: it sends what comes, and counts what it can't send.
+fn start_sending<T: Watcher<Feed<NoCache, R>, R, Global>, R: Host>(
+    rt: R,
+    to: Sender<DebounceEventResult>,
+    count: Arc<AtomicU64>,
+) -> Running<T, R, Global>
+    requires takes { (feed : _) → T.takes feed }
+{
     let send = move |outcome: DebounceEventResult| {
         if to.send(&rt, outcome).is_err() {
             count.fetch_add(1, Ordering::SeqCst);
         }
     };
-    drop(from);
-    let made: Result<Running<T, R, Global>, _> = new_debouncer_opt(
-        rt,
-        rt.alloc(),
-        Duration::from_millis(4),
-        None,
-        send,
-        NoCache::new(),
-        Config::default(),
-    );
-    let mut debouncer = made.expect(&rt, "a debouncer");
-    watch(&rt, rt.alloc(), &mut debouncer, "/w");
-    let counted = wait_for_more(&rt, &lost, 0);
-    finish(debouncer);
-    assert!(rt; counted);
+    let (timeout, config) = (Duration::from_millis(4), Config::default());
+    let made = new_debouncer_opt(rt, rt.alloc(), timeout, None, send, NoCache::new(), config);
+    made.expect(&rt, "a debouncer")
 }
 
 /// Watches the path no longer, without memory. Returns whether memory was what lacked.
@@ -252,9 +324,9 @@ fn is_starved<T: Watcher<Feed<NoCache, R, A>, R, A>, R: Host, A: TestHeap>(
     place: &PathBuf<A>,
 ) -> bool {
     heap.refuse(u64::MAX);
-    let refusal = debouncer.unwatch(place).err().map(|error| error.kind);
+    let refusal = word_of(debouncer.unwatch(place));
     heap.refuse(0);
-    refusal == Some(ErrorKind::Memory)
+    refusal == "Memory"
 }
 
 /// Drops the root, and answers whether that was done.
@@ -273,13 +345,14 @@ pub fn a_root_that_a_refused_unwatch_left_is_removed<
     requires takes { (feed : _) → T.takes feed }
 {
     let heap: A = new_heap(&rt);
-    let mut debouncer: Running<T, R, A> = start(rt, heap, long(), Silent);
+    let mut debouncer = start_watched::<T, R, A>(rt, heap);
     let place = path(&rt, heap, "/w");
-    watch(&rt, heap, &mut debouncer, "/w");
     let starved = is_starved(heap, &mut debouncer, &place);
     let removed = is_removed(&mut debouncer, &place);
     let (book, _) = finish(debouncer);
     let mode = book.core().recursive_mode(&place);
+    drop(book);
+    drop(place);
     assert_eq!(rt;
         (starved, removed, mode),
         (true, true, RecursiveMode::NonRecursive)

@@ -1,6 +1,9 @@
 //! Tests of the running debouncer: what its handler is called with and when, what stands after each
 //! refusal, how it starts and stops, and scripts in threads. Each ends by itself: who waits, waits for
 //! so many turns of a millisecond at most.
+//!
+//! What owns much is dropped by a call of `drop`. Where it goes at the end of a block instead, the proof goes
+//! through its fields, and takes six times as long.
 #![tactic(auto)]
 
 #[cfg(test)]

@@ -1,7 +1,7 @@
 //! A watch whose listing is made, while its root finds no memory.
 ghost use Rattle.notify_watch.specs.declared.config.WatcherKind.TheVariants.{Other};
 
-use crate::build::{Host, Running, new_heap, path, start};
+use crate::build::{Host, Running, new_heap, path, start, stop_journal};
 use crate::memory::Silent;
 use crate::watchers::Idle;
 use notify_debouncer_full::{
@@ -66,11 +66,24 @@ impl<F: Drop, R: Drop, A: Allocator> ListingWatcher<F, R, A> for Counting {
 }
 
 /// How many roots were added.
-fn roots_in<A: Allocator>(journal: &[Entry<A>]) -> usize {
-    journal
-        .iter()
-        .filter(|entry| matches!(entry.command, Command::Root(..)))
-        .count()
+fn roots_in<A: Allocator>(journal: &[Entry<A>]) -> u64 {
+    let mut count = 0u64;
+    for entry in journal {
+        if matches!(entry.command, Command::Root(..)) {
+            count = count.saturating_add(1);
+        }
+    }
+    count
+}
+
+/// Why a path isn't watched and listed, if it isn't.
+fn refusal_of<T: ListingWatcher<Feed<NoCache, R, A>, R, A>, R: Host, A: TestHeap>(
+    debouncer: &mut Running<T, R, A>,
+    place: &PathBuf<A>,
+) -> Option<Error<A>> {
+    debouncer
+        .watch_listed(place, RecursiveMode::Recursive)
+        .err()
 }
 
 #[test]
@@ -85,15 +98,15 @@ fn refuse_the_root<T: ListingWatcher<Feed<NoCache, R, A>, R, A>, R: Host, A: Tes
     let mut debouncer: Running<T, R, A> = start(rt, heap, Duration::from_millis(4), Silent);
     let place = path(&rt, heap, "/w");
     heap.refuse(u64::MAX);
-    let refusal = debouncer
-        .watch_listed(&place, RecursiveMode::Recursive)
-        .err();
+    let refusal = refusal_of(&mut debouncer, &place);
     heap.refuse(0);
     // The watcher watches on, and is asked once more.
-    let listed = debouncer
-        .watch_listed(&place, RecursiveMode::Recursive)
-        .is_ok();
-    let (_, journal) = debouncer.stop_journal().expect(&rt, "memory");
-    assert!(rt; refusal == Some(Error::new(heap, ErrorKind::Memory)) && listed);
-    assert_eq!(rt; roots_in(journal.as_slice()), 1);
+    let listed = refusal_of(&mut debouncer, &place).is_none();
+    drop(place);
+    let (_, journal) = stop_journal(&rt, debouncer);
+    let roots = roots_in(journal.as_slice());
+    drop(journal);
+    let starved = refusal == Some(Error::new(heap, ErrorKind::Memory));
+    drop(refusal);
+    assert_eq!(rt; (starved, listed, roots), (true, true, 1));
 }

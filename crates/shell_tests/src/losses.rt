@@ -1,12 +1,11 @@
 //! What could not be sent, and turns that were refused.
-use crate::build;
 use crate::build::{Host, Outcome, Running, TURNS, channel, new_heap, path, sleep_turns, start};
 use crate::memory::Silent;
 use crate::stage::{Staged, take_turn};
+use crate::{build, reports};
 use crossbeam_channel::Receiver;
 use notify_debouncer_full::{
-    Config, DebounceEventHandler, Feed, LastReports, NoCache, PathBuf, RecursiveMode, Reports,
-    SendTo, Watcher,
+    Config, DebounceEventHandler, Feed, NoCache, RecursiveMode, Reports, SendTo, Watcher,
 };
 use refusing_allocator::{Heap, TestHeap};
 use std::alloc::Allocator;
@@ -32,10 +31,10 @@ fn check_unsent<R: Host, A: TestHeap>(rt: R) {
     drop(receiver);
     let sent = unsent.count();
     handler.handle_event(3u32);
-    assert_eq!(rt;
-        (starved, received, sent, unsent.count()),
-        (1, Some(2), 1, 2)
-    );
+    let last = unsent.count();
+    drop(handler);
+    drop(unsent);
+    assert_eq!(rt; (starved, received, sent, last), (1, Some(2), 1, 2));
 }
 
 /// Waits for a batch, and answers whether one came.
@@ -59,6 +58,39 @@ fn turn_twice<T: Drop, R: Staged, A: TestHeap>(rt: &R, debouncer: &Running<T, R,
     counts_of(debouncer)
 }
 
+/// Starts a debouncer whose pauses are held.
+fn start_held<
+    T: Watcher<Feed<NoCache, R, A>, R, A>,
+    H: DebounceEventHandler<Outcome<A>>,
+    R: Staged,
+    A: TestHeap,
+>(rt: R, heap: A, handler: H) -> Running<T, R, A>
+    requires ready { H.ready handler }
+    requires takes { (feed : _) → T.takes feed }
+{
+    rt.stage().is_held.store(true, Ordering::SeqCst);
+    start(rt, heap, Duration::from_millis(8), handler)
+}
+
+/// Lets the debouncer's thread go on, and stops it.
+fn stop_held<T: Drop, R: Staged, A: TestHeap>(rt: &R, debouncer: Running<T, R, A>) {
+    rt.stage().is_held.store(false, Ordering::SeqCst);
+    debouncer.stop();
+}
+
+/// Lets the debouncer's thread take two turns without memory, and then two with it. Returns what is counted
+/// after each two.
+fn turn_starved<T: Drop, R: Staged, A: TestHeap>(
+    rt: &R,
+    heap: A,
+    debouncer: &Running<T, R, A>,
+) -> [[u64; 2]; 2] {
+    heap.refuse(u64::MAX);
+    let refused = turn_twice(rt, debouncer);
+    heap.refuse(0);
+    [refused, turn_twice(rt, debouncer)]
+}
+
 pub fn a_refused_turn_is_counted_and_loses_nothing<
     T: Watcher<Feed<NoCache, R, A>, R, A>,
     R: Staged,
@@ -68,19 +100,34 @@ pub fn a_refused_turn_is_counted_and_loses_nothing<
 {
     let heap: A = new_heap(&rt);
     let (sender, from) = channel(&rt);
-    let handler = SendTo::new(rt, sender);
-    rt.stage().is_held.store(true, Ordering::SeqCst);
-    let mut debouncer: Running<T, R, A> = start(rt, heap, Duration::from_millis(8), handler);
+    let mut debouncer = start_held::<T, _, R, A>(rt, heap, SendTo::new(rt, sender));
     build::watch(&rt, heap, &mut debouncer, "/w");
     sleep_turns(&rt, 10);
-    heap.refuse(u64::MAX);
-    let refused = turn_twice(&rt, &debouncer);
-    heap.refuse(0);
-    let later = turn_twice(&rt, &debouncer);
-    rt.stage().is_held.store(false, Ordering::SeqCst);
-    debouncer.stop();
-    let came = matches!(from.try_recv(&rt), Ok(Ok(_)));
-    assert_eq!(rt; (refused, later, came), ([0, 2], [0, 2], true));
+    let counts = turn_starved(&rt, heap, &debouncer);
+    stop_held(&rt, debouncer);
+    let came = has_come(&rt, &from);
+    drop(from);
+    assert_eq!(rt; (counts, came), ([[0, 2], [0, 2]], true));
+}
+
+/// Whether a batch has come.
+fn has_come(rt: &impl Wait, from: &Receiver<Outcome<impl Allocator>>) -> bool {
+    let received = from.try_recv(rt);
+    let came = matches!(&received, Ok(Ok(_)));
+    drop(received);
+    came
+}
+
+/// Lets the debouncer's thread take two turns by a clock that can't be read, and then two by one that can.
+/// Returns what is counted before and after each two.
+fn turn_unclocked<T: Drop, R: Staged, A: TestHeap>(
+    rt: &R,
+    debouncer: &Running<T, R, A>,
+) -> [[u64; 2]; 3] {
+    let fed = counts_of(debouncer);
+    let turned = turn_twice(rt, debouncer);
+    rt.stage().is_broken.store(false, Ordering::SeqCst);
+    [fed, turned, turn_twice(rt, debouncer)]
 }
 
 pub fn a_clock_that_fails_is_counted_for_who_reads_it<
@@ -91,18 +138,13 @@ pub fn a_clock_that_fails_is_counted_for_who_reads_it<
     requires takes { (feed : _) → T.takes feed }
 {
     let heap: A = new_heap(&rt);
-    rt.stage().is_held.store(true, Ordering::SeqCst);
-    let mut debouncer: Running<T, R, A> = start(rt, heap, Duration::from_millis(8), Silent);
+    let mut debouncer = start_held::<T, _, R, A>(rt, heap, Silent);
     rt.stage().is_broken.store(true, Ordering::SeqCst);
     // Three events and an error are reported.
     build::watch(&rt, heap, &mut debouncer, "/w");
-    let fed = counts_of(&debouncer);
-    let turned = turn_twice(&rt, &debouncer);
-    rt.stage().is_broken.store(false, Ordering::SeqCst);
-    let later = turn_twice(&rt, &debouncer);
-    rt.stage().is_held.store(false, Ordering::SeqCst);
-    debouncer.stop();
-    assert_eq!(rt; [fed, turned, later], [[4, 0], [4, 2], [4, 2]]);
+    let counts = turn_unclocked(&rt, &debouncer);
+    stop_held(&rt, debouncer);
+    assert_eq!(rt; counts, [[4, 0], [4, 2], [4, 2]]);
 }
 
 pub fn what_reports_cannot_send_is_counted<
@@ -115,15 +157,13 @@ pub fn what_reports_cannot_send_is_counted<
     let heap: A = new_heap(&rt);
     rt.stage().is_held.store(true, Ordering::SeqCst);
     let mut reports: Reports<T, R, A> = start_reports(rt, heap);
-    let place = path(&rt, heap, "/w");
-    send_in_vain(&rt, heap, &mut reports, &place);
-    send_in_vain(&rt, heap, &mut reports, &place);
+    send_in_vain(&rt, heap, &mut reports);
+    send_in_vain(&rt, heap, &mut reports);
     rt.stage().is_broken.store(true, Ordering::SeqCst);
-    watch(&rt, &mut reports, &place);
+    watch(&rt, heap, &mut reports);
     assert_eq!(rt; lost(&reports), [2, 4, 0]);
     rt.stage().is_held.store(false, Ordering::SeqCst);
-    let last = finish(reports);
-    assert_eq!(rt; [last.unsent, last.missed], [2, 4]);
+    assert_eq!(rt; reports::end(reports), (4, 2));
 }
 
 /// Starts reports that emit no event while a test runs.
@@ -147,20 +187,13 @@ fn lost<T: Drop, R: Host, A: TestHeap>(reports: &Reports<T, R, A>) -> [u64; 3] {
     ]
 }
 
-/// Ends the reports, and returns what is left.
-fn finish<T: Watcher<Feed<NoCache, R, A>, R, A>, R: Host, A: TestHeap>(
-    reports: Reports<T, R, A>,
-) -> LastReports<A> {
-    reports.finish()
-}
-
 /// Three events and an error are reported to the debouncer.
 fn watch<T: Watcher<Feed<NoCache, R, A>, R, A>, R: Host, A: TestHeap>(
     rt: &R,
+    heap: A,
     reports: &mut Reports<T, R, A>,
-    place: &PathBuf<A>,
 ) {
-    let watched = reports.watch(place, RecursiveMode::Recursive);
+    let watched = reports.watch(&path(rt, heap, "/w"), RecursiveMode::Recursive);
     watched.expect(rt, "a watch");
 }
 
@@ -169,9 +202,8 @@ fn send_in_vain<T: Watcher<Feed<NoCache, R, A>, R, A>, R: Staged, A: TestHeap>(
     rt: &R,
     heap: A,
     reports: &mut Reports<T, R, A>,
-    place: &PathBuf<A>,
 ) {
-    watch(rt, reports, place);
+    watch(rt, heap, reports);
     heap.refuse(u64::MAX);
     let turned = take_turn(rt);
     heap.refuse(0);

@@ -1,12 +1,9 @@
 //! Each request for memory refused in turn, and what a feed notes of an event.
-use crate::build::{
-    Host, Outcome, Running, channel, fill, new_heap, path, start, stop_journal, watch,
-};
+use crate::build::{Host, Outcome, Running, channel, fill, new_heap, start, stop_journal, watch};
 use crate::starting::has_ended;
 use crate::words::word_of;
 use notify_debouncer_full::{
-    Book, Command, Config, DebounceEventHandler, Entry, Feed, NoCache, PathBuf, RecursiveMode,
-    SendTo, Watcher, tick_step,
+    Book, Command, Config, DebounceEventHandler, Entry, Feed, NoCache, SendTo, Watcher, tick_step,
 };
 use refusing_allocator::{Heap, TestHeap};
 use std::alloc::Allocator;
@@ -18,8 +15,11 @@ type Given = (usize, &'static str, usize);
 
 fn given(book: &mut Book<NoCache, impl TestHeap>) -> Given {
     let (batch, errors) = tick_step(book, 100);
-    let count = batch.as_ref().map_or(0, |events| events.len());
-    (count, word_of(batch.map(|_| ())), errors.len())
+    let count = match &batch {
+        Ok(events) => events.len(),
+        Err(_) => 0,
+    };
+    (count, word_of(batch), errors.len())
 }
 
 /// Ticks while the nth request for memory is refused, and then while none is. Answers what came of each,
@@ -38,6 +38,7 @@ fn check_tick(rt: &impl Abort, heap: impl TestHeap, keeps: bool, n: u64) -> bool
     let mut book = new_book(heap, keeps);
     fill(rt, heap, &mut book);
     let (first, second, came) = tick_twice(heap, &mut book, n);
+    drop(book);
     let whole = (first, second) == ((1, "", 4), (0, "", 0));
     // A refused tick gives the errors all the same.
     let refused = (first, second) == ((0, "Memory", 4), (1, "", 0));
@@ -93,22 +94,31 @@ impl<A: Allocator> DebounceEventHandler<Outcome<A>> for Silent {
 /// How often a list may have room already for what comes.
 const ROOM: u32 = 20;
 
+/// Lets the watcher refuse the nth request for memory of each watch.
+fn refuse<T: Watcher<Feed<NoCache, R, A>, R, A>, R: Host, A: TestHeap>(
+    rt: &R,
+    debouncer: &mut Running<T, R, A>,
+    n: u64,
+) {
+    let config = Config::default().with_poll_interval(Duration::from_nanos(n));
+    debouncer.configure(config).expect(rt, "a setting");
+}
+
 /// Whether something is missed if the nth request for memory is refused.
 fn is_missed<T: Watcher<Feed<NoCache, R, A>, R, A>, R: Host, A: TestHeap>(
     rt: &R,
+    heap: A,
     debouncer: &mut Running<T, R, A>,
-    place: &PathBuf<A>,
+    place: &str,
     n: u64,
 ) -> bool {
-    let config = Config::default().with_poll_interval(Duration::from_nanos(n));
-    debouncer.configure(config).expect(rt, "a setting");
+    refuse(rt, debouncer, n);
     let before = debouncer.missed();
     for _ in 0..ROOM {
-        debouncer
-            .watch(place, RecursiveMode::Recursive)
-            .expect(rt, "memory");
-        if debouncer.missed() > before {
-            return debouncer.missed() == before.saturating_add(1);
+        watch(rt, heap, debouncer, place);
+        let missed = debouncer.missed();
+        if missed > before {
+            return missed == before.saturating_add(1);
         }
     }
     false
@@ -125,22 +135,29 @@ pub fn each_refused_event_and_error_is_missed<
     for place in ["/a", "/error"] {
         // The worker sleeps all the while, and asks for no memory.
         let mut debouncer: Running<T, R, A> = start(rt, heap, Duration::from_secs(240), Silent);
-        let place = path(&rt, heap, place);
-        assert!(rt; !is_missed(&rt, &mut debouncer, &place, 0));
-        let mut missed = 0u64;
-        for n in 1..50u64 {
-            if !is_missed(&rt, &mut debouncer, &place, n) {
-                break;
-            }
-            missed = n;
-        }
-        assert!(rt;
-            missed > 0 && missed < 49 && debouncer.missed() == missed,
-            "{missed}"
-        );
-        assert_eq!(rt; debouncer.refused_turns(), 0);
+        check_missed(&rt, heap, &mut debouncer, place);
         debouncer.stop_nonblocking();
     }
+}
+
+/// Checks that something is missed at each refused request, and at no other.
+fn check_missed<T: Watcher<Feed<NoCache, R, A>, R, A>, R: Host, A: TestHeap>(
+    rt: &R,
+    heap: A,
+    debouncer: &mut Running<T, R, A>,
+    place: &str,
+) {
+    assert!(rt; !is_missed(rt, heap, debouncer, place, 0));
+    let mut missed = 0u64;
+    for n in 1..50u64 {
+        if !is_missed(rt, heap, debouncer, place, n) {
+            break;
+        }
+        missed = n;
+    }
+    let counts = [debouncer.missed(), debouncer.refused_turns()];
+    assert!(rt; missed > 0 && missed < 49, "{missed}");
+    assert_eq!(rt; counts, [missed, 0]);
 }
 
 pub fn each_refused_copy_of_the_journal_is_reported<
@@ -161,6 +178,21 @@ pub fn each_refused_copy_of_the_journal_is_reported<
     assert!(rt; 1 < refused && refused < 199, "{refused}");
 }
 
+/// Starts a debouncer that watches a path. The worker sleeps all the while, and asks for no memory.
+fn start_asleep<
+    T: Watcher<Feed<NoCache, R, A>, R, A>,
+    H: DebounceEventHandler<Outcome<A>>,
+    R: Host,
+    A: TestHeap,
+>(rt: R, heap: A, handler: H) -> Running<T, R, A>
+    requires ready { H.ready handler }
+    requires takes { (feed : _) → T.takes feed }
+{
+    let mut debouncer: Running<T, R, A> = start(rt, heap, Duration::from_secs(240), handler);
+    watch(&rt, heap, &mut debouncer, "/a");
+    debouncer
+}
+
 /// Stops a debouncer while the nth request for memory is refused. Checks that this is reported and the
 /// worker has ended. Answers whether that many requests came.
 fn is_copy_refused<T: Watcher<Feed<NoCache, R, A>, R, A>, R: Host, A: TestHeap>(
@@ -171,17 +203,26 @@ fn is_copy_refused<T: Watcher<Feed<NoCache, R, A>, R, A>, R: Host, A: TestHeap>(
     requires takes { (feed : _) → T.takes feed }
 {
     let (to, from) = channel(&rt);
-    // The worker sleeps all the while, and asks for no memory.
-    let long = Duration::from_secs(240);
-    let mut debouncer: Running<T, R, A> = start(rt, heap, long, SendTo::new(rt, to));
-    watch(&rt, heap, &mut debouncer, "/a");
-    heap.refuse(n);
-    let answer = word_of(debouncer.stop_journal().map(|_| ()));
-    let came = heap.left() == 0;
-    heap.refuse(0);
+    let debouncer = start_asleep::<T, _, R, A>(rt, heap, SendTo::new(rt, to));
+    let (answer, came) = stop_refused(heap, debouncer, n);
     assert!(rt; has_ended(&rt, &from));
+    drop(from);
     assert_eq!(rt; answer, if came { "Memory" } else { "" });
     came
+}
+
+/// Stops the debouncer while the nth request for memory is refused. Returns why there was no journal, if
+/// there was none, and whether that many requests came.
+fn stop_refused<T: Drop, R: Host, A: TestHeap>(
+    heap: A,
+    debouncer: Running<T, R, A>,
+    n: u64,
+) -> (&'static str, bool) {
+    heap.refuse(n);
+    let answer = word_of(debouncer.stop_journal());
+    let came = heap.left() == 0;
+    heap.refuse(0);
+    (answer, came)
 }
 
 /// Whether the first path of each event existed when it was fed.
@@ -205,9 +246,10 @@ pub fn a_feed_sees_whether_the_path_of_a_half_exists<
 {
     let heap: A = new_heap(&rt);
     let mut debouncer: Running<T, R, A> = start(rt, heap, Duration::from_millis(4), Silent);
-    for place in ["/", "/nothing has this name"] {
-        watch(&rt, heap, &mut debouncer, place);
-    }
+    watch(&rt, heap, &mut debouncer, "/");
+    watch(&rt, heap, &mut debouncer, "/nothing has this name");
     let (_, journal) = stop_journal(&rt, debouncer);
-    assert_eq!(rt; existing(&rt, &journal).as_str(), "yes no ");
+    let text = existing(&rt, &journal);
+    drop(journal);
+    assert_eq!(rt; text.as_str(), "yes no ");
 }

@@ -1,10 +1,12 @@
 //! What is reported of a folder of the test's own.
-use crate::build::{Host, Outcome, TURNS, channel, path, sleep_a_turn};
+use crate::build;
+use crate::build::{Host, Memory, Outcome, Running, TURNS, channel, path, sleep_a_turn};
 use crate::losses::has_batch;
 use crate::words::push_event;
+use crossbeam_channel::Receiver;
 use notify_debouncer_full::{
-    Config, DebouncerRuntime, Feed, LastReports, NoCache, PathBuf, RecommendedReports,
-    RecursiveMode, Reports, SendTo, Watcher, new_debouncer, new_debouncer_with_config,
+    Config, Feed, Hints, LastReports, NoCache, PathBuf, PollWatcher, RecursiveMode, Reports,
+    SendTo, Watcher, new_debouncer, new_debouncer_with_config,
 };
 use std::alloc::Global;
 use std::fs::Files;
@@ -13,6 +15,25 @@ use std::process::Abort;
 use std::rt::Env;
 use std::time::{Clock, Duration};
 use std::{env, fs, process};
+
+/// A watcher that polls. There is memory for it, so each call gives what it is asked for.
+pub(crate) trait Polls<R: Host>: Watcher<Feed<NoCache, R>, R, Global> {
+    /// What takes hints for it.
+    fn hints_of(&self, rt: &R) -> Hints<R>;
+
+    /// The path at which its last round failed.
+    fn failed(&self, rt: &R) -> Option<PathBuf>;
+}
+
+impl<R: Host> Polls<R> for PollWatcher<R, Global> {
+    fn hints_of(&self, rt: &R) -> Hints<R> {
+        self.hints().expect(rt, "memory")
+    }
+
+    fn failed(&self, rt: &R) -> Option<PathBuf> {
+        self.failed_path().expect(rt, "memory")
+    }
+}
 
 /// The path of an entry of the folder at `top`.
 pub(crate) fn entry(rt: &(impl Abort + AllocGlobal), top: &str, name: &str) -> String {
@@ -30,6 +51,19 @@ pub(crate) fn start_reports<T: Watcher<Feed<NoCache, R>, R, Global>, R: Host>(
     started.expect(&rt, "a start")
 }
 
+/// Starts reports of a path, at which the watcher looks so often.
+pub(crate) fn start_watched<T: Watcher<Feed<NoCache, R>, R, Global>, R: Host>(
+    rt: R,
+    place: &str,
+    interval: Duration,
+) -> Reports<T, R>
+    requires takes { (feed : _) → T.takes feed }
+{
+    let mut reports = start_reports(rt, Config::default().with_poll_interval(interval));
+    watch(rt, &mut reports, place, RecursiveMode::Recursive);
+    reports
+}
+
 /// Watches a path, which is not refused.
 pub(crate) fn watch<T: Watcher<Feed<NoCache, R>, R, Global>, R: Host>(
     rt: R,
@@ -42,36 +76,47 @@ pub(crate) fn watch<T: Watcher<Feed<NoCache, R>, R, Global>, R: Host>(
 }
 
 /// Ends the reports, and returns what is left.
-pub(crate) fn finish<T: Watcher<Feed<NoCache, R>, R, Global>, R: Host>(
-    reports: Reports<T, R>,
-) -> LastReports {
+pub(crate) fn finish<T: Watcher<Feed<NoCache, R, A>, R, A>, R: Host, A: Memory>(
+    reports: Reports<T, R, A>,
+) -> LastReports<A> {
     reports.finish()
 }
 
+/// Ends the reports, and returns how many items were missed and how many reports could not be sent.
+pub(crate) fn end<T: Watcher<Feed<NoCache, R, A>, R, A>, R: Host, A: Memory>(
+    reports: Reports<T, R, A>,
+) -> (u64, u64) {
+    let last = finish(reports);
+    let lost = (last.missed, last.unsent);
+    drop(last);
+    lost
+}
+
+/// Makes a folder of a scene's own in that of the test, and returns its path.
+pub(crate) fn new_folder(rt: &(impl Abort + AllocGlobal + Files), top: &str, name: &str) -> String {
+    let folder = entry(rt, top, name);
+    fs::create_dir(rt, folder.as_str()).expect(rt, "a folder");
+    folder
+}
+
 /// Makes a folder with a file in it, and a link to it.
-fn make_tree(rt: &(impl Abort + AllocGlobal + Files), top: &str) {
-    fs::create_dir(rt, top).expect(rt, "the top");
+pub(crate) fn make_tree(rt: &(impl Abort + AllocGlobal + Files), top: &str) {
     fs::create_dir(rt, entry(rt, top, "/d").as_str()).expect(rt, "a folder");
     fs::write(rt, entry(rt, top, "/d/x").as_str(), "x").expect(rt, "a file");
     turn_link(rt, top, "/d");
 }
 
-/// Lets the link lead to this entry.
-fn turn_link(rt: &(impl Abort + AllocGlobal + Files), top: &str, to: &str) {
+/// Lets the link `l` of the folder lead to this entry.
+pub(crate) fn turn_link(rt: &(impl Abort + AllocGlobal + Files), top: &str, to: &str) {
     let (link, next) = (entry(rt, top, "/l"), entry(rt, top, "/next"));
     symlink(rt, entry(rt, top, to).as_str(), next.as_str()).expect(rt, "a link");
     fs::rename(rt, next.as_str(), link.as_str()).expect(rt, "a link");
 }
 
 /// Waits until the watcher tells that its last round failed at this path, or at none.
-fn tells(
-    rt: &(impl Abort + Clock),
-    reports: &RecommendedReports<impl DebouncerRuntime>,
-    wanted: Option<&PathBuf>,
-) -> bool {
+fn tells<T: Polls<R>, R: Host>(rt: &R, reports: &Reports<T, R>, wanted: Option<&PathBuf>) -> bool {
     for _ in 0..TURNS {
-        let failed = reports.debouncer().watcher().failed_path();
-        if failed.expect(rt, "memory").as_ref() == wanted {
+        if reports.debouncer().watcher().failed(rt).as_ref() == wanted {
             return true;
         }
         sleep_a_turn(rt);
@@ -80,7 +125,7 @@ fn tells(
 }
 
 /// What is reported within some seconds: how many events, and how many errors.
-fn counts(reports: &RecommendedReports<impl DebouncerRuntime>) -> [usize; 2] {
+fn counts<T: Drop, R: Host>(reports: &Reports<T, R>) -> [usize; 2] {
     match reports.next_within(Duration::from_secs(4)) {
         Some(Ok(batch)) => [batch.len(), 0],
         Some(Err(errors)) => [0, errors.len()],
@@ -90,10 +135,10 @@ fn counts(reports: &RecommendedReports<impl DebouncerRuntime>) -> [usize; 2] {
 
 /// Watches a file behind a link that comes to lead to itself, and then back. Returns what was reported
 /// first, and whether the watcher told of the path and then of none.
-fn follow_link(
-    rt: &(impl Abort + AllocGlobal + Files + Clock),
+fn follow_link<T: Polls<R>, R: Host>(
+    rt: &R,
     top: &str,
-    reports: &RecommendedReports<impl DebouncerRuntime>,
+    reports: &Reports<T, R>,
     file: &str,
 ) -> ([usize; 2], bool, bool) {
     turn_link(rt, top, "/l");
@@ -109,26 +154,25 @@ pub(crate) fn new_top(rt: &(impl Abort + AllocGlobal + Env), id: u32, name: &str
     format!(in rt.alloc(); "{}/{name}_{id}", base.as_str()).expect(rt, "memory")
 }
 
-#[test]
-fn the_path_that_fails_is_told(rt: HostRuntime) {
-    let top = new_top(&rt, process::id(rt.process()), "failed");
+pub fn the_path_that_fails_is_told<T: Polls<R>, R: Host>(rt: R, top: &str)
+    requires takes { (feed : _) → T.takes feed }
+{
+    let top = new_folder(&rt, top, "/failed");
     make_tree(&rt, top.as_str());
-    let (answer, lost) = watch_link(rt, top.as_str());
-    fs::remove_dir_all(&rt, top.as_str()).expect(&rt, "it is there");
+    let (answer, lost) = watch_link::<T, R>(rt, top.as_str());
     let ([_, errors], told, told_none) = answer;
     assert!(rt; errors > 0 && told && told_none);
     assert_eq!(rt; lost, (0, 0));
 }
 
 /// Returns what [`follow_link`] does, and how many items and calls were lost.
-fn watch_link<R: Host>(rt: R, top: &str) -> (([usize; 2], bool, bool), (u64, u64)) {
-    let config = Config::default().with_poll_interval(Duration::from_millis(2));
+fn watch_link<T: Polls<R>, R: Host>(rt: R, top: &str) -> (([usize; 2], bool, bool), (u64, u64))
+    requires takes { (feed : _) → T.takes feed }
+{
     let file = entry(&rt, top, "/l/x");
-    let mut reports: RecommendedReports<R> = start_reports(rt, config);
-    watch(rt, &mut reports, file.as_str(), RecursiveMode::Recursive);
+    let reports: Reports<T, R> = start_watched(rt, file.as_str(), Duration::from_millis(2));
     let answer = follow_link(&rt, top, &reports, file.as_str());
-    let last = finish(reports);
-    (answer, (last.missed, last.unsent))
+    (answer, end(reports))
 }
 
 #[test]
@@ -146,20 +190,24 @@ fn a_config_says_how_often_the_watcher_looks(rt: HostRuntime) {
 /// at it so often.
 fn sees_a_file<R: Host>(rt: R, top: &str, name: &str, interval: Duration) -> bool {
     let (to, from) = channel::<Global>(&rt);
-    let made = new_debouncer_with_config(
-        rt,
-        rt.alloc(),
-        Duration::from_millis(4),
-        None,
-        SendTo::new(rt, to),
-        Config::default().with_poll_interval(interval),
-    );
-    let mut debouncer = made.expect(&rt, "a debouncer");
-    debouncer
-        .watch(&path(&rt, rt.alloc(), top), RecursiveMode::Recursive)
-        .expect(&rt, "a watch");
+    let (timeout, handler) = (Duration::from_millis(4), SendTo::new(rt, to));
+    let config = Config::default().with_poll_interval(interval);
+    let made = new_debouncer_with_config(rt, rt.alloc(), timeout, None, handler, config);
+    let debouncer = made.expect(&rt, "a debouncer");
+    is_file_seen(rt, debouncer, &from, top, name)
+}
+
+fn is_file_seen<T: Watcher<Feed<NoCache, R>, R, Global>, R: Host>(
+    rt: R,
+    debouncer: Running<T, R, Global>,
+    from: &Receiver<Outcome<Global>>,
+    top: &str,
+    name: &str,
+) -> bool {
+    let mut debouncer = debouncer;
+    build::watch(&rt, rt.alloc(), &mut debouncer, top);
     fs::write(&rt, entry(&rt, top, name).as_str(), "x").expect(&rt, "a file");
-    let seen = has_batch(&rt, &from);
+    let seen = has_batch(&rt, from);
     debouncer.stop();
     seen
 }
@@ -178,19 +226,30 @@ fn a_file_that_is_made_is_reported(rt: HostRuntime) {
 /// What is reported first, and at most a minute later, after the file is made in a watched folder.
 fn first_report<R: Host>(rt: R, top: &str, file: &str) -> String {
     let (to, from) = channel::<Global>(&rt);
-    let timeout = Duration::from_millis(10);
-    let made = new_debouncer(rt, rt.alloc(), timeout, None, SendTo::new(rt, to));
-    let mut debouncer = made.expect(&rt, "a debouncer");
-    debouncer
-        .watch(&path(&rt, rt.alloc(), top), RecursiveMode::Recursive)
-        .expect(&rt, "a watch");
+    let (timeout, handler) = (Duration::from_millis(10), SendTo::new(rt, to));
+    let made = new_debouncer(rt, rt.alloc(), timeout, None, handler);
+    let debouncer = made.expect(&rt, "a debouncer");
+    report_of(rt, debouncer, &from, top, file)
+}
+
+fn report_of<T: Watcher<Feed<NoCache, R>, R, Global>, R: Host>(
+    rt: R,
+    debouncer: Running<T, R, Global>,
+    from: &Receiver<Outcome<Global>>,
+    top: &str,
+    file: &str,
+) -> String {
+    let mut debouncer = debouncer;
+    build::watch(&rt, rt.alloc(), &mut debouncer, top);
     fs::write(&rt, file, "x").expect(&rt, "a file");
     let report = from.recv_timeout(&rt, Duration::from_secs(50));
     debouncer.stop();
-    match &report {
+    let text = match &report {
         Ok(report) => text_of(&rt, report),
         Err(_) => String::new(rt.alloc()),
-    }
+    };
+    drop(report);
+    text
 }
 
 /// The events of a report; nothing of errors.

@@ -1,12 +1,15 @@
-//! Scenes with a debouncer, in a test for each watcher of the tests' own. A scene is a function over every
-//! watcher: what a debouncer asks of a watcher and its thread is proved once for each watcher, here, and
-//! not for each scene.
+//! Scenes with a debouncer, in a test for each watcher. A scene is a function over every watcher: what a
+//! debouncer asks of a watcher and its thread is proved once for each watcher, here, and not for each scene.
 use crate::build::Host;
 use crate::ending::{
     a_closure_counts_what_it_cannot_send, a_journal_that_was_taken_is_not_given_whole,
     a_long_tick_does_not_hold_up_a_stop, a_root_that_a_refused_unwatch_left_is_removed,
     a_tick_of_nothing_does_not_spin, the_parts_of_a_journal_in_a_row_are_the_journal,
     what_is_fed_by_hand_is_in_the_book, what_was_never_emitted_is_in_the_book,
+};
+use crate::hints::{
+    a_hint_is_looked_at_and_a_round_follows, a_refused_look_is_followed_by_a_round,
+    a_stop_ends_a_long_sleep,
 };
 use crate::losses::{
     a_clock_that_fails_is_counted_for_who_reads_it, a_refused_turn_is_counted_and_loses_nothing,
@@ -16,6 +19,7 @@ use crate::memory::{
     a_feed_sees_whether_the_path_of_a_half_exists, each_refused_copy_of_the_journal_is_reported,
     each_refused_event_and_error_is_missed,
 };
+use crate::reports::{Polls, new_top, the_path_that_fails_is_told};
 use crate::running::{
     a_closure_is_called_with_a_batch, handler_holds_first_batch, journal_is_handed_out,
 };
@@ -32,9 +36,14 @@ use crate::watching::{
     a_watch_is_refused_at_each_request, a_watch_says_that_a_watcher_was_not_made,
     a_watch_says_what_goes_wrong, what_waits_at_the_end_is_printed,
 };
-use notify_debouncer_full::{Feed, NoCache, Watcher};
+use crate::whole_folders::{
+    roots_that_overlap_are_read, what_changed_before_the_end_is_read,
+    what_stands_there_is_reported_soon,
+};
+use notify_debouncer_full::{Feed, NoCache, PollWatcher, Watcher};
 use refusing_allocator::{Heap, TestHeap};
 use std::alloc::Global;
+use std::{fs, process};
 
 /// A watcher that reports in a thread of its own.
 #[test]
@@ -128,4 +137,25 @@ fn play_unmade<T: Watcher<Feed<NoCache, R, A>, R, A>, R: Host, A: TestHeap>(rt: 
     a_tick_rate_above_the_timeout_starts_nothing::<T, R, A>(rt);
     a_watcher_that_fails_lets_the_worker_end::<T, R, A>(rt);
     a_watch_says_that_a_watcher_was_not_made::<T, R, A>(rt);
+}
+
+/// The watcher that polls, over a folder of the test's own.
+#[test]
+fn a_watcher_polls(rt: HostRuntime) {
+    let top = new_top(&rt, process::id(rt.process()), "polled");
+    fs::create_dir(&rt, top.as_str()).expect(&rt, "the top");
+    play_polling::<PollWatcher<HostRuntime>, HostRuntime>(rt, top.as_str());
+    fs::remove_dir_all(&rt, top.as_str()).expect(&rt, "it is there");
+}
+
+fn play_polling<T: Polls<R>, R: Host>(rt: R, top: &str)
+    requires takes { (feed : _) → T.takes feed }
+{
+    a_hint_is_looked_at_and_a_round_follows::<T, R>(rt, top);
+    a_refused_look_is_followed_by_a_round::<T, R>(rt, top);
+    a_stop_ends_a_long_sleep::<T, R>(rt, top);
+    the_path_that_fails_is_told::<T, R>(rt, top);
+    what_changed_before_the_end_is_read::<T, R>(rt, top);
+    what_stands_there_is_reported_soon::<T, R>(rt, top);
+    roots_that_overlap_are_read::<T, R>(rt, top);
 }

@@ -5,8 +5,8 @@ use crate::running::{Holder, wait_for, wait_for_more};
 use crate::stage::{Staged, is_paused, take_turn};
 use crate::words::word_of;
 use notify_debouncer_full::{
-    Config, DebounceDataInner, Entry, Error, Feed, Moment, NoCache, PathBuf, RecursiveMode,
-    Watcher, new_debouncer_opt,
+    Config, DebounceDataInner, Entry, Error, Feed, Moment, NoCache, RecursiveMode, Watcher,
+    new_debouncer_opt,
 };
 use refusing_allocator::TestHeap;
 use std::process::Abort;
@@ -99,7 +99,9 @@ fn is_empty<A: TestHeap>(answer: Result<(Moment, Vec<Entry<A>, A>), Error<A>>) -
     let Ok((timeout, journal)) = answer else {
         return false;
     };
-    timeout == u128::from(1_000_000 * MILLIS) && journal.is_empty()
+    let empty = journal.is_empty();
+    drop(journal);
+    empty && timeout == u128::from(1_000_000 * MILLIS)
 }
 
 /// How many milliseconds the timeout and the tick are.
@@ -114,28 +116,36 @@ pub fn a_stop_lets_one_turn_end_at_most<
 {
     let heap: A = new_heap(&rt);
     for (phase, way) in STOPS {
-        let rt = rt.anew();
-        let stage = rt.stage();
-        // The watcher goes on all the while, so each turn more would be heard of.
-        stage.flows.store(true, Ordering::SeqCst);
-        stage.is_held.store(true, Ordering::SeqCst);
-        let holds = matches!(phase, Phase::Held);
-        stage.seen.answered.store(!holds, Ordering::SeqCst);
-        let debouncer = start_watched::<T, R, A>(rt, heap);
-        let reached = is_reached(&rt, phase) && debouncer.missed() == 0;
-        let stopped = stop(&rt, debouncer, way);
-        let ended = wait_for(&rt, &stage.seen.ended);
-        stage.flows.store(false, Ordering::SeqCst);
-        assert!(rt; reached && stopped && ended, "{phase:?} {way:?}");
-        let ([batches, errors], [most, most_errors]) = (
-            stage.calls_since_the_end(),
-            allowed(phase),
-        );
-        assert!(rt;
-            batches <= most && errors <= most_errors,
-            "{phase:?} {way:?} {batches} {errors}"
-        );
+        check_stop::<T, R, A>(rt.anew(), heap, phase, way);
     }
+}
+
+/// Leads a debouncer to this phase and stops it, and checks that one turn ends at most.
+fn check_stop<T: Watcher<Feed<NoCache, R, A>, R, A>, R: Staged, A: TestHeap>(
+    rt: R,
+    heap: A,
+    phase: Phase,
+    way: Ending,
+)
+    requires takes { (feed : _) → T.takes feed }
+{
+    let stage = rt.stage();
+    // The watcher goes on all the while, so each turn more would be heard of.
+    stage.flows.store(true, Ordering::SeqCst);
+    stage.is_held.store(true, Ordering::SeqCst);
+    let holds = matches!(phase, Phase::Held);
+    stage.seen.answered.store(!holds, Ordering::SeqCst);
+    let debouncer = start_watched::<T, R, A>(rt, heap);
+    let reached = is_reached(&rt, phase) && debouncer.missed() == 0;
+    let stopped = stop(&rt, debouncer, way);
+    let ended = wait_for(&rt, &stage.seen.ended);
+    stage.flows.store(false, Ordering::SeqCst);
+    assert!(rt; reached && stopped && ended, "{phase:?} {way:?}");
+    let ([batches, errors], [most, most_errors]) = (stage.calls_since_the_end(), allowed(phase));
+    assert!(rt;
+        batches <= most && errors <= most_errors,
+        "{phase:?} {way:?} {batches} {errors}"
+    );
 }
 
 /// Starts a debouncer without a journal that watches something, and whose handler holds its first batch.
@@ -169,7 +179,12 @@ fn start_watched<T: Watcher<Feed<NoCache, R, A>, R, A>, R: Staged, A: TestHeap>(
 fn replayed<A: TestHeap>(heap: A, journal: Vec<Entry<A>, A>) -> DebounceDataInner<NoCache, A> {
     let mut core = DebounceDataInner::new(heap, NoCache::new(), 0);
     for entry in journal {
-        core.step(entry.command);
+        let Entry {
+            from: _,
+            command,
+            reply,
+        } = entry;
+        drop((core.step(command), reply));
     }
     core
 }
@@ -184,9 +199,10 @@ fn refusal_of<T: Watcher<Feed<NoCache, R, A>, R, A>, R: Host, A: TestHeap>(
     let place = path(rt, heap, place);
     let starved = place.as_str() == "/starved";
     heap.refuse(if starved { u64::MAX } else { 0 });
-    let answer = debouncer.watch(&place, RecursiveMode::Recursive);
+    let answer = word_of(debouncer.watch(&place, RecursiveMode::Recursive));
     heap.refuse(0);
-    word_of(answer)
+    drop(place);
+    answer
 }
 
 /// Which of these paths are watched with what is below them, as the journal tells.
@@ -198,15 +214,22 @@ fn roots_in<A: TestHeap>(
 ) -> [bool; 3] {
     let core = replayed(heap, journal);
     let [first, second, third] = places;
-    [
-        is_root(&core, &path(rt, heap, first)),
-        is_root(&core, &path(rt, heap, second)),
-        is_root(&core, &path(rt, heap, third)),
-    ]
+    let roots = [
+        is_root(rt, heap, &core, first),
+        is_root(rt, heap, &core, second),
+        is_root(rt, heap, &core, third),
+    ];
+    drop(core);
+    roots
 }
 
-fn is_root<A: TestHeap>(core: &DebounceDataInner<NoCache, A>, place: &PathBuf<A>) -> bool {
-    core.recursive_mode(place) == RecursiveMode::Recursive
+fn is_root<A: TestHeap>(
+    rt: &impl Abort,
+    heap: A,
+    core: &DebounceDataInner<NoCache, A>,
+    place: &str,
+) -> bool {
+    core.recursive_mode(&path(rt, heap, place)) == RecursiveMode::Recursive
 }
 
 pub fn a_refused_watch_adds_no_root_and_a_refused_unwatch_drops_none<

@@ -58,6 +58,7 @@ fn two_scripts_meet(rt: HostRuntime) {
     }
     let journal = run_threads(&rt, alloc, 50, scripts, &flags).expect(&rt, "an answer");
     assert_eq!(rt; journal.len(), 4);
+    drop(journal);
     let [first, second] = &flags.steps;
     let steps = [first.load(Ordering::SeqCst), second.load(Ordering::SeqCst)];
     assert_eq!(rt; (steps, flags.alone.load(Ordering::SeqCst)), ([2, 2], 0));
@@ -75,6 +76,7 @@ fn no_script_and_one_script_give_their_journals(rt: HostRuntime) {
         .expect(&rt, "memory");
     let journal = run_threads(&rt, alloc, 50, scripts, &NoMeet).expect(&rt, "an answer");
     let seen = text_of(&rt, journal.as_slice());
+    drop(journal);
     assert_eq!(rt;
         seen.as_str(),
         "0 taken, 0 batch, 0 batch Create(Any) /a 0, "
@@ -196,7 +198,7 @@ fn refuse_one<R: Host, A: TestHeap>(rt: R) {
     }
     let answer = run_threads(&rt, heap, 50, scripts, &meet);
     let steps = meet.steps.load(Ordering::SeqCst);
-    assert_eq!(rt; (word_of(answer.map(|_| ())), steps), ("Memory", 2));
+    assert_eq!(rt; (word_of(answer), steps), ("Memory", 2));
 }
 
 const SAME: &str = "entries 2\ntaken 1\nreplay same\n";

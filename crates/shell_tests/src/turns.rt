@@ -128,6 +128,7 @@ fn a_fed_book_gives_the_event_and_the_error(rt: HostRuntime) {
     let mut given = String::new(alloc);
     push_outcome(&mut given, &Ok(batch.expect(&rt, "memory"))).expect(&rt, "memory");
     push_outcome(&mut given, &Err(errors)).expect(&rt, "memory");
+    drop(book);
     assert_eq!(rt;
         given.as_str(),
         "batch Create(Any) /a 0; errors PathNotFound; "
@@ -145,6 +146,7 @@ fn a_turn_hands_out_what_a_book_gives(rt: HostRuntime) {
     check_turn(&rt, &mut gate, 49, "errors PathNotFound; ", "");
     check_turn(&rt, &mut gate, 50, "batch Create(Any) /a 0; ", "");
     check_turn(&rt, &mut gate, 100, "", "");
+    drop(gate);
 }
 
 #[test]
@@ -162,6 +164,7 @@ fn a_turn_hands_out_the_batch_and_then_the_errors(rt: HostRuntime) {
     gate.batch = Err(Error::out_of_memory(alloc));
     gate.errors.push(not_found(alloc)).expect(&rt, "memory");
     check_turn(&rt, &mut gate, 100, "errors PathNotFound; ", "Memory");
+    drop(gate);
 }
 
 #[test]
@@ -182,7 +185,9 @@ fn refuse_turns<A: TestHeap, R: Abort + AllocGlobal>(rt: &R) {
             book: Book::new(heap, NoCache::new(), 50),
         };
         fill(rt, heap, &mut gate.book);
-        if !check_refused_turn(rt, heap, &mut gate, n) {
+        let came = check_refused_turn(rt, heap, &mut gate, n);
+        drop(gate);
+        if !came {
             break;
         }
         refused = n;

@@ -1,18 +1,20 @@
 //! A watcher that begins with nothing, and looks once more before its end: a reader has the whole folder.
 use crate::build::{Host, path};
-use crate::reports::{entry, finish, new_top, start_reports, watch};
+use crate::reports::{Polls, entry, finish, new_folder, start_reports, watch};
 use notify_debouncer_full::{
-    Config, LastReports, PathBuf, RealFolders, RecommendedReports, RecursiveMode, list,
+    Config, LastReports, PathBuf, RealFolders, RecursiveMode, Reports, list,
 };
 use path_sets::PathSet;
+use std::fs;
 use std::fs::Files;
 use std::process::Abort;
 use std::sync::Wait;
 use std::time::Duration;
-use std::{fs, process};
 
 /// Begins with nothing, and looks so often.
-fn start<R: Host>(rt: R, interval: Duration) -> RecommendedReports<R> {
+fn start<T: Polls<R>, R: Host>(rt: R, interval: Duration) -> Reports<T, R>
+    requires takes { (feed : _) → T.takes feed }
+{
     let config = Config::default()
         .with_poll_interval(interval)
         .with_initial_events(true);
@@ -20,7 +22,9 @@ fn start<R: Host>(rt: R, interval: Duration) -> RecommendedReports<R> {
 }
 
 /// Watches the folder by looks each hour: any look but the first and the last is one that was asked for.
-fn start_watched<R: Host>(rt: R, top: &str) -> RecommendedReports<R> {
+fn start_watched<T: Polls<R>, R: Host>(rt: R, top: &str) -> Reports<T, R>
+    requires takes { (feed : _) → T.takes feed }
+{
     let mut reports = start(rt, Duration::from_secs(3600));
     watch(rt, &mut reports, top, RecursiveMode::Recursive);
     reports
@@ -49,70 +53,88 @@ fn read_paths(rt: &(impl Abort + AllocGlobal + Wait), last: &LastReports) -> Vec
     }
     let pending = last.book.outlook().expect(rt, "memory");
     paths.play(pending.as_slice()).expect(rt, "memory");
-    paths.to_list().expect(rt, "memory")
+    drop(pending);
+    let list = paths.to_list().expect(rt, "memory");
+    drop(paths);
+    list
 }
 
 /// The paths that are there: the folder, what is above it, and what is below.
 fn paths_there<R: Host>(rt: R, top: &str) -> Vec<PathBuf> {
     let roots = [(path(&rt, rt.alloc(), top), RecursiveMode::Recursive)];
-    let listing = list(rt.alloc(), &mut RealFolders::new(rt, rt.alloc()), &roots);
+    let mut folders = RealFolders::new(rt, rt.alloc());
+    let listing = list(rt.alloc(), &mut folders, &roots).expect(&rt, "a listing");
+    drop((folders, roots));
     let mut paths = Vec::new(rt.alloc());
-    for (path, _found) in listing.expect(&rt, "a listing").iter() {
+    for (path, _found) in listing.iter() {
         paths
             .push(path.clone().expect(&rt, "memory"))
             .expect(&rt, "memory");
     }
+    drop(listing);
     paths
 }
 
-/// Whether a reader has the folder's paths, if it changes until the very end.
-fn is_read<R: Host>(rt: R, top: &str, turn: u32) -> bool {
-    let reports = start_watched(rt, top);
-    change(&rt, top, turn);
-    let last = finish(reports);
-    read_paths(&rt, &last) == paths_there(rt, top)
+/// Whether a reader who was given all that is left has the folder's paths.
+fn is_whole<R: Host>(rt: R, top: &str, last: &LastReports) -> bool {
+    read_paths(&rt, last) == paths_there(rt, top)
 }
 
-#[test]
-fn what_changed_before_the_end_is_read(rt: HostRuntime) {
-    let top = new_top(&rt, process::id(rt.process()), "ended");
-    fs::create_dir(&rt, top.as_str()).expect(&rt, "the top");
+/// Whether a reader has the folder's paths, if it changes until the very end.
+fn is_read<T: Polls<R>, R: Host>(rt: R, top: &str, turn: u32) -> bool
+    requires takes { (feed : _) → T.takes feed }
+{
+    let reports: Reports<T, R> = start_watched(rt, top);
+    change(&rt, top, turn);
+    let last = finish(reports);
+    let whole = is_whole(rt, top, &last);
+    drop(last);
+    whole
+}
+
+pub fn what_changed_before_the_end_is_read<T: Polls<R>, R: Host>(rt: R, top: &str)
+    requires takes { (feed : _) → T.takes feed }
+{
+    let top = new_folder(&rt, top, "/ended");
     let mut read = 0u32;
     for turn in 0..100u32 {
-        if is_read(rt, top.as_str(), turn) {
+        if is_read::<T, R>(rt, top.as_str(), turn) {
             read = read.saturating_add(1);
         }
     }
-    fs::remove_dir_all(&rt, top.as_str()).expect(&rt, "it is there");
     assert_eq!(rt; read, 100);
 }
 
 /// Whether something is reported within some seconds, though the watcher looks each hour.
-fn reports_soon<R: Host>(rt: R, top: &str) -> bool {
-    let reports = start_watched(rt, top);
-    let report = reports.next_within(Duration::from_secs(10));
-    finish(reports);
-    matches!(report, Some(Ok(_)))
+fn reports_soon<T: Polls<R>, R: Host>(rt: R, top: &str) -> bool
+    requires takes { (feed : _) → T.takes feed }
+{
+    let reports: Reports<T, R> = start_watched(rt, top);
+    let reported = has_report(&reports);
+    drop(finish(reports));
+    reported
 }
 
-#[test]
-fn what_stands_there_is_reported_soon(rt: HostRuntime) {
-    let top = new_top(&rt, process::id(rt.process()), "begun");
-    fs::create_dir(&rt, top.as_str()).expect(&rt, "the top");
-    let reported = reports_soon(rt, top.as_str());
-    fs::remove_dir_all(&rt, top.as_str()).expect(&rt, "it is there");
-    assert!(rt; reported);
+fn has_report<T: Drop, R: Host>(reports: &Reports<T, R>) -> bool {
+    matches!(reports.next_within(Duration::from_secs(10)), Some(Ok(_)))
+}
+
+pub fn what_stands_there_is_reported_soon<T: Polls<R>, R: Host>(rt: R, top: &str)
+    requires takes { (feed : _) → T.takes feed }
+{
+    let top = new_folder(&rt, top, "/begun");
+    assert!(rt; reports_soon::<T, R>(rt, top.as_str()));
 }
 
 /// Watches a path no longer.
-fn unwatch<R: Host>(rt: R, reports: &mut RecommendedReports<R>, place: &str) {
+fn unwatch<T: Polls<R>, R: Host>(rt: R, reports: &mut Reports<T, R>, place: &str) {
     let unwatched = reports.unwatch(&path(&rt, rt.alloc(), place));
     unwatched.expect(&rt, "it was watched");
 }
 
 /// Watches a part of the folder, then all of it too, and then all of it alone, while the part changes at
 /// three moments and the watcher looks again and again.
-fn watch_both<R: Host>(rt: R, top: &str, reports: &mut RecommendedReports<R>, moment: u32) {
+fn watch_both<T: Polls<R>, R: Host>(rt: R, top: &str, reports: &mut Reports<T, R>, moment: u32) {
     let part = entry(&rt, top, "/part");
     watch(rt, reports, part.as_str(), RecursiveMode::NonRecursive);
     change(&rt, part.as_str(), moment);
@@ -123,24 +145,27 @@ fn watch_both<R: Host>(rt: R, top: &str, reports: &mut RecommendedReports<R>, mo
 }
 
 /// Whether a reader has the folder's paths then.
-fn is_read_by_two_roots<R: Host>(rt: R, top: &str, moment: u32) -> bool {
-    let mut reports = start(rt, Duration::from_millis(2));
+fn is_read_by_two_roots<T: Polls<R>, R: Host>(rt: R, top: &str, moment: u32) -> bool
+    requires takes { (feed : _) → T.takes feed }
+{
+    let mut reports: Reports<T, R> = start(rt, Duration::from_millis(2));
     watch_both(rt, top, &mut reports, moment);
     let last = finish(reports);
-    read_paths(&rt, &last) == paths_there(rt, top)
+    let whole = is_whole(rt, top, &last);
+    drop(last);
+    whole
 }
 
-#[test]
-fn roots_that_overlap_are_read(rt: HostRuntime) {
-    let top = new_top(&rt, process::id(rt.process()), "overlapped");
-    fs::create_dir(&rt, top.as_str()).expect(&rt, "the top");
-    fs::create_dir(&rt, entry(&rt, top.as_str(), "/part").as_str()).expect(&rt, "a part");
+pub fn roots_that_overlap_are_read<T: Polls<R>, R: Host>(rt: R, top: &str)
+    requires takes { (feed : _) → T.takes feed }
+{
+    let top = new_folder(&rt, top, "/overlapped");
+    new_folder(&rt, top.as_str(), "/part");
     let mut read = 0u32;
     for turn in 0..50u32 {
-        if is_read_by_two_roots(rt, top.as_str(), turn.saturating_mul(3)) {
+        if is_read_by_two_roots::<T, R>(rt, top.as_str(), turn.saturating_mul(3)) {
             read = read.saturating_add(1);
         }
     }
-    fs::remove_dir_all(&rt, top.as_str()).expect(&rt, "it is there");
     assert_eq!(rt; read, 50);
 }

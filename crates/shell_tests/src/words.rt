@@ -5,7 +5,10 @@ use std::alloc::{AllocError, Allocator};
 
 /// Appends ` KIND PATH`.
 pub fn push_event<A: Allocator>(text: &mut String, event: &Event<A>) -> Result<(), AllocError> {
-    let place = event.first_path().map_or("", |path| path.as_str());
+    let place = match event.first_path() {
+        Some(path) => path.as_str(),
+        None => "",
+    };
     write!(text, " {} {place}", event.kind.word())
 }
 
@@ -44,9 +47,9 @@ pub fn push_outcome<A: Allocator>(
 }
 
 /// Why a call was refused, if it was.
-pub fn word_of<A: Allocator>(answer: Result<(), Error<A>>) -> &'static str {
+pub fn word_of<T: Drop, A: Allocator>(answer: Result<T, Error<A>>) -> &'static str {
     match answer {
-        Ok(()) => "",
+        Ok(_) => "",
         Err(error) => match error.kind {
             ErrorKind::PathNotFound => "PathNotFound",
             ErrorKind::WatchNotFound => "WatchNotFound",

@@ -20,6 +20,11 @@ pub fn instant(moment: u64) -> Instant {
     BASE.with(|base| *base) + Duration::from_nanos(moment)
 }
 
+/// The moment of an instant that `instant` gave.
+pub fn moment(instant: Instant) -> u64 {
+    (instant - BASE.with(|base| *base)).as_nanos() as u64
+}
+
 pub fn set(now: Instant) {
     NOW.with(|cell| cell.set(Some(now)));
 }
