@@ -9,8 +9,8 @@ are; it is built first if it has to be. N is 100000 if it isn't given, and then 
 more.
 
 Each run is a process of its own. A figure is the least of five runs; the two programs take turns, and
-each goes first in every second round. Both print a sum over what they emitted, but the crate none of rmdir;
-the table ends if two sums differ.
+each goes first in every second round. Both print a sum over what they emitted, and of idle how many events
+wait, but the crate has none of rmdir and due; the table ends if two sums differ.
 
 With --instructions a figure is how many instructions the whole program executes, in millions, as
 `valgrind --tool=callgrind` counts them: one run each, and the same on a machine that is busy. N is 5000 if

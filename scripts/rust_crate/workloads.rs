@@ -12,8 +12,8 @@ use std::{
 const KINDS: [&str; 6] = ["create", "modify", "idle", "rename", "rmdir", "sort"];
 const TIMEOUT: u64 = 50_000;
 
-/// What a workload took, over how many operations, and the sum over what was emitted; rmdir has none, since
-/// the crate has no outlook.
+/// What a workload took, over how many operations, and the sum over what was emitted, or of idle how many
+/// events wait; rmdir has none, since the crate has no outlook.
 type Figures = (Duration, usize, Option<u64>);
 
 fn at(nanos: u64) -> Instant {
@@ -113,7 +113,8 @@ fn idle(n: usize) -> Figures {
     }
     let total = begin.elapsed();
     assert_eq!(data.queues.len(), n);
-    (total, 1000, Some(n as u64))
+    let waiting: usize = data.queues.values().map(|queue| queue.events.len()).sum();
+    (total, 1000, Some(waiting as u64))
 }
 
 /// Pair i: From /d{i % 1000}/a{i} at 2 i, To /d{i % 1000}/b{i} at 2 i + 1, both with tracker i; one
