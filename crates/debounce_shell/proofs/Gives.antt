@@ -7,9 +7,9 @@ use Rattle.notify_types.specs.Event.{EventValue, Timed}
 use Rattle.debounce_model.specs.Command.{CommandValue, ErrorsCommand, ReplyValue, ErrorsReply}
 use Rattle.debounce_book.specs.Book.{Kept, kept_entries, parted, written}
 use Rattle.debounce_book.specs.Journal.{EntryValue}
-use Rattle.told_lock.specs.declared.hand.Hand.{Hand}
-use Rattle.told_lock.specs.History.{Begins, picked, beside, MayGive, Took, Gave}
-use Rattle.told_lock.proofs.Moves.{begins_self, begins_trans}
+use Rattle.debounce_shell.specs.declared.told_lock.hand.Hand.{Hand}
+use Rattle.debounce_shell.specs.History.{Begins, picked, beside, MayGive, Took, Gave}
+use Rattle.debounce_shell.proofs.Moves.{begins_self, begins_trans}
 use Rattle.debounce_shell.specs.declared.locked.Locked.{Locked}
 use Rattle.debounce_shell.specs.Adds.{Adds, AddsFed, BatchMakes, CommandMakes, Does, FedMakes, GainsTick, AddsTick, Makes, TickMakes}
 use Rattle.debounce_shell.specs.Happened.{HappenedValue, History, Missed, accepted, entries_of, is_emitting, journal_of}

@@ -6,7 +6,7 @@ use Rattle.notify_types.specs.Event.{Timed}
 use Rattle.notify_watch.specs.Handler.{Outcome}
 use Rattle.debounce_shell.specs.Turn.{Turns, HandsList, HandsBatch, HandsErrors}
 use Rattle.debounce_model.specs.Command.{ErrorsCommand, ErrorsReply}
-use Rattle.told_lock.specs.History.{picked}
+use Rattle.debounce_shell.specs.History.{picked}
 use Rattle.debounce_shell.specs.Adds.{BatchMakes, ErrorsMake, TicksOn}
 use Rattle.debounce_shell.specs.Handed.{Handed, HandsOn}
 use Rattle.debounce_shell.specs.Happened.{History, accepted, is_emitting}

@@ -14,7 +14,7 @@ use Rattle.debounce_model.specs.State.{State}
 use Rattle.debounce_book.specs.Book.{Kept, kept_entries, written, parted, with_entry, entry_of, fed_command, fed_reply, IsDone, IsNotDone, IsUnwritten, Ticks, GivesErrors, TicksBoth}
 use Rattle.debounce_book.specs.Journal.{EntryValue, Accepts, IsLegal}
 use Rattle.debounce_book.proofs.Replay.{IsLegal-append, state-refused, Accepts-step, timeout-accepts}
-use Rattle.told_lock.specs.History.{Begins, picked}
+use Rattle.debounce_shell.specs.History.{Begins, picked}
 use Rattle.debounce_shell.specs.Adds.{CommandMakes, FedMakes, BatchMakes, ErrorsMake, TickMakes}
 use Rattle.debounce_shell.specs.Happened.{HappenedValue, History, Missed, accepted, asks, entry_in, entries_of, missed_in, is_emitting, is_nil, is_journaled, journal_of}
 use Rattle.debounce_shell.specs.Stands.{BeginsAs, GivesJournal, IsRest, LeadsTo, Stands}

@@ -6,7 +6,7 @@ use Rattle.notify_types.specs.Event.{EventValue, Timed}
 use Rattle.debounce_model.specs.Command.{CommandValue, TickCommand, ErrorsCommand, RootCommand, UnrootCommand, ReplyValue, RootedReply, UnrootedReply, ErrorsReply, BatchReply}
 use Rattle.debounce_model.specs.declared.file_id.FileId.{FileId}
 use Rattle.debounce_book.specs.Book.{fed_command, fed_reply}
-use Rattle.told_lock.specs.History.{Begins, picked}
+use Rattle.debounce_shell.specs.History.{Begins, picked}
 use Rattle.debounce_shell.specs.declared.made.Made.{Made}
 use Rattle.debounce_shell.specs.declared.made.Made.TheVariants as made
 use Rattle.debounce_shell.specs.Happened.{HappenedValue, History, Missed, accepted, is_emitting}

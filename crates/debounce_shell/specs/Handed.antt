@@ -6,7 +6,7 @@ use Rattle.notify_types.specs.Event.{Timed}
 use Rattle.notify_watch.specs.Handler.{Outcome}
 use Rattle.debounce_shell.specs.Turn.{HandsBatch, HandsErrors}
 use Rattle.debounce_model.specs.Command.{ReplyValue, ErrorsReply, BatchReply}
-use Rattle.told_lock.specs.History.{picked}
+use Rattle.debounce_shell.specs.History.{picked}
 use Rattle.debounce_shell.specs.Happened.{HappenedValue, History, Accepted, is_emitting}
 use Rattle.debounce_shell.specs.Stands.{Known}
 

@@ -1,10 +1,10 @@
 -- The history of a book under its lock, and what each that reaches the book knows of it.
 use Rattle.std.specs.Prelude.{◌≡◌, ◌%◌, ◌^◌, ℕ, Bool, true, List, [], ◌∷◌, ◌++◌, Option, Some, None, is_some}
 use Rattle.atomic_table.specs.Seated.{TableId}
-use Rattle.told_lock.specs.Passes.{Pass, view}
+use Rattle.debounce_shell.specs.Passes.{Pass, view}
 use Rattle.debounce_book.specs.Book.{Kept, kept_entries}
 use Rattle.debounce_book.specs.Journal.{EntryValue, IsLegal}
-use Rattle.told_lock.specs.History.{Begins, picked}
+use Rattle.debounce_shell.specs.History.{Begins, picked}
 use Rattle.debounce_shell.specs.Happened.{History, Opened, entries_of, is_journaled, journal_of, missed_in, is_emitting}
 
 -- it begins with the opening of a book of this timeout, with a journal or without

@@ -2,7 +2,7 @@
 ghost use Rattle.std.specs.Prelude.{◌≡◌, ◌++◌, ◌∷◌, [], Ok, true, IfErr, IfOk, OnErr, OnOk};
 ghost use Rattle.std.specs.Arc.{arc_value};
 ghost use Rattle.notify_paths.specs.Errors.{out_of_memory};
-ghost use Rattle.told_lock.specs.History.{Begins, picked};
+ghost use Rattle.debounce_shell.specs.History.{Begins, picked};
 ghost use Rattle.debounce_model.specs.Command.{RootCommand, UnrootCommand, RootedReply, UnrootedReply};
 ghost use Rattle.debounce_model.specs.State.{State};
 ghost use Rattle.debounce_model.specs.Tick.{IsOutlook};
@@ -14,6 +14,9 @@ ghost use Rattle.debounce_shell.specs.Stands.{GivesJournal, GoesOn, IsLeft, IsTo
 
 use crate::locked::{BookLock, Goes, Key, Locked, TakesOut};
 use crate::made::Made;
+use crate::told_lock::hand::Nothing;
+use crate::told_lock::lock::Lock;
+use crate::told_lock::shown::Shown;
 use debounce_book::book::Book;
 use debounce_book::entry::Entry;
 use debounce_book::steps::{Ticked, feed_step, root_step, tick_step, unroot_step};
@@ -27,9 +30,6 @@ use std::marker::Model;
 use std::sync::{Arc, Wait};
 use std::thread;
 use std::time::{Clock, Duration};
-use told_lock::hand::Nothing;
-use told_lock::lock::Lock;
-use told_lock::shown::Shown;
 
 /// A way to a book. Each call that names the runtime waits for the lock, and holds it meanwhile.
 #[derive(Drop)]
@@ -40,7 +40,7 @@ pub(crate) struct Access<C: Drop, A: Allocator> {
 
 impl<C: Drop, A: Allocator> Model for Access<C, A> {
     ghost use Rattle.std.specs.Arc.{arc_value};
-    ghost use Rattle.told_lock.specs.Passes.{IsPassOf};
+    ghost use Rattle.debounce_shell.specs.Passes.{IsPassOf};
     ghost use Rattle.debounce_shell.specs.Stands.{Reach, keeps_of, seen_by, taken_by, tells_of};
 
     ghost Value = { Reach };
@@ -124,11 +124,9 @@ impl<C: Drop, A: Allocator> Access<C, A> {
         ensures shown { Begins (seen_by shown) self.new.seen }
     {
         let Access { lock, key } = self;
-        let turn = lock.turn(rt);
-        let held = lock.take(rt, key);
+        let (guard, held) = lock.take(rt, key);
         lock.compare(key, shown);
-        lock.give::<Nothing>(key, held);
-        drop(turn);
+        lock.give::<Nothing>(guard, key, held);
     }
 
     /// Notes that an event or an error was refused.
@@ -137,12 +135,10 @@ impl<C: Drop, A: Allocator> Access<C, A> {
         ensures missed { Adds self.old.seen Missed self.new.seen }
     {
         let Access { lock, key } = self;
-        let turn = lock.turn(rt);
-        let mut held = lock.take(rt, key);
+        let (guard, mut held) = lock.take(rt, key);
         held.missed = held.missed.wrapping_add(1);
         held.made = Shown::of(&Made::Missed);
-        lock.give::<Goes>(key, held);
-        drop(turn);
+        lock.give::<Goes>(guard, key, held);
     }
 }
 
@@ -159,14 +155,12 @@ impl<C: FileIdCache<A> + Drop, A: Allocator + Copy> Access<C, A> {
         ensures ok { OnOk result (AddsFed self.old.seen item now exists self.new.seen) }
     {
         let Access { lock, key } = self;
-        let turn = lock.turn(rt);
-        let mut held = lock.take(rt, key);
+        let (guard, mut held) = lock.take(rt, key);
         let fed = Shown::of(&item);
         let answer = feed_step(&mut held.book, item, now, exists);
         let made = Made::Fed(fed, now, exists, Shown::of(&answer));
         held.made = Shown::of(&made);
-        lock.give::<Goes>(key, held);
-        drop(turn);
+        lock.give::<Goes>(guard, key, held);
         answer
     }
 
@@ -180,13 +174,11 @@ impl<C: FileIdCache<A> + Drop, A: Allocator + Copy> Access<C, A> {
             (picked is_emitting self.new.seen) }
     {
         let Access { lock, key } = self;
-        let turn = lock.turn(rt);
-        let mut held = lock.take(rt, key);
+        let (guard, mut held) = lock.take(rt, key);
         let ticked = tick_step(&mut held.book, now);
         let made = Made::Ticked(now, Shown::of(&ticked));
         held.made = Shown::of(&made);
-        lock.give::<Goes>(key, held);
-        drop(turn);
+        lock.give::<Goes>(guard, key, held);
         ticked
     }
 
@@ -203,13 +195,11 @@ impl<C: FileIdCache<A> + Drop, A: Allocator + Copy> Access<C, A> {
         ensures err { IfErr result (λ e. e ≡ out_of_memory) }
     {
         let Access { lock, key } = self;
-        let turn = lock.turn(rt);
-        let mut held = lock.take(rt, key);
+        let (guard, mut held) = lock.take(rt, key);
         let answer = root_step(&mut held.book, path, mode);
         let made = Made::Rooted(Shown::of(path), mode, Shown::of(&answer));
         held.made = Shown::of(&made);
-        lock.give::<Goes>(key, held);
-        drop(turn);
+        lock.give::<Goes>(guard, key, held);
         answer
     }
 
@@ -221,13 +211,11 @@ impl<C: FileIdCache<A> + Drop, A: Allocator + Copy> Access<C, A> {
         ensures err { IfErr result (λ e. e ≡ out_of_memory) }
     {
         let Access { lock, key } = self;
-        let turn = lock.turn(rt);
-        let mut held = lock.take(rt, key);
+        let (guard, mut held) = lock.take(rt, key);
         let answer = unroot_step(&mut held.book, path);
         let made = Made::Unrooted(Shown::of(path), Shown::of(&answer));
         held.made = Shown::of(&made);
-        lock.give::<Goes>(key, held);
-        drop(turn);
+        lock.give::<Goes>(guard, key, held);
         answer
     }
 }
@@ -239,11 +227,9 @@ impl<C: Drop, A: Allocator + Copy> Access<C, A> {
         ensures err { IfErr result (λ e. e ≡ out_of_memory) }
     {
         let Access { lock, key } = self;
-        let turn = lock.turn(rt);
-        let held = lock.take(rt, key);
+        let (guard, held) = lock.take(rt, key);
         let batch = held.book.outlook();
-        lock.give::<Nothing>(key, held);
-        drop(turn);
+        lock.give::<Nothing>(guard, key, held);
         batch
     }
 
@@ -258,11 +244,9 @@ impl<C: Drop, A: Allocator + Copy> Access<C, A> {
         ensures part { (s : State) × IsPart result.items s }
     {
         let Access { lock, key } = self;
-        let turn = lock.turn(rt);
-        let mut held = lock.take(rt, key);
+        let (guard, mut held) = lock.take(rt, key);
         let entries = held.book.take_journal();
-        lock.give::<TakesOut>(key, held);
-        drop(turn);
+        lock.give::<TakesOut>(guard, key, held);
         entries
     }
 
@@ -280,11 +264,9 @@ impl<C: Drop, A: Allocator + Copy> Access<C, A> {
         ensures err { IfErr result (λ e. e ≡ out_of_memory) }
     {
         let Access { lock, key } = self;
-        let turn = lock.turn(rt);
-        let held = lock.take(rt, key);
+        let (guard, held) = lock.take(rt, key);
         let journal = held.book.journal();
-        lock.give::<Nothing>(key, held);
-        drop(turn);
+        lock.give::<Nothing>(guard, key, held);
         journal
     }
 
@@ -299,8 +281,9 @@ impl<C: Drop, A: Allocator + Copy> Access<C, A> {
     {
         let Access { lock, mut key } = self;
         let lock = wait_for_last(rt, lock);
-        let held = lock.take(rt, &mut key);
+        let (guard, held) = lock.take(rt, &mut key);
         lock.compare(&mut key, teller);
+        drop(guard);
         let Locked {
             book,
             missed,

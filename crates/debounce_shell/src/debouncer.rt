@@ -8,7 +8,7 @@ ghost use Rattle.debounce_model.specs.State.{State};
 ghost use Rattle.debounce_model.specs.Tick.{IsOutlook};
 ghost use Rattle.debounce_book.specs.Journal.{IsJournal, IsLegal, IsPart};
 ghost use Rattle.debounce_book.specs.JournalLaws.{LosesNoChange, GivesRawPaths, InventsNoRename};
-ghost use Rattle.told_lock.specs.History.{Begins, picked};
+ghost use Rattle.debounce_shell.specs.History.{Begins, picked};
 ghost use Rattle.debounce_shell.specs.Adds.{Adds};
 ghost use Rattle.debounce_shell.specs.Happened.{Opened, accepted, entries_of, is_emitting, journal_of};
 ghost use Rattle.debounce_shell.specs.Stands.{GivesJournal, IsLeft, IsStarted, RunsOn, StaysButTells};

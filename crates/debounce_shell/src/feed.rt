@@ -1,7 +1,7 @@
 //! What a watcher reports to.
 ghost use Rattle.std.specs.Prelude.{◌≡◌, ℕ, Bool, [], IfErr, IfOk, OnErr, OnOk};
 ghost use Rattle.notify_paths.specs.Errors.{out_of_memory};
-ghost use Rattle.told_lock.specs.History.{Begins};
+ghost use Rattle.debounce_shell.specs.History.{Begins};
 ghost use Rattle.debounce_shell.specs.Adds.{AddsFed, AddsItem};
 ghost use Rattle.debounce_shell.specs.Stands.{seen_by};
 

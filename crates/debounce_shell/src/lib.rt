@@ -5,8 +5,8 @@
 //! paths are watched. What happens in a turn of its thread is [`turn::turn`], whose contract says what the
 //! handler is called with; what happens under the lock is a step of `debounce_book`.
 //!
-//! The lock is that of `told_lock`: the contract of each call says what it adds to the history of the
-//! book, so what comes back at the end is what was under the lock.
+//! The lock is that of the module `told_lock`: the contract of each call says what it adds to the history of
+//! the book, so what comes back at the end is what was under the lock.
 //!
 //! ```text
 //! let handler = |outcome: DebounceEventResult| { .. };
@@ -24,6 +24,7 @@ mod locked;
 mod made;
 pub mod send_to;
 mod shared;
+mod told_lock;
 pub mod turn;
 mod worker;
 

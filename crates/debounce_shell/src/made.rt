@@ -1,4 +1,5 @@
 //! What was done under the lock.
+use crate::told_lock::shown::Shown;
 use debounce_book::steps::Ticked;
 use notify_paths::error::Error;
 use notify_paths::path::PathBuf;
@@ -6,7 +7,6 @@ use notify_types::event::{Event, RecursiveMode};
 use notify_types::time::Moment;
 use std::alloc::Allocator;
 use std::marker::Model;
-use told_lock::shown::Shown;
 
 /// What happens to a book, as clauses see it. No value of it is made.
 pub(crate) struct Happened;

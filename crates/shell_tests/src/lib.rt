@@ -3,7 +3,7 @@
 //! so many turns of a millisecond at most.
 //!
 //! What owns much is dropped by a call of `drop`. Where it goes at the end of a block instead, the proof goes
-//! through its fields, and takes six times as long.
+//! through its fields: the two functions of which this was measured took three and six times as long.
 #![tactic(auto)]
 
 #[cfg(test)]

@@ -1,5 +1,5 @@
 //! What could not be sent, and turns that were refused.
-use crate::build::{Host, Outcome, Running, TURNS, channel, new_heap, path, sleep_turns, start};
+use crate::build::{Host, Outcome, Running, channel, new_heap, path, sleep_turns, start};
 use crate::memory::Silent;
 use crate::stage::{Staged, take_turn};
 use crate::{build, reports};
@@ -11,7 +11,7 @@ use refusing_allocator::{Heap, TestHeap};
 use std::alloc::Allocator;
 use std::sync::Wait;
 use std::sync::atomic::Ordering;
-use std::time::{Clock, Duration};
+use std::time::Duration;
 
 #[test]
 fn what_cannot_be_sent_is_counted(rt: HostRuntime) {
@@ -35,16 +35,6 @@ fn check_unsent<R: Host, A: TestHeap>(rt: R) {
     drop(handler);
     drop(unsent);
     assert_eq!(rt; (starved, received, sent, last), (1, Some(2), 1, 2));
-}
-
-/// Waits for a batch, and answers whether one came.
-pub fn has_batch(rt: &(impl Wait + Clock), from: &Receiver<Outcome<impl Allocator>>) -> bool {
-    for _ in 0..TURNS {
-        if let Ok(Ok(_batch)) = from.recv_timeout(rt, Duration::from_millis(1)) {
-            return true;
-        }
-    }
-    false
 }
 
 /// How many items of the watcher were missed, and how many turns were refused.

@@ -1,7 +1,6 @@
 //! What is reported of a folder of the test's own.
 use crate::build;
 use crate::build::{Host, Memory, Outcome, Running, TURNS, channel, path, sleep_a_turn};
-use crate::losses::has_batch;
 use crate::words::push_event;
 use crossbeam_channel::Receiver;
 use notify_debouncer_full::{
@@ -194,22 +193,35 @@ fn sees_a_file<R: Host>(rt: R, top: &str, name: &str, interval: Duration) -> boo
     let config = Config::default().with_poll_interval(interval);
     let made = new_debouncer_with_config(rt, rt.alloc(), timeout, None, handler, config);
     let debouncer = made.expect(&rt, "a debouncer");
-    is_file_seen(rt, debouncer, &from, top, name)
+    let file = entry(&rt, top, name);
+    let report = report_of(
+        rt,
+        debouncer,
+        &from,
+        top,
+        file.as_str(),
+        Duration::from_secs(2),
+    );
+    let seen = matches!(&report, Some(Ok(_)));
+    drop(report);
+    seen
 }
 
-fn is_file_seen<T: Watcher<Feed<NoCache, R>, R, Global>, R: Host>(
+/// Watches the folder and makes the file. Returns what is reported first, if anything is in this time.
+fn report_of<T: Watcher<Feed<NoCache, R>, R, Global>, R: Host>(
     rt: R,
     debouncer: Running<T, R, Global>,
     from: &Receiver<Outcome<Global>>,
     top: &str,
-    name: &str,
-) -> bool {
+    file: &str,
+    limit: Duration,
+) -> Option<Outcome<Global>> {
     let mut debouncer = debouncer;
     build::watch(&rt, rt.alloc(), &mut debouncer, top);
-    fs::write(&rt, entry(&rt, top, name).as_str(), "x").expect(&rt, "a file");
-    let seen = has_batch(&rt, from);
+    fs::write(&rt, file, "x").expect(&rt, "a file");
+    let report = from.recv_timeout(&rt, limit).ok();
     debouncer.stop();
-    seen
+    report
 }
 
 #[test]
@@ -229,33 +241,16 @@ fn first_report<R: Host>(rt: R, top: &str, file: &str) -> String {
     let (timeout, handler) = (Duration::from_millis(10), SendTo::new(rt, to));
     let made = new_debouncer(rt, rt.alloc(), timeout, None, handler);
     let debouncer = made.expect(&rt, "a debouncer");
-    report_of(rt, debouncer, &from, top, file)
-}
-
-fn report_of<T: Watcher<Feed<NoCache, R>, R, Global>, R: Host>(
-    rt: R,
-    debouncer: Running<T, R, Global>,
-    from: &Receiver<Outcome<Global>>,
-    top: &str,
-    file: &str,
-) -> String {
-    let mut debouncer = debouncer;
-    build::watch(&rt, rt.alloc(), &mut debouncer, top);
-    fs::write(&rt, file, "x").expect(&rt, "a file");
-    let report = from.recv_timeout(&rt, Duration::from_secs(50));
-    debouncer.stop();
-    let text = match &report {
-        Ok(report) => text_of(&rt, report),
-        Err(_) => String::new(rt.alloc()),
-    };
+    let report = report_of(rt, debouncer, &from, top, file, Duration::from_secs(50));
+    let text = text_of(&rt, &report);
     drop(report);
     text
 }
 
-/// The events of a report; nothing of errors.
-fn text_of(rt: &(impl Abort + AllocGlobal), report: &Outcome<Global>) -> String {
+/// The events of a report; nothing of errors, or of none.
+fn text_of(rt: &(impl Abort + AllocGlobal), report: &Option<Outcome<Global>>) -> String {
     let mut text = String::new(rt.alloc());
-    if let Ok(batch) = report {
+    if let Some(Ok(batch)) = report {
         for event in batch {
             push_event(&mut text, &event.event).expect(rt, "memory");
         }

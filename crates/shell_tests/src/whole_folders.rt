@@ -75,9 +75,12 @@ fn paths_there<R: Host>(rt: R, top: &str) -> Vec<PathBuf> {
     paths
 }
 
-/// Whether a reader who was given all that is left has the folder's paths.
-fn is_whole<R: Host>(rt: R, top: &str, last: &LastReports) -> bool {
-    read_paths(&rt, last) == paths_there(rt, top)
+/// Ends the reports. Whether a reader who was given all that was left has the folder's paths.
+fn ends_whole<T: Polls<R>, R: Host>(rt: R, top: &str, reports: Reports<T, R>) -> bool {
+    let last = finish(reports);
+    let read = read_paths(&rt, &last);
+    drop(last);
+    read == paths_there(rt, top)
 }
 
 /// Whether a reader has the folder's paths, if it changes until the very end.
@@ -86,10 +89,7 @@ fn is_read<T: Polls<R>, R: Host>(rt: R, top: &str, turn: u32) -> bool
 {
     let reports: Reports<T, R> = start_watched(rt, top);
     change(&rt, top, turn);
-    let last = finish(reports);
-    let whole = is_whole(rt, top, &last);
-    drop(last);
-    whole
+    ends_whole(rt, top, reports)
 }
 
 pub fn what_changed_before_the_end_is_read<T: Polls<R>, R: Host>(rt: R, top: &str)
@@ -150,10 +150,7 @@ fn is_read_by_two_roots<T: Polls<R>, R: Host>(rt: R, top: &str, moment: u32) -> 
 {
     let mut reports: Reports<T, R> = start(rt, Duration::from_millis(2));
     watch_both(rt, top, &mut reports, moment);
-    let last = finish(reports);
-    let whole = is_whole(rt, top, &last);
-    drop(last);
-    whole
+    ends_whole(rt, top, reports)
 }
 
 pub fn roots_that_overlap_are_read<T: Polls<R>, R: Host>(rt: R, top: &str)

@@ -1,5 +1,5 @@
 use Rattle.std.proofs.Common.{inr}
-use Rattle.told_lock.specs.Passes.{view}
+use Rattle.debounce_shell.specs.Passes.{view}
 use Rattle.debounce_model.specs.Command.{UnrootCommand, UnrootedReply}
 use Rattle.debounce_shell.proofs.Gives.{lasts_by, may_go, command_adds}
 use Rattle.debounce_shell.proofs.Steps.{unroot_stands}
@@ -7,7 +7,7 @@ use Rattle.debounce_shell.proofs.access.Access.unroot.Goals as goal
 
 pub give-requires-clause-may : goal.give-requires-clause-may
 give-requires-clause-may g c =
-    let took = c.take-held.ensures.took in
+    let took = c.take-guard.ensures.took in
     let step = c.unroot_step-answer in
     let made = unroot_stands g.C.FileIdCache.rules _ _ _ _ _ c.args.path.now step.result
     (rw (← c.deref_mut.ensures.value) at took.stands) step.ensures.ok
@@ -16,16 +16,16 @@ give-requires-clause-may g c =
 
 pub returns-clause-lasts : goal.returns-clause-lasts
 returns-clause-lasts g c =
-    let took = c.take-held.ensures.took in
+    let took = c.take-guard.ensures.took in
     let gave = c.give.ensures.gave in
     rw (← c.self.view_is) (lasts_by _ c.self.inside.key.table_id c.give.new.pass.table_id _ _ _ _ _ (cc) took gave
     gave.makes.0)
 
 pub returns-clause-ok : goal.returns-clause-ok
 returns-clause-ok g c =
-    let took = c.take-held.ensures.took in
+    let took = c.take-guard.ensures.took in
     let made = c.give.ensures.gave.makes in
-    rw (← c.self.view_is) (command_adds (view c.self.inside.key).seen (view c.take-held.new.pass).seen
+    rw (← c.self.view_is) (command_adds (view c.self.inside.key).seen (view c.take-guard.new.pass).seen
     (view c.give.new.pass).seen (UnrootCommand c.args.path.now) UnrootedReply c.of-2.result.value
     c.unroot_step-answer.result made.1 took.goes_on c.of-2.ensures (rw (c.of-held.ensures, c.of.ensures) at made.2)
     made.3)

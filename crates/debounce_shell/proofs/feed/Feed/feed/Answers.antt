@@ -1,4 +1,4 @@
-use Rattle.told_lock.proofs.Moves.{begins_self}
+use Rattle.debounce_shell.proofs.Moves.{begins_self}
 use Rattle.debounce_shell.proofs.Steps.{on_err}
 use Rattle.debounce_shell.proofs.feed.Feed.feed.Goals as goal
 
