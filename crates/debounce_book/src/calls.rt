@@ -1,4 +1,5 @@
-//! The calls of a book: each is the call of the core that has its name, and one entry.
+//! The calls of a book: each is the call of the core that has its name, and one entry. (With a journal a tick
+//! is the core's call that also copies.)
 ghost use Rattle.std.specs.Prelude.{◌≡◌, IfErr, IfOk, OnOk};
 ghost use Rattle.notify_paths.specs.Errors.{out_of_memory};
 ghost use Rattle.debounce_model.specs.Command.{EventCommand, ErrorCommand, RootCommand, UnrootCommand, ErrorsCommand, TickCommand, TakenReply, NotedReply, RootedReply, UnrootedReply, ErrorsReply, BatchReply};
@@ -121,7 +122,8 @@ impl<C: FileIdCache<A>, A: Allocator + Copy> Book<C, A> {
         Ok(())
     }
 
-    /// Hands out the errors that were kept. If there is no memory for their entry, they are kept.
+    /// Hands out the errors that were kept. With a journal each call is an entry, also one that finds none. If
+    /// there is no memory for it, they are kept.
     pub(crate) fn errors(&mut self, from: usize) -> Result<Vec<Error<A>, A>, Error<A>>
         ensures ok { IfOk result (λ errors.
             IsDone C.rules self.old from ErrorsCommand (ErrorsReply errors.items) self.new) }

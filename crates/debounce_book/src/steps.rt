@@ -21,8 +21,8 @@ pub type Ticked<A> = (
 /// Takes an event at a moment, or keeps an error of the watcher. `exists` says whether an event's
 /// first path exists then.
 ///
-/// An event is refused as `Full` if 2^64 - 1 events were taken, and each as `Memory` if an allocation
-/// fails. Then the state and the journal are as they were, and the cache is as its own calls left it.
+/// An event is refused as `Full` if 2^64 - 1 events were taken, and an event or an error as `Memory` if an
+/// allocation fails. Then the state and the journal are as they were, and the cache is as its own calls left it.
 pub fn feed_step<C: FileIdCache<A>, A: Allocator + Copy>(
     book: &mut Book<C, A>,
     item: Result<Event<A>, Error<A>>,

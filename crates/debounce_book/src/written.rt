@@ -1,5 +1,5 @@
-//! What a journal writes of a command: its copies are made before anything has changed, and the entry is
-//! written after it.
+//! What a journal writes of a command: copies are made before anything has changed, those of a batch by the
+//! core, and the entry is written after the core's call.
 ghost use Rattle.std.specs.Prelude.{◌≡◌, ◌+◌, ◌≤◌, ◌++◌, ◌∷◌, [], IfOk, IfErr, OnOk, vec_len, vec_capacity};
 ghost use Rattle.notify_paths.specs.Errors.{out_of_memory};
 ghost use Rattle.debounce_model.specs.CommandView.{command_value, reply_value};

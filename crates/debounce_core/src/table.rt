@@ -84,7 +84,8 @@ impl<A: Allocator + Copy> Waiting<A> {
         Ok(())
     }
 
-    /// The second half of a rename is joined to the first, if that is kept, or pushed.
+    /// The second half of a rename is joined to the first, if the slot keeps one that fits, and else pushed. The
+    /// slot is empty then.
     fn rename_to(
         &mut self,
         event: DebouncedEvent<A>,

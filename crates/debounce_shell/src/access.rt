@@ -12,9 +12,9 @@ ghost use Rattle.debounce_shell.specs.Adds.{Adds, AddsFed, AddsTick, CommandMake
 ghost use Rattle.debounce_shell.specs.Happened.{Missed, accepted, entries_of, is_emitting, journal_of};
 ghost use Rattle.debounce_shell.specs.Stands.{GivesJournal, GoesOn, IsLeft, IsTold, Lasts, Stands, StaysButTells, opening, seen_by, tells_of};
 
-use crate::locked::{BookLock, Goes, Key, Locked, TakesOut};
+use crate::locked::{BookLock, BookPass, Goes, Locked, TakesOut};
 use crate::made::Made;
-use crate::told_lock::hand::Nothing;
+use crate::told_lock::hand::Unchanged;
 use crate::told_lock::lock::Lock;
 use crate::told_lock::shown::Shown;
 use debounce_book::book::Book;
@@ -35,7 +35,7 @@ use std::time::{Clock, Duration};
 #[derive(Drop)]
 pub(crate) struct Access<C: Drop, A: Allocator> {
     lock: BookLock<C, A>,
-    key: Key<C, A>,
+    pass: BookPass<C, A>,
 }
 
 impl<C: Drop, A: Allocator> Model for Access<C, A> {
@@ -46,14 +46,14 @@ impl<C: Drop, A: Allocator> Model for Access<C, A> {
     ghost Value = { Reach };
 
     ghost view = { λ a. record {
-      lock = a.key.table_id;
-      seen = seen_by a.key;
-      out = taken_by a.key;
-      keeps = keeps_of a.key;
-      tells = tells_of a.key;
+      lock = a.pass.table_id;
+      seen = seen_by a.pass;
+      out = taken_by a.pass;
+      keeps = keeps_of a.pass;
+      tells = tells_of a.pass;
     } };
 
-    ghost invariant = { λ a. IsPassOf (arc_value a.lock).table.shared.table_id a.key };
+    ghost invariant = { λ a. IsPassOf (arc_value a.lock).table.shared.table_id a.pass };
 }
 
 impl<C: Drop, A: Allocator + Copy> Access<C, A> {
@@ -68,9 +68,9 @@ impl<C: Drop, A: Allocator + Copy> Access<C, A> {
             missed: 0,
             made: Shown::of(&Made::Nothing),
         };
-        let (lock, key) = Lock::new(alloc, held)?;
+        let (lock, pass) = Lock::new(alloc, held)?;
         let lock = Arc::new(alloc, lock)?;
-        Ok(Access { lock, key })
+        Ok(Access { lock, pass })
     }
 
     /// Another way to the book, which has seen as much, and has no right of its own.
@@ -80,8 +80,8 @@ impl<C: Drop, A: Allocator + Copy> Access<C, A> {
             (a.lock ≡ self.old.lock) × (a.seen ≡ self.old.seen)) }
     {
         let lock = Arc::try_clone(&self.lock)?;
-        let key = self.lock.another(&mut self.key);
-        Ok(Access { lock, key })
+        let pass = self.lock.another(&mut self.pass);
+        Ok(Access { lock, pass })
     }
 
     /// Another way to the book, which alone emits from then on.
@@ -92,41 +92,41 @@ impl<C: Drop, A: Allocator + Copy> Access<C, A> {
             (a.lock ≡ self.old.lock) × (a.seen ≡ self.old.seen) × (a.tells ≡ true)) }
     {
         let lock = Arc::try_clone(&self.lock)?;
-        let key = self.lock.telling(&mut self.key);
-        Ok(Access { lock, key })
+        let pass = self.lock.telling(&mut self.pass);
+        Ok(Access { lock, pass })
     }
 }
 
 impl<C: Drop, A: Allocator> Access<C, A> {
     /// What this way has seen, for whoever is to be shown it.
-    pub(crate) fn shown(&mut self) -> Key<C, A>
+    pub(crate) fn shown(&mut self) -> BookPass<C, A>
         ensures same { self.new ≡ self.old }
         ensures lock { (result.table_id ≡ self.old.lock) × (result.me.1 ≡ []) }
         ensures seen { seen_by result ≡ self.old.seen }
     {
-        self.lock.another(&mut self.key)
+        self.lock.another(&mut self.pass)
     }
 
     /// The pass alone, which says who has seen what, once the book isn't reached by it any longer.
-    pub(crate) fn into_key(self) -> Key<C, A>
+    pub(crate) fn into_pass(self) -> BookPass<C, A>
         ensures lock { result.table_id ≡ self.lock }
         ensures free { result.me.1 ≡ [] }
         ensures same { (seen_by result ≡ self.seen) × (tells_of result ≡ self.tells) }
     {
-        let Access { lock: _, key } = self;
-        key
+        let Access { lock: _, pass } = self;
+        pass
     }
 
     /// Looks at the history up to now, to which what another has seen belongs.
-    pub(crate) fn catch_up<R: Wait>(&mut self, rt: &R, shown: Key<C, A>)
+    pub(crate) fn catch_up<R: Wait>(&mut self, rt: &R, shown: BookPass<C, A>)
         requires { (shown.table_id ≡ self.old.lock) × (shown.me.1 ≡ []) }
         ensures lasts { Lasts self.old self.new }
         ensures shown { Begins (seen_by shown) self.new.seen }
     {
-        let Access { lock, key } = self;
-        let (guard, held) = lock.take(rt, key);
-        lock.compare(key, shown);
-        lock.give::<Nothing>(guard, key, held);
+        let Access { lock, pass } = self;
+        let (guard, held) = lock.take(rt, pass);
+        lock.compare(pass, shown);
+        lock.give::<Unchanged>(guard, pass, held);
     }
 
     /// Notes that an event or an error was refused.
@@ -134,11 +134,11 @@ impl<C: Drop, A: Allocator> Access<C, A> {
         ensures lasts { Lasts self.old self.new }
         ensures missed { Adds self.old.seen Missed self.new.seen }
     {
-        let Access { lock, key } = self;
-        let (guard, mut held) = lock.take(rt, key);
+        let Access { lock, pass } = self;
+        let (guard, mut held) = lock.take(rt, pass);
         held.missed = held.missed.wrapping_add(1);
         held.made = Shown::of(&Made::Missed);
-        lock.give::<Goes>(guard, key, held);
+        lock.give::<Goes>(guard, pass, held);
     }
 }
 
@@ -154,17 +154,17 @@ impl<C: FileIdCache<A> + Drop, A: Allocator + Copy> Access<C, A> {
         ensures lasts { Lasts self.old self.new }
         ensures ok { OnOk result (AddsFed self.old.seen item now exists self.new.seen) }
     {
-        let Access { lock, key } = self;
-        let (guard, mut held) = lock.take(rt, key);
+        let Access { lock, pass } = self;
+        let (guard, mut held) = lock.take(rt, pass);
         let fed = Shown::of(&item);
         let answer = feed_step(&mut held.book, item, now, exists);
         let made = Made::Fed(fed, now, exists, Shown::of(&answer));
         held.made = Shown::of(&made);
-        lock.give::<Goes>(guard, key, held);
+        lock.give::<Goes>(guard, pass, held);
         answer
     }
 
-    /// Emits what is expired at the moment, and then the errors. The history tells that nothing was emitted
+    /// Emits what is expired at the moment, and then the errors. The history tells that nothing else was emitted
     /// since the last such call.
     pub(crate) fn tick<R: Wait>(&mut self, rt: &R, now: Moment) -> Ticked<A>
         requires { self.old.tells ≡ true }
@@ -173,12 +173,12 @@ impl<C: FileIdCache<A> + Drop, A: Allocator + Copy> Access<C, A> {
         ensures emits { GainsTick (picked is_emitting self.old.seen) now result.0 result.1.items
             (picked is_emitting self.new.seen) }
     {
-        let Access { lock, key } = self;
-        let (guard, mut held) = lock.take(rt, key);
+        let Access { lock, pass } = self;
+        let (guard, mut held) = lock.take(rt, pass);
         let ticked = tick_step(&mut held.book, now);
         let made = Made::Ticked(now, Shown::of(&ticked));
         held.made = Shown::of(&made);
-        lock.give::<Goes>(guard, key, held);
+        lock.give::<Goes>(guard, pass, held);
         ticked
     }
 
@@ -194,12 +194,12 @@ impl<C: FileIdCache<A> + Drop, A: Allocator + Copy> Access<C, A> {
             (Adds self.old.seen (accepted (RootCommand path.now mode) RootedReply) self.new.seen) }
         ensures err { IfErr result (λ e. e ≡ out_of_memory) }
     {
-        let Access { lock, key } = self;
-        let (guard, mut held) = lock.take(rt, key);
+        let Access { lock, pass } = self;
+        let (guard, mut held) = lock.take(rt, pass);
         let answer = root_step(&mut held.book, path, mode);
         let made = Made::Rooted(Shown::of(path), mode, Shown::of(&answer));
         held.made = Shown::of(&made);
-        lock.give::<Goes>(guard, key, held);
+        lock.give::<Goes>(guard, pass, held);
         answer
     }
 
@@ -210,12 +210,12 @@ impl<C: FileIdCache<A> + Drop, A: Allocator + Copy> Access<C, A> {
             (Adds self.old.seen (accepted (UnrootCommand path.now) UnrootedReply) self.new.seen) }
         ensures err { IfErr result (λ e. e ≡ out_of_memory) }
     {
-        let Access { lock, key } = self;
-        let (guard, mut held) = lock.take(rt, key);
+        let Access { lock, pass } = self;
+        let (guard, mut held) = lock.take(rt, pass);
         let answer = unroot_step(&mut held.book, path);
         let made = Made::Unrooted(Shown::of(path), Shown::of(&answer));
         held.made = Shown::of(&made);
-        lock.give::<Goes>(guard, key, held);
+        lock.give::<Goes>(guard, pass, held);
         answer
     }
 }
@@ -226,10 +226,10 @@ impl<C: Drop, A: Allocator + Copy> Access<C, A> {
         ensures outlook { IfOk result (λ batch. (s : State) × IsOutlook s batch.items) }
         ensures err { IfErr result (λ e. e ≡ out_of_memory) }
     {
-        let Access { lock, key } = self;
-        let (guard, held) = lock.take(rt, key);
+        let Access { lock, pass } = self;
+        let (guard, held) = lock.take(rt, pass);
         let batch = held.book.outlook();
-        lock.give::<Nothing>(guard, key, held);
+        lock.give::<Unchanged>(guard, pass, held);
         batch
     }
 
@@ -243,14 +243,15 @@ impl<C: Drop, A: Allocator + Copy> Access<C, A> {
         ensures legal { (s : State) × IsLegal (entries_of self.new.seen) s }
         ensures part { (s : State) × IsPart result.items s }
     {
-        let Access { lock, key } = self;
-        let (guard, mut held) = lock.take(rt, key);
+        let Access { lock, pass } = self;
+        let (guard, mut held) = lock.take(rt, pass);
         let entries = held.book.take_journal();
-        lock.give::<TakesOut>(guard, key, held);
+        lock.give::<TakesOut>(guard, pass, held);
         entries
     }
 
-    /// Returns the timeout and a copy of the journal, if nothing was taken out of it.
+    /// Returns the timeout and a copy of the journal, if one is kept and nothing was taken out of it; else no
+    /// entries.
     pub(crate) fn journal<R: Wait>(
         &mut self,
         rt: &R,
@@ -263,26 +264,26 @@ impl<C: Drop, A: Allocator + Copy> Access<C, A> {
         ensures founded { IfOk result (λ r. InventsNoRename r.0 r.1.items) }
         ensures err { IfErr result (λ e. e ≡ out_of_memory) }
     {
-        let Access { lock, key } = self;
-        let (guard, held) = lock.take(rt, key);
+        let Access { lock, pass } = self;
+        let (guard, held) = lock.take(rt, pass);
         let journal = held.book.journal();
-        lock.give::<Nothing>(guard, key, held);
+        lock.give::<Unchanged>(guard, pass, held);
         journal
     }
 
-    /// Waits until no other reaches the book, and returns it with the count of what was missed. The worker,
-    /// whose pass this is, emitted all that was emitted.
-    pub(crate) fn close<R: Wait + Clock>(self, rt: &R, teller: Key<C, A>) -> (Book<C, A>, u64)
+    /// Waits until no other reaches the book, and returns it with the count of what was missed. `teller` is the
+    /// worker's pass, by which all was emitted that was.
+    pub(crate) fn close<R: Wait + Clock>(self, rt: &R, teller: BookPass<C, A>) -> (Book<C, A>, u64)
         requires keeps { self.keeps ≡ true }
         requires lock { (teller.table_id ≡ self.lock) × (teller.me.1 ≡ []) }
         requires tells { tells_of teller ≡ true }
         ensures left { IsLeft self.seen (entries_of self.out) result.0 result.1 }
         ensures told { IsTold (seen_by teller) (entries_of self.out) result.0 result.1 }
     {
-        let Access { lock, mut key } = self;
+        let Access { lock, mut pass } = self;
         let lock = wait_for_last(rt, lock);
-        let (guard, held) = lock.take(rt, &mut key);
-        lock.compare(&mut key, teller);
+        let (guard, held) = lock.take(rt, &mut pass);
+        lock.compare(&mut pass, teller);
         drop(guard);
         let Locked {
             book,

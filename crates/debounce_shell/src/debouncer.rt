@@ -375,15 +375,16 @@ impl<T: Drop, C: Drop, R: Threads + Wait + Clock + Drop, A: Allocator + Copy> De
     R,
     A,
 > {
-    /// Returns how many events and errors of the watcher were refused, so that no batch tells of them.
+    /// Returns how many events and errors of the watcher were refused, and so are never emitted.
     /// After 2^64 - 1 it begins again at 0.
     pub fn missed(&self) -> u64 {
         self.shared.signals.missed.load(Ordering::SeqCst)
     }
 
     /// Returns how many turns of the debouncer's thread were refused, since the clock couldn't be read or
-    /// there was no memory for the batch. Nothing is lost by one: what was due waits for the next turn. A
-    /// turn that only had no memory for the errors' entry in the journal isn't counted; they wait too.
+    /// there was no memory for the batch, or for its entry in the journal. Nothing is lost by one: what was due
+    /// waits for the next turn. A turn that only had no memory for the errors' entry in the journal isn't
+    /// counted; they wait too.
     /// After 2^64 - 1 it begins again at 0.
     pub fn refused_turns(&self) -> u64 {
         self.shared.signals.refused_turns.load(Ordering::SeqCst)
@@ -445,7 +446,7 @@ impl<T: Drop, C: Drop, R: Threads + Wait + Clock + Drop, A: Allocator + Copy> De
     {
         self.shared
             .owner
-            .catch_up(&self.shared.rt, receipt.into_key());
+            .catch_up(&self.shared.rt, receipt.into_pass());
     }
 
     /// Stops the watcher and the debouncer's thread, and waits until that thread has ended. A turn that

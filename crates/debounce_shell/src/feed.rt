@@ -7,7 +7,7 @@ ghost use Rattle.debounce_shell.specs.Stands.{seen_by};
 
 use crate::access::Access;
 use crate::clock::now;
-use crate::locked::Key;
+use crate::locked::BookPass;
 use crate::shared::{Shared, Signals};
 use file_id_cache::cache::FileIdCache;
 use notify_paths::error::Error;
@@ -43,7 +43,7 @@ impl<C: Drop, R: Wait + Drop, A: Allocator> Model for Feed<C, R, A> {
 /// Shows that something was taken. Clauses see the history up to then. It has no bytes.
 #[derive(Drop)]
 pub struct Receipt<C: Drop, A: Allocator = Global> {
-    key: Key<C, A>,
+    pass: BookPass<C, A>,
 }
 
 impl<C: Drop, A: Allocator> Model for Receipt<C, A> {
@@ -52,19 +52,19 @@ impl<C: Drop, A: Allocator> Model for Receipt<C, A> {
 
     ghost Value = { Known };
 
-    ghost view = { λ r. record { lock = r.key.table_id; seen = seen_by r.key } };
+    ghost view = { λ r. record { lock = r.pass.table_id; seen = seen_by r.pass } };
 
-    ghost invariant = { λ r. r.key.me.1 ≡ [] };
+    ghost invariant = { λ r. r.pass.me.1 ≡ [] };
 }
 
 impl<C: Drop, A: Allocator> Receipt<C, A> {
-    pub(crate) fn into_key(self) -> Key<C, A>
+    pub(crate) fn into_pass(self) -> BookPass<C, A>
         ensures lock { result.table_id ≡ self.lock }
         ensures free { result.me.1 ≡ [] }
         ensures seen { seen_by result ≡ self.seen }
     {
-        let Receipt { key } = self;
-        key
+        let Receipt { pass } = self;
+        pass
     }
 }
 
@@ -100,7 +100,8 @@ impl<
 
     ghost handles = { λ old item new. (new.lock ≡ old.lock) × AddsItem old.seen item new.seen };
 
-    /// Feeds an event or an error to the book. One that is refused is counted as missed.
+    /// Feeds an event or an error to the book. One that is refused is counted as missed, under the lock for
+    /// `finish`, and beside it for `Debouncer::missed`.
     fn handle_event(&mut self, event: Result<Event<A>, Error<A>>)
         ensures again { Unit {0} }
         ensures handled { (self.new.lock ≡ self.old.lock)
@@ -138,7 +139,7 @@ impl<C: Drop, R: Wait + Drop, A: Allocator> Feed<C, R, A> {
         ensures shown { result ≡ self.old }
     {
         Receipt {
-            key: self.access.shown(),
+            pass: self.access.shown(),
         }
     }
 }

@@ -8,7 +8,7 @@ use notify_types::time::Moment;
 use std::alloc::Allocator;
 use std::marker::Model;
 
-/// What happens to a book, as clauses see it. No value of it is made.
+/// An entry of the history: what happened to a book, as clauses see it. No value of it is made.
 pub(crate) struct Happened;
 
 impl Model for Happened {
@@ -19,7 +19,7 @@ impl Model for Happened {
     ghost view = { λ _. Missed };
 }
 
-/// What was done last to a book, for clauses: a book without a journal doesn't show it.
+/// The last step that was done to a book, for clauses: a book without a journal doesn't show it.
 #[derive(Drop)]
 pub(crate) enum Made<A: Allocator> {
     /// Nothing that adds to the history.

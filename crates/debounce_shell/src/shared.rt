@@ -10,7 +10,7 @@ use std::alloc::Allocator;
 use std::sync::atomic::{AtomicBool, AtomicU64, Ordering};
 use std::sync::{Arc, Wait};
 
-/// What a debouncer has of what it shares with its worker and its feed.
+/// A debouncer's own way to its book, and the signals that it shares with its worker and its feed.
 #[derive(Drop)]
 pub(crate) struct Shared<C: Drop, R: Wait + Drop, A: Allocator> {
     pub rt: R,

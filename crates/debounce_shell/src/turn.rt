@@ -1,4 +1,4 @@
-//! The way to a book, and what a thread does by it.
+//! A turn of the worker, over whatever gives ticks.
 ghost use Rattle.std.specs.Prelude.{◌≡◌, ℕ, Bool, Result};
 ghost use Rattle.debounce_shell.specs.Turn.{Turns, HandsBatch, HandsErrors, refusal_of};
 
@@ -8,8 +8,8 @@ use notify_types::time::Moment;
 use notify_watch::handler::{DebounceEventHandler, DebounceEventResult};
 use std::alloc::Allocator;
 
-/// A book as its threads use it, one to feed it and one to tick it; in a test what stands for one. `I` is
-/// an event, `E` an error, `B` a batch and `L` a list of errors.
+/// What a turn is taken over: the worker's way to its book, and in a test what stands for one. A debouncer's
+/// feed isn't one, as it may not emit. `I` is an event, `E` an error, `B` a batch and `L` a list of errors.
 ///
 /// The parameters have no bounds, so that the trait can be implemented over any allocator.
 pub trait Gate<I, E, B, L> {
@@ -24,7 +24,7 @@ pub trait Gate<I, E, B, L> {
     fn feed(&mut self, item: Result<I, E>, now: Moment, exists: bool) -> Result<(), E>
         ensures { feeds self.old item now exists result self.new };
 
-    /// Emits what is expired at the moment, or why it can't, and the errors.
+    /// Emits what is expired at the moment: the batch, or why there is none, and beside it the errors.
     fn tick(&mut self, now: Moment) -> (Result<B, E>, L)
         ensures { ticks self.old now result.0 result.1 self.new };
 }

@@ -24,7 +24,7 @@ pub(crate) struct Index<A: Allocator> {
 }
 
 impl<A: Allocator + Copy> Index<A> {
-    /// Returns the index of no queue.
+    /// Returns no queues, with their index.
     pub(crate) fn new(alloc: A) -> Index<A>
         ensures map { result.map.entries ≡ [] }
         ensures indexed { IsIndexed result.fronts result.map.entries }

@@ -4,8 +4,9 @@
 //! [`queue::Queue`] is the queue of one path, [`due::Due`] says which of its events are due, and [`first`]
 //! what its first event says of the path. [`queues::IndexedQueues`] holds the queues of all paths and the
 //! index, and each of its methods leaves the index with just the fronts of the queues. A tick looks at the
-//! oldest pair of the index, and opens only the queues of the pairs that are due; if these are many, it
-//! goes over all queues instead of a search for each ([`plan::DuePlan`]).
+//! oldest pair of the index. If it is due, the tick goes by a plan ([`plan::DuePlan`]): if all that waits is
+//! due, which it asks first, it takes the map apart; if few queues are, it searches for each; and else it
+//! goes over all.
 //!
 //! ```text
 //! let mut queues = IndexedQueues::new(rt.alloc());

@@ -1,4 +1,5 @@
-//! How a tick comes to the queues that are due, by how many they are.
+//! How a tick comes to the queues that are due, by how many they are: if all that waits is due, whole.rt; if
+//! few queues are, few.rt; if many, it lends by whole.rt and drops by trim.rt.
 ghost use Rattle.std.specs.Prelude.{◌≡◌, ◌++◌, ◌+◌, ◌≤◌, IfOk, OnErr, OnOk, length, true, vec_capacity, vec_len};
 ghost use Rattle.notify_types.specs.Borrowed.{borrowed};
 ghost use Rattle.debounce_model.specs.Due.{due_fronts, place_list, rests};
@@ -69,8 +70,8 @@ impl<A: Allocator + Copy> DuePlan<A> {
         })
     }
 
-    /// Whether what is due can be moved out of the queues. If not, it is copied: of a loop that changes the
-    /// queues of a map and moves events into a list, the checker knows afterwards only one of the two.
+    /// Whether what is due can be moved out of the queues. If not, it is copied: of a loop that both changes the
+    /// queues of a map and fills a list, the checker knows only one of the two afterwards.
     pub fn moves(&self) -> bool
         ensures { result ≡ moves self.now }
     {

@@ -31,7 +31,7 @@ pub fn hand_each<A: Allocator, H: EventHandler<Result<Event<A>, Error<A>>>>(
 }
 
 /// What becomes of the last listing of the roots, and the events that tell of it.
-fn look_again<A: Allocator + Copy, D: Folders<A>>(
+fn list_again<A: Allocator + Copy, D: Folders<A>>(
     alloc: A,
     folders: &mut D,
     roots: &[(PathBuf<A>, RecursiveMode)],
@@ -67,7 +67,7 @@ fn renew<A: Allocator + Copy, D: Folders<A>>(
     ensures same { D.told folders.new ≡ D.told folders.old }
     ensures counted { D.failed folders.old ≤ D.failed folders.new }
 {
-    let (updates, events) = look_again(alloc, folders, roots, last)?;
+    let (updates, events) = list_again(alloc, folders, roots, last)?;
     last.update(alloc, &updates)?;
     Ok(events)
 }

@@ -12,6 +12,6 @@ pub returns-clause-lasts : goal.returns-clause-lasts
 returns-clause-lasts g c =
     let took = c.take-guard.ensures.took in
     let gave = c.give.ensures.gave in
-    rw (← c.self.view_is) (lasts_beside c.self.inside.key.table_id c.give.new.pass.table_id _
+    rw (← c.self.view_is) (lasts_beside c.self.inside.pass.table_id c.give.new.pass.table_id _
     (view c.take-guard.new.pass) (view c.args.shown) (view c.compare.new.pass) _ _ (cc) c.compare.ensures.same took
     gave)

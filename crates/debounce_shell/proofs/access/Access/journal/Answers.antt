@@ -11,6 +11,6 @@ pub returns-clause-left : goal.returns-clause-left
 returns-clause-left g c =
     let took = c.take-guard.ensures.took in
     rw (← c.self.view_is) (λ keeps first. gives_journal c.deref-3.result.now c.take-guard.result.1.missed
-    (view c.self.inside.key).seen (view c.take-guard.new.pass).taken (view c.take-guard.new.pass).seen
+    (view c.self.inside.pass).seen (view c.take-guard.new.pass).taken (view c.take-guard.new.pass).seen
     c.journal-journal.result took.goes_on (rw (← c.deref-3.ensures) at took.stands) (took.taken keeps ∙ first)
     c.journal-journal.ensures.ok)

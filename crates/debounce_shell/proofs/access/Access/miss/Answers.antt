@@ -13,7 +13,7 @@ pub returns-clause-lasts : goal.returns-clause-lasts
 returns-clause-lasts g c =
     let took = c.take-guard.ensures.took in
     let gave = c.give.ensures.gave in
-    rw (← c.self.view_is) (lasts_by _ c.self.inside.key.table_id c.give.new.pass.table_id _ _ _ _ _ (cc) took gave
+    rw (← c.self.view_is) (lasts_by _ c.self.inside.pass.table_id c.give.new.pass.table_id _ _ _ _ _ (cc) took gave
     gave.makes.0)
 
 pub returns-clause-missed : goal.returns-clause-missed

@@ -14,7 +14,7 @@ pub returns-clause-on : goal.returns-clause-on
 returns-clause-on g c =
     let took = c.take-guard.ensures.took in
     let gave = c.give.ensures.gave in
-    rw (← c.self.view_is) (goes_on_by _ c.self.inside.key.table_id c.give.new.pass.table_id _ _ _ _ _ (cc) took gave)
+    rw (← c.self.view_is) (goes_on_by _ c.self.inside.pass.table_id c.give.new.pass.table_id _ _ _ _ _ (cc) took gave)
 
 pub returns-clause-parts : goal.returns-clause-parts
 returns-clause-parts g c =
@@ -23,7 +23,7 @@ returns-clause-parts g c =
     let taken = c.take_journal-entries in
     let keeps = rw (← c.self.view_is) at c.requires in
     rw (← c.self.view_is) (taken_out c.deref_mut.result.now taken.new.self c.take-guard.result.1.missed
-    (view c.take-guard.new.pass).taken (view c.self.inside.key).taken (view c.take-guard.new.pass).seen
+    (view c.take-guard.new.pass).taken (view c.self.inside.pass).taken (view c.take-guard.new.pass).seen
     (view c.give.new.pass).taken taken.result.items
     (rw (← c.deref_mut.ensures.value) at took.stands) taken.ensures.parted gave.makes.1 (took.taken keeps)
     taken.ensures.journal)

@@ -24,7 +24,7 @@ returns-clause-emits g c =
     let took = c.take-guard.ensures.took in
     let made = c.give.ensures.gave.makes in
     let tells = rw (← c.self.view_is) at c.requires in
-    rw (← c.self.view_is) (tick_gains (view c.self.inside.key).seen (view c.take-guard.new.pass).seen
+    rw (← c.self.view_is) (tick_gains (view c.self.inside.pass).seen (view c.take-guard.new.pass).seen
     (view c.give.new.pass).seen c.args.now c.of.result.value c.tick_step-ticked.result made.1 (took.told tells)
     c.of.ensures (rw c.of-held.ensures at made.2) made.3)
 
@@ -32,5 +32,5 @@ pub returns-clause-lasts : goal.returns-clause-lasts
 returns-clause-lasts g c =
     let took = c.take-guard.ensures.took in
     let gave = c.give.ensures.gave in
-    rw (← c.self.view_is) (lasts_by _ c.self.inside.key.table_id c.give.new.pass.table_id _ _ _ _ _ (cc) took gave
+    rw (← c.self.view_is) (lasts_by _ c.self.inside.pass.table_id c.give.new.pass.table_id _ _ _ _ _ (cc) took gave
     gave.makes.0)

@@ -18,14 +18,14 @@ pub returns-clause-lasts : goal.returns-clause-lasts
 returns-clause-lasts g c =
     let took = c.take-guard.ensures.took in
     let gave = c.give.ensures.gave in
-    rw (← c.self.view_is) (lasts_by _ c.self.inside.key.table_id c.give.new.pass.table_id _ _ _ _ _ (cc) took gave
+    rw (← c.self.view_is) (lasts_by _ c.self.inside.pass.table_id c.give.new.pass.table_id _ _ _ _ _ (cc) took gave
     gave.makes.0)
 
 pub returns-clause-ok : goal.returns-clause-ok
 returns-clause-ok g c =
     let took = c.take-guard.ensures.took in
     let made = c.give.ensures.gave.makes in
-    rw (← c.self.view_is) (command_adds (view c.self.inside.key).seen (view c.take-guard.new.pass).seen
+    rw (← c.self.view_is) (command_adds (view c.self.inside.pass).seen (view c.take-guard.new.pass).seen
     (view c.give.new.pass).seen (UnrootCommand c.args.path.now) UnrootedReply c.of-2.result.value
     c.unroot_step-answer.result made.1 took.goes_on c.of-2.ensures (rw (c.of-held.ensures, c.of.ensures) at made.2)
     made.3)
