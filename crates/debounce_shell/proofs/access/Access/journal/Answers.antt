@@ -10,7 +10,7 @@ give-requires-clause-may g c = let took = c.take-guard.ensures.took in may_stay 
 pub returns-clause-left : goal.returns-clause-left
 returns-clause-left g c =
     let took = c.take-guard.ensures.took in
-    rw (← c.self.view_is) (λ keeps first. gives_journal c.deref-3.result.now c.take-guard.result.1.missed
+    rw (← c.self.view_is) (λ keeps first. gives_journal c.deref-2.result.now c.take-guard.result.1.missed
     (view c.self.inside.pass).seen (view c.take-guard.new.pass).taken (view c.take-guard.new.pass).seen
-    c.journal-journal.result took.goes_on (rw (← c.deref-3.ensures) at took.stands) (took.taken keeps ∙ first)
+    c.journal-journal.result took.goes_on (rw (← c.deref-2.ensures) at took.stands) (took.taken keeps ∙ first)
     c.journal-journal.ensures.ok)
