@@ -18,7 +18,7 @@ find . \( -name out -o -name .git \) -prune -o -type f -print | sed 's,^\./,,' >
 sed 's,.*/,,' "$room/files" | sort -u >"$room/names"
 grep -v '^docs/\|^README' "$room/files" | tr '\n' '\0' | xargs -0 cat "$room/files" | grep -oaE '\w+' | sort -u >"$room/words"
 { grep -HoE '^( *(pub )?(abbrev|unfoldable|record|type|data)|pub) (pub )?[A-Za-z_0-9-]+' crates/*/specs/*.antt
-  grep -HoE '^ *(pub )?fn [a-z_0-9]+' crates/*/src/*.rt crates/*/src/*/*.rt; } | sed 's/:.* / /' >"$room/defined"
+  grep -rHoE --include='*.rt' '^ *(pub )?fn [a-z_0-9]+' crates/*/src; } | sed 's/:.* / /' >"$room/defined"
 grep '\.rt$\|\.antt$\|/data/.*\.md$' "$room/files" | tr '\n' '\0' | xargs -0 cat | squeezed >"$room/code"
 
 links() {

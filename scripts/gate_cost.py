@@ -1,13 +1,14 @@
 #!/usr/bin/env python3
-"""Runs `rt ci --anew` and prints a table of what each crate cost.
+"""Runs `rt ci`, says each minute what it does, and prints at the end what each crate cost.
 
-usage: scripts/gate_cost.py [NAME..] >TABLE, at the top of the repository
+usage: scripts/gate_cost.py [WORD..], at the top of the repository
 
-NAMES are crates, which are proved with those below them; with none it is the whole of `rt ci`. What rt prints
-goes to standard error, and the status is rt's. Seconds are those of processors, user and system, of each run of
-rattle and all that it starts: /proc is read five times a second, and what a process used since the last look
-before its end isn't counted. So no figure is too great, and one of less than a second says little. On a
-machine that is busy with other work they grow, by a third and more.
+WORDs are handed to `rt ci`: kit 13f takes `--anew`, so that nothing comes from earlier runs, and names of
+crates, which are proved with those below them; 13b takes none. What rt prints goes through as it comes, and
+the status is rt's. Seconds are those of processors, user and system, of each run of rattle and all that it
+starts: /proc is read five times a second, and what a process used since the last look before its end isn't
+counted. So no figure is too great, and one of less than a second says little. On a machine that is busy with
+other work they grow, by a third and more.
 """
 import collections
 import os
@@ -20,6 +21,7 @@ import time
 TICKS = os.sysconf("SC_CLK_TCK")
 KINDS = ["proof", "edits", "tests", "runs"]
 RUN = re.compile(r"/rt-run-[^/]*/bin/(\w+?)(_tests)?$")
+MINUTE = 60
 
 Process = collections.namedtuple("Process", "parent spent began")
 
@@ -64,6 +66,7 @@ class Costs:
         self.top = top
         self.tasks = {}  # of a process and its start
         self.most = {}  # of a task's first process: the most seconds that were seen
+        self.now = []  # the tasks that went on at the last look
 
     def look(self):
         now = processes()
@@ -81,6 +84,7 @@ class Costs:
                 spent[first] += now[number].spent
         for key, seconds in spent.items():
             self.most[key] = max(self.most.get(key, 0), seconds)
+        self.now = sorted({self.tasks[it] for it in spent})
 
     def by_crate(self):
         costs = collections.defaultdict(collections.Counter)
@@ -94,7 +98,7 @@ def pass_on(lines, functions):
     """Passes rt's lines on, and notes how many functions each crate has."""
     crate = None
     for line in lines:
-        sys.stderr.write(line)
+        print(line, end="", flush=True)
         begun = re.match(r"== (\w+)(: its tests)?$", line)
         if begun:
             crate = None if begun[2] else begun[1]
@@ -110,14 +114,19 @@ def row(name, functions, cost):
 
 
 def main():
-    command = ["rt", "ci", "--anew", *sys.argv[1:]]
     pipes = {"stdout": subprocess.PIPE, "stderr": subprocess.STDOUT}
-    rt = subprocess.Popen(command, text=True, errors="replace", **pipes)
+    begun = time.time()
+    rt = subprocess.Popen(["rt", "ci", *sys.argv[1:]], text=True, errors="replace", **pipes)
     functions, costs = {}, Costs(rt.pid)
     reader = threading.Thread(target=pass_on, args=(rt.stdout, functions))
     reader.start()
+    told = begun
     while rt.poll() is None:
         costs.look()
+        if time.time() - told >= MINUTE:
+            told += MINUTE
+            going = ", ".join(f"{kind} of {crate}" for crate, kind in costs.now) or "nothing"
+            print(f"gate: after {(told - begun) / MINUTE:.0f} min, going on: {going}\n", end="", flush=True)
         time.sleep(0.2)
     reader.join()
     found = costs.by_crate()
@@ -126,6 +135,8 @@ def main():
     for crate in sorted(found, key=lambda it: -sum(found[it].values())):
         row(f"`{crate}`", functions.get(crate, 0), found[crate])
     row("all", sum(functions.values()), sum(found.values(), collections.Counter()))
+    seconds = sum(sum(it.values()) for it in found.values())
+    print(f"rt ci: {(time.time() - begun) / 60:.0f} minutes by the clock, {seconds / 60:.0f} of a processor")
     return rt.returncode
 
 

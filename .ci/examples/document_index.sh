@@ -56,6 +56,46 @@ well=no
 wait $running && [ "$(cat err)" = 'document_index: watching notes' ] && well=yes
 report 'document_index: it ends with its input' $well
 
+# A removal only removes: what came again before the index looked, and went before the next look, isn't in it. And
+# what is away when its creation is taken in is read once it is there again. A hint has the path looked at, and a
+# round follows it after a second. On a slow machine they see too much, so there are several tries.
+mkfifo hints
+for n in 1 2 3 4; do echo old >notes/p$n; done
+"$index" notes --timeout 300 --interval 60000 --hints hints <queries >answers 2>err &
+running=$!
+exec 3>queries 4<answers 5>hints
+# hint PATH PAUSE: the index looks at the path.
+hint() {
+    echo "$1" >&5
+    sleep "$2"
+}
+well=no
+answers old notes/p1 notes/p2 notes/p3 notes/p4 && well=yes
+for n in 1 2 3 4; do
+    rm notes/p$n && hint notes/p$n 0.$n
+    echo ghost >notes/p$n
+    sleep 0.3
+    ask ghost >ghosts
+    rm notes/p$n
+    sleep 2
+    answers ghost || well=no
+done
+report 'document_index: a removal only removes' $well
+well=yes
+for n in 1 2 3 4; do
+    echo new >notes/q && hint notes/q 0.$n
+    mv notes/q away
+    sleep 0.3
+    ask new >ghosts
+    mv away notes/q
+    sleep 2
+    [ "$(ask new)" = notes/q ] || well=no
+    rm notes/q && hint notes/q 1 && answers new || well=no
+done
+report 'document_index: what comes back is read' $well
+exec 3>&- 4<&- 5>&-
+wait $running
+
 echo 'Event' >notes/z.txt
 echo notes/z.txt >wanted
 expect 'document_index: one query' 0 wanted 'document_index: watching notes' "$index" notes --query EVENT

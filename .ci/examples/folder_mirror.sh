@@ -14,7 +14,7 @@ echo other >to/a
 is_copy() {
     for _ in $(seq 600); do
         (cd from && find . ! -type l | LC_ALL=C sort) >originals
-        (cd to && find . ! -name .folder_mirror.partial | LC_ALL=C sort) >copies
+        (cd to 2>/dev/null && find . | LC_ALL=C sort) >copies
         cmp -s originals copies && ! diff -r --no-dereference -x link from to | grep -q . && return
         sleep 0.1
     done
@@ -100,6 +100,129 @@ report 'folder_mirror: a folder that vanishes leaves its copy' $well
 kill $running
 wait $running 2>/dev/null
 
+# A removal only removes: what came again before the mirror looked, and went before the next look, isn't copied. A
+# hint has the path looked at, and a round follows it after a second. On a slow machine they see the file too, or
+# both too late; so there are several tries, and none may leave a copy.
+mkfifo words
+# begins: the mirror looks each minute, and where standard input says.
+begins() {
+    rm -rf from to && mkdir from && echo old >from/p && : >out
+    "$mirror" from to --timeout 300 --interval 60000 --hints - --until-eof <words >out 2>err &
+    running=$!
+    exec 5>words
+    follows from && says out 'copy from/p'
+}
+
+well=yes
+for pause in 0.05 0.1 0.2 0.3; do
+    begins && rm from/p && echo from/p >&5 || well=no
+    sleep $pause
+    echo ghost >from/p
+    for _ in $(seq 16); do ! grep -q remove out || break; sleep 0.05; done
+    rm from/p
+    sleep 2
+    exec 5>&-
+    wait $running && [ ! "$(ls -A to)" ] && ! complains || well=no
+done
+report 'folder_mirror: a removal only removes' $well
+
+# What is away when its creation is taken in is copied once it is there again, though nobody reports that.
+well=yes
+for pause in 0.05 0.1 0.2 0.3; do
+    begins && echo new >from/q && echo from/q >&5 || well=no
+    sleep $pause
+    mv from/q away
+    sleep 0.5
+    mv away from/q
+    for _ in $(seq 50); do [ ! -e to/q ] || break; sleep 0.1; done
+    exec 5>&-
+    wait $running && cmp -s from/q to/q && ! complains || well=no
+done
+report 'folder_mirror: what comes back is copied' $well
+
+# What permission closes is no removal: neither a folder's names nor what lies in it. A user whom permission stops
+# tries that.
+cat >closed.sh <<'STORIES'
+# waits COMMAND..: it succeeds within a minute.
+waits() {
+    for _ in $(seq 600); do
+        ! "$@" || return 0
+        sleep 0.1
+    done
+    false
+}
+
+# kept: the copy has all, and nothing was said to be removed.
+kept() {
+    [ "$(cat to/a to/sub/b)" = $'one\ntwo' ] && ! grep -q '^remove' out
+}
+
+# closed FOLDER MODE STATUS: a folder is closed, and is open again at the end if the status is to be 0.
+closed() {
+    mkdir -p from/sub && echo one >from/a && echo two >from/sub/b && mkfifo input || return 1
+    ./folder_mirror from to --timeout 50 --interval 10 --until-eof <input >out 2>err &
+    exec 5>input
+    waits grep -q from/sub/b out && chmod "$2" "$1" &&
+        waits grep -qxF "folder_mirror: cannot look into $1: Permission denied (os error 13)" err && sleep 2 &&
+        kept || return 1
+    if [ "$3" = 0 ]; then
+        chmod 755 "$1" && echo three >from/c && waits test -e to/c && sleep 1.5 || return 1
+    fi
+    exec 5>&-
+    wait $!
+    [ $? = "$3" ] && chmod 755 "$1" && kept && [ "$(grep -c 'cannot look into' err)" = 1 ]
+}
+
+# What can't be removed to make room leaves nothing that was begun.
+stuck() {
+    mkdir -p from to/lib && echo 'no folder' >from/lib && echo own >to/lib/own && chmod 500 to/lib
+    ./folder_mirror from to --delete --timeout 50 --interval 10 --ticks 8 >out 2>err
+    [ $? = 1 ] && grep -qF 'cannot copy from/lib: ' err && [ "$(ls -A to)" = lib ] && [ -e to/lib/own ]
+}
+
+mkdir room && cp folder_mirror room && cd room && "$@"
+STORIES
+mkdir -m 777 open && cp "$mirror" closed.sh open && chmod 755 open/folder_mirror && cd open || exit 1
+for story in 'closed from/sub 000 1' 'closed from 000 1' 'closed from 300 0' 'closed from/sub 300 1' stuck; do
+    # shellcheck disable=SC2086
+    report "folder_mirror: $story" "$(as_user bash closed.sh $story && echo yes)"
+    chmod -R u+rwx room
+    rm -r room
+done
+cd ..
+
+# A file is written under a name that nobody has: what has it stays, what it leads to too, and the folder's own
+# file of this name is copied as any other.
+rm -rf from to && mkdir from to && echo one >from/a && echo kept >outside
+ln -s ../outside to/.folder_mirror.partial && echo own >to/.folder_mirror.partial.1
+"$mirror" from to --timeout 50 --interval 10 --ticks 8 >out 2>err
+report 'folder_mirror: a link at the name that is written to first' "$([ $? = 0 ] && ! complains &&
+    [ "$(cat outside)" = kept ] && [ -L to/.folder_mirror.partial ] && [ "$(cat to/.folder_mirror.partial.1)" = own ] &&
+    [ ! -L to/a ] && [ "$(cat to/a)" = one ] && [ "$(ls -A to | wc -l)" = 3 ] && echo yes)"
+rm -rf to && echo two >from/.folder_mirror.partial && echo three >from/z
+"$mirror" from to --timeout 50 --interval 10 --ticks 8 >out 2>err
+report 'folder_mirror: a file of that name in FROM' "$([ $? = 0 ] && ! complains && is_copy && echo yes)"
+report 'folder_mirror: the times of files are kept' \
+    "$([ "$(stat -c %Y.%y from/a from/z)" = "$(stat -c %Y.%y to/a to/z)" ] && echo yes)"
+rm -rf to && head -c 20000 /dev/zero >from/z
+(trap '' XFSZ && ulimit -f 8 && exec "$mirror" from to --timeout 50 --interval 10 --ticks 8) >out 2>err
+report 'folder_mirror: a file that can not be written whole' "$([ $? = 1 ] && [ ! -e to/z ] &&
+    [ "$(ls -A to | tr '\n' ' ')" = '.folder_mirror.partial a ' ] && grep -qF 'cannot copy from/z: ' err && echo yes)"
+
+# TO that vanishes is said once, and isn't made again; all is copied once it is there again.
+rm -rf from to && mkdir from && echo one >from/a
+"$mirror" from to --timeout 50 --interval 10 --until-eof <words >out 2>err &
+running=$!
+exec 5>words
+well=no
+is_copy && rm -r to && echo two >from/b &&
+    for _ in $(seq 600); do ! grep -qxF 'folder_mirror: to is gone' err || break; sleep 0.1; done
+sleep 2
+[ ! -e to ] && [ "$(grep -vcF 'folder_mirror: watching ' err)" = 1 ] && mkdir to && is_copy && well=yes
+exec 5>&-
+wait $running && [ "$(grep -vcF 'folder_mirror: watching ' err)" = 1 ] || well=no
+report 'folder_mirror: a copy that vanishes' $well
+
 # A dry run says what it would do, and does nothing.
 rm -rf from to && mkdir -p from/lib to/old && echo one >from/lib/one && echo old >to/old/file
 printf '%s\n' 'remove from/old' 'remove from/old/file' 'make from/lib' 'copy from/lib/one' >wanted
@@ -143,6 +266,11 @@ mkdir -p outer/inner
 expect 'folder_mirror: a folder in its copy' 5 /dev/null 'folder_mirror: outer/inner and its copy lie one in the other' \
     "$mirror" outer/inner outer --ticks 1
 report 'folder_mirror: nothing is made then' "$([ ! -e to ] && [ ! -e from/to ] && echo yes)"
+: >file
+expect 'folder_mirror: a file is no folder' 5 /dev/null 'folder_mirror: file is no folder' "$mirror" file to --ticks 1
+report 'folder_mirror: nothing is made for a file' "$([ ! -e to ] && echo yes)"
+expect 'folder_mirror: a copy that can not be made' 5 /dev/null 'folder_mirror: cannot make file: File exists (os error 17)' \
+    "$mirror" from file --ticks 1
 
 # A file that can't be read isn't copied, which the status says; root reads all, so it is no file but a socket's
 # place: the copy has a folder of its own in the way.

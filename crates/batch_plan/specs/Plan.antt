@@ -10,7 +10,7 @@ use Rattle.notify_types.specs.Kinds.{is_removal}
 use Rattle.notify_types.specs.declared.kind.EventKind.{EventKind}
 use Rattle.debounce_model.specs.Honest.{is_closed}
 use Rattle.debounce_model.specs.Kept.{has_first}
-use Rattle.debounce_model.specs.Play.{Paths, has_path, play}
+use Rattle.debounce_model.specs.Play.{Paths, has_path, play, with_path, without_at}
 use Rattle.batch_plan.specs.Action.{ActionValue, carried}
 use Rattle.batch_plan.specs.declared.action.Standing.{Standing}
 
@@ -53,24 +53,34 @@ copy_if (Some standing) path = record { path = path; wanted = Some standing } �
 abbrev pub removals_first : Look → EventKind → List PathValue → List ActionValue
 removals_first look kind paths = removal_of (gone_first (stands look) kind paths)
 
--- the copies of an event, by the first of its paths
-abbrev pub copies_first : Look → List PathValue → List ActionValue
-copies_first look [] = []
-copies_first look (path ∷ others) = copy_if (look path) path
+-- the paths that are wanted after one more event, by the first of its paths: a removal wants nothing at its path and
+-- below it, and any other event wants its path
+abbrev pub wanted_first : Paths → EventKind → List PathValue → Paths
+wanted_first paths kind [] = paths
+wanted_first paths kind (path ∷ others) = if is_removal kind then without_at paths path else with_path paths path
+
+-- the paths that are wanted after the events, where these were before
+abbrev pub wanted_from : Paths → List EventValue → Paths
+wanted_from paths [] = paths
+wanted_from paths (event ∷ events) = wanted_from (wanted_first paths event.kind event.paths) events
+
+-- the paths that the events want: one that is no removal names each first, and no later removal takes it away
+abbrev pub wanted : List EventValue → Paths
+wanted events = wanted_from [] events
 
 -- the removals of the events, in order
 abbrev pub removals : Look → List EventValue → List ActionValue
 removals look [] = []
 removals look (event ∷ events) = removals_first look event.kind event.paths ++ removals look events
 
--- the copies of the events, in order
-abbrev pub copies : Look → List EventValue → List ActionValue
+-- the copies of what stands at the paths, in order
+abbrev pub copies : Look → Paths → List ActionValue
 copies look [] = []
-copies look (event ∷ events) = copies_first look event.paths ++ copies look events
+copies look (path ∷ paths) = copy_if (look path) path ++ copies look paths
 
--- first what goes, and then what is copied
+-- first what goes, and then what is copied: what stands at the paths that the events want
 abbrev pub planned : Look → List EventValue → List ActionValue
-planned look events = removals look events ++ copies look events
+planned look events = removals look events ++ copies look (wanted events)
 
 -- an event of this kind takes the path away, by the first of its paths: it is a removal of the path or of a folder
 -- above it, or nothing stands there
@@ -90,10 +100,10 @@ is_named events path = list_any (λ e. has_first (λ p. path_eq path p) e.paths)
 abbrev pub is_covered : List EventValue → PathValue → Bool
 is_covered events path = list_any (λ e. has_first (λ p. is_prefix p path) e.paths) events
 
--- at each path that an event names first, the copy has what stands there
+-- at each path that an event names first, the copy has what stands there, if the events want the path, and else nothing
 abbrev pub LeavesWhatStands : Look → List EventValue → List ActionValue → Type 0
 LeavesWhatStands look events actions = (paths : Paths) (path : PathValue) → is_named events path ≡ true →
-    has_path (carried paths actions) path ≡ stands look path
+    has_path (carried paths actions) path ≡ (stands look path && has_path (wanted events) path)
 
 -- at each path that lies at or below no path of an event, the copy has what it had
 abbrev pub KeepsOthers : List EventValue → List ActionValue → Type 0

@@ -1,12 +1,12 @@
-//! Batches that say only where to look.
+//! Batches that say only where to look, or what was removed.
 ghost use Rattle.std.specs.Prelude.{◌≡◌, ◌++◌, ◌∷◌, [], OnOk};
-ghost use Rattle.batch_plan.specs.Naming.{naming, namings, naming_beside, namings_beside};
+ghost use Rattle.batch_plan.specs.Naming.{naming, naming_again, naming_as, naming_beside, namings, namings_beside, removing};
 
 use crate::target::target_of;
 use folder_listing::listing::Listing;
 use notify_paths::path::PathBuf;
 use notify_types::event::{DebouncedEvent, Event};
-use notify_types::kind::EventKind;
+use notify_types::kind::{EventKind, RemoveKind};
 use std::alloc::{AllocError, Allocator};
 
 /// Adds an event that names the path and says nothing of it, so that what stands there decides. With the
@@ -17,13 +17,51 @@ pub fn name_path<A: Allocator + Copy>(
 ) -> Result<(), AllocError>
     ensures { OnOk result (batch.new.items ≡ batch.old.items ++ naming path.now ∷ []) }
 {
-    let mut event = Event::new(*batch.allocator(), EventKind::Any);
+    push_event(batch, EventKind::Any, path)
+}
+
+/// Adds an event that says that the path was removed: whatever stands there again, a copy only loses it.
+pub fn name_removed<A: Allocator + Copy>(
+    batch: &mut Vec<DebouncedEvent<A>, A>,
+    path: &PathBuf<A>,
+) -> Result<(), AllocError>
+    ensures { OnOk result (batch.new.items ≡ batch.old.items ++ removing path.now ∷ []) }
+{
+    push_event(batch, EventKind::Remove(RemoveKind::Any), path)
+}
+
+/// Adds an event that has the path looked at again: one that names it, if it is wanted, and else its
+/// removal.
+pub fn name_again<A: Allocator + Copy>(
+    batch: &mut Vec<DebouncedEvent<A>, A>,
+    path: &PathBuf<A>,
+    is_wanted: bool,
+) -> Result<(), AllocError>
+    ensures { OnOk result (batch.new.items
+        ≡ batch.old.items ++ naming_again path.now is_wanted ∷ []) }
+{
+    if is_wanted {
+        name_path(batch, path)
+    } else {
+        name_removed(batch, path)
+    }
+}
+
+/// Adds an event of this kind at the path.
+fn push_event<A: Allocator + Copy>(
+    batch: &mut Vec<DebouncedEvent<A>, A>,
+    kind: EventKind,
+    path: &PathBuf<A>,
+) -> Result<(), AllocError>
+    ensures { OnOk result (batch.new.items ≡ batch.old.items ++ naming_as kind path.now ∷ []) }
+{
+    let mut event = Event::new(*batch.allocator(), kind);
     event.paths.push(path.clone()?)?;
     batch.push(DebouncedEvent::new(event, 0))?;
     Ok(())
 }
 
-/// Adds such an event for each path of the listing at or below the folder.
+/// Adds an event that names it for each path of the listing at or below the folder.
 pub fn name_listed<A: Allocator + Copy>(
     batch: &mut Vec<DebouncedEvent<A>, A>,
     listing: &Listing<A>,
@@ -40,7 +78,7 @@ pub fn name_listed<A: Allocator + Copy>(
     Ok(())
 }
 
-/// Adds such an event for each path of the original `from` at which the copy `to` has something and the
+/// Adds a removal of each path of the original `from` at which the copy `to` has something and the
 /// original nothing.
 pub fn name_beside<A: Allocator + Copy>(
     batch: &mut Vec<DebouncedEvent<A>, A>,
@@ -59,7 +97,7 @@ pub fn name_beside<A: Allocator + Copy>(
     Ok(())
 }
 
-/// Adds the event of the path, if it is one and the original has nothing there.
+/// Adds the removal of the path, if it is one and the original has nothing there.
 fn name_missing<A: Allocator + Copy>(
     batch: &mut Vec<DebouncedEvent<A>, A>,
     original: &Listing<A>,
@@ -69,7 +107,7 @@ fn name_missing<A: Allocator + Copy>(
         ++ naming_beside original.now path) }
 {
     match path {
-        Some(path) if original.get(&path).is_none() => name_path(batch, &path),
+        Some(path) if original.get(&path).is_none() => name_removed(batch, &path),
         _ => Ok(()),
     }
 }

@@ -1,18 +1,22 @@
 //! The actions that a batch of events asks for.
 ghost use Rattle.std.specs.Prelude.{◌≡◌, ◌++◌, IfOk, OnOk};
+ghost use Rattle.std.specs.Map.{keys_of};
 ghost use Rattle.std.specs.Option.{option_copied};
 ghost use Rattle.debounce_model.specs.Play.{events_of};
-ghost use Rattle.batch_plan.specs.Plan.{KeepsOthers, LeavesPlayed, LeavesWhatStands, copies, copies_first, gone_first, look_at, planned, removals, removals_first, stands};
+ghost use Rattle.batch_plan.specs.Plan.{KeepsOthers, LeavesPlayed, LeavesWhatStands, copies, copy_if, gone_first, look_at, planned, removals, removals_first, stands};
 
 use crate::action::{Action, Standing};
+use crate::wanting::wanted;
 use notify_paths::path::PathBuf;
 use notify_types::event::DebouncedEvent;
 use std::alloc::{AllocError, Allocator};
 use std::collections::BTreeMap;
 
 /// Returns the actions after which a copy has, at each path that an event names first, what stands
-/// there: first the removals, and then the copies, each in the events' order. What an event says was
-/// removed goes, also if something stands there again.
+/// there, if the batch wants the path ([`wanted`]): first the removals, in the events' order, and then the
+/// copies, in the order of their paths. What an event says was removed goes, and isn't copied, also if
+/// something stands there again: that is reported as created by the next look, and if it goes before
+/// that, nobody would say so.
 pub fn plan<A: Allocator + Copy>(
     alloc: A,
     standing: &BTreeMap<PathBuf<A>, Standing, A>,
@@ -29,7 +33,8 @@ pub fn plan<A: Allocator + Copy>(
 {
     let mut actions = Vec::new(alloc);
     push_removals(&mut actions, standing, batch)?;
-    push_copies(&mut actions, standing, batch)?;
+    let paths = wanted(alloc, batch)?;
+    push_copies(&mut actions, standing, &paths)?;
     Ok(actions)
 }
 
@@ -65,17 +70,17 @@ fn push_removals<A: Allocator + Copy>(
     Ok(())
 }
 
-/// Adds the copies that the events ask for.
+/// Adds the copies of what stands at these paths.
 fn push_copies<A: Allocator + Copy>(
     actions: &mut Vec<Action<A>, A>,
     standing: &BTreeMap<PathBuf<A>, Standing, A>,
-    batch: &[DebouncedEvent<A>],
+    paths: &BTreeMap<PathBuf<A>, (), A>,
 ) -> Result<(), AllocError>
     ensures { OnOk result (actions.new.items ≡ actions.old.items
-        ++ copies (look_at standing.now.entries) (events_of batch.now)) }
+        ++ copies (look_at standing.now.entries) (keys_of paths.now.entries)) }
 {
-    for event in batch {
-        push_copy(actions, standing, event)?;
+    for path in paths.keys() {
+        push_copy(actions, standing, path)?;
     }
     Ok(())
 }
@@ -99,18 +104,15 @@ fn push_removal<A: Allocator + Copy>(
     Ok(())
 }
 
-/// Adds the copy that the event asks for, if something stands at its path.
+/// Adds the copy of what stands at the path, if something does.
 fn push_copy<A: Allocator + Copy>(
     actions: &mut Vec<Action<A>, A>,
     standing: &BTreeMap<PathBuf<A>, Standing, A>,
-    event: &DebouncedEvent<A>,
+    path: &PathBuf<A>,
 ) -> Result<(), AllocError>
     ensures { OnOk result (actions.new.items ≡ actions.old.items
-        ++ copies_first (look_at standing.now.entries) event.now.event.paths) }
+        ++ copy_if (look_at standing.now.entries path.now) path.now) }
 {
-    let Some(path) = event.first_path() else {
-        return Ok(());
-    };
     let wanted = standing.get(path).copied();
     if wanted.is_some() {
         actions.push(Action {

@@ -5,9 +5,9 @@ use derived_laws::reports::law_of_reports;
 use file_id_cache::cache::NoCache;
 use notify_paths::error::Error;
 use notify_paths::path::PathBuf;
-use notify_poll::polled::Polled;
 use notify_types::event::{Event, RecursiveMode};
 use notify_watch::handler::EventHandler;
+use poll_roots::polled::Polled;
 use poll_rounds::folders::Folders;
 use std::alloc::Allocator;
 

@@ -14,6 +14,7 @@ use Rattle.debounce_model.specs.Due.{rest_after, waits, rests}
 use Rattle.debounce_model.specs.Moved.{are_apart, moved_queue, moved_entry, below_of, moved_below, with_queues, moved, moved_along}
 use Rattle.debounce_model.specs.Queues.{Queues, queue_at, with_queue, without_queue, without_below, was_created_at, skips, push, pushed_on, removal, events_at, waiting_in}
 use Rattle.debounce_model.specs.Rename.{left_behind}
+use Rattle.debounce_laws.proofs.DueLists.{each_weaken}
 use Rattle.debounce_model.proofs.Entries.{each-insert_entry, each-filter, each-remove_entry, each-lookup}
 
 -- each queue has the property, which may speak of its path
@@ -115,16 +116,23 @@ module _ (R : PathValue → List Timed → Type 0) where
       by false h = a
 
   -- after a tick, where the rests have it
-  pub each-rests : (due : Timed → Bool) (queues : Queues) →
-      ((p : PathValue) (q : List Timed) → R p q → R p (rest_after due q)) → Each R queues →
+  pub each-rested : (due : Timed → Bool) (queues : Queues) → Each (λ p q. R p (rest_after due q)) queues →
       Each R (rests due queues)
-  each-rests due [] less t = tt
-  each-rests due (e ∷ queues) less t = by (waits (rest_after due e.1)) (each-rests due queues less t.1)
+  each-rested due [] t = tt
+  each-rested due (e ∷ queues) t = by (waits (rest_after due e.1)) (each-rested due queues t.1)
     where
       by : (b : Bool) → Each R (rests due queues) →
           Each R (cond b ((e.0, rest_after due e.1) ∷ rests due queues) (rests due queues))
-      by true h = (less e.0 e.1 t.0, h)
+      by true h = (t.0, h)
       by false h = h
+
+  -- .. as they do if the queues have it
+  pub each-rests : (due : Timed → Bool) (queues : Queues) →
+      ((p : PathValue) (q : List Timed) → R p q → R p (rest_after due q)) → Each R queues →
+      Each R (rests due queues)
+  each-rests due queues less t =
+      each-rested due queues
+      (each_weaken (λ e. R e.0 e.1) (λ e. R e.0 (rest_after due e.1)) (λ e h. less e.0 e.1 h) queues t)
 
   -- where nothing waits each queue is empty, and has it if an empty one does
   pub each-none : (queues : Queues) → ((p : PathValue) → R p []) → waiting_in queues ≡ 0 → Each R queues

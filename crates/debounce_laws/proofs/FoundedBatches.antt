@@ -18,12 +18,12 @@ use Rattle.debounce_laws.proofs.RenamedQueues.{IsRenamedTo}
 
 module _ (P : Timed → Type 0) where
   -- what holds of each event of two lists
-  each-append : (xs ys : List Timed) → AllByRecursion P xs → AllByRecursion P ys → AllByRecursion P (xs ++ ys)
+  pub each-append : (xs ys : List Timed) → AllByRecursion P xs → AllByRecursion P ys → AllByRecursion P (xs ++ ys)
   each-append [] ys a b = b
   each-append (x ∷ xs) ys a b = (a.0, each-append xs ys a.1 b)
 
   -- .. of the beginning that is due
-  each-beginning : (due : Timed → Bool) (xs : List Timed) → AllByRecursion P xs →
+  pub each-beginning : (due : Timed → Bool) (xs : List Timed) → AllByRecursion P xs →
       AllByRecursion P (expired_beginning due xs)
   each-beginning due [] a = tt
   each-beginning due (x ∷ xs) a = by (due x) (each-beginning due xs a.1)
@@ -34,7 +34,7 @@ module _ (P : Timed → Type 0) where
       by false h = tt
 
   -- .. of the last of each kind
-  each-last_of_kind : (xs : List Timed) → AllByRecursion P xs → AllByRecursion P (last_of_kind xs)
+  pub each-last_of_kind : (xs : List Timed) → AllByRecursion P xs → AllByRecursion P (last_of_kind xs)
   each-last_of_kind [] a = tt
   each-last_of_kind (x ∷ xs) a =
       by (list_any (λ y. kind_eq x.event.kind y.event.kind) xs) (each-last_of_kind xs a.1)

@@ -123,50 +123,68 @@ or_between : (a b c : Bool) → (a || c) ≡ true → (a || (b || c)) ≡ true
 or_between true b c h = refl
 or_between false b c h = rw h (or_true b)
 
+-- what some event of a list passes, some event passes that passes less
+any-weaken : (f g : Timed → Bool) → ((x : Timed) → f x ≡ true → g x ≡ true) → (xs : List Timed) →
+    list_any f xs ≡ true → list_any g xs ≡ true
+any-weaken f g less [] h = absurd (true≢false (sym h))
+any-weaken f g less (x ∷ xs) h = by (f x) refl (any-weaken f g less xs)
+  where
+    by : (b : Bool) → f x ≡ b → (list_any f xs ≡ true → list_any g xs ≡ true) → list_any g (x ∷ xs) ≡ true
+    by true e more = rw (less x e) refl
+    by false e more = rw (more (rw e at h)) (or_true (g x))
+
+module _ (path : PathValue) (kind : EventKind) (f : Timed → Bool) (fits : (x : Timed) → f x ≡ true →
+    stands_for kind x ≡ true) (due : Timed → Bool) where
+  -- at a tick, what is found of what stands for a change stays, or something that stands for it is handed out
+  pub found-cuts : (queues : Queues) → AreAllTold queues → list_any f (events_at queues path) ≡ true →
+      (list_any f (events_at (rests due queues) path) || is_among path kind (place_list due queues)) ≡ true
+  found-cuts [] t h = absurd (true≢false (sym h))
+  found-cuts (e ∷ queues) t h =
+      rw (list_any-append (λ x. has_first (λ p. path_eq p path) x.event.paths && stands_for kind x)
+      (last_of_kind (expired_beginning due e.1)) (place_list due queues))
+      (by (waits rest) refl (is_eq (path_cmp path e.0)) refl (found-cuts queues t.1))
+    where
+      rest : List Timed
+      rest = rest_after due e.1
+
+      handed : Bool
+      handed = is_among path kind (last_of_kind (expired_beginning due e.1))
+
+      later : Bool
+      later = is_among path kind (place_list due queues)
+
+      here : is_eq (path_cmp path e.0) ≡ true → (list_any f rest || handed) ≡ true
+      here i = at (list_any f rest) (rw (found-cut f due e.1) at (rw i at h))
+        where
+          told : AreTold path e.1
+          told = subst (λ q. AreTold q e.1) (sym (tied path e.0 i)) t.0
+
+          at : (b : Bool) → (b || list_any f (expired_beginning due e.1)) ≡ true → (b || handed) ≡ true
+          at true g = refl
+          at false g =
+              last_among path kind (expired_beginning due e.1) (each_early due (IsTold path) e.1 told)
+              (any-weaken f (stands_for kind) fits (expired_beginning due e.1) g)
+
+      nothing : waits rest ≡ false → (b : Bool) → list_any f rest ≡ b → b ≡ false
+      nothing w true g = absurd (true≢false (sym (waits-found f rest g) ∙ w))
+      nothing w false g = refl
+
+      by : (w : Bool) → waits rest ≡ w → (b : Bool) → is_eq (path_cmp path e.0) ≡ b →
+          (list_any f (events_at queues path) ≡ true → (list_any f (events_at (rests due queues) path) || later)
+          ≡ true) →
+          (list_any f (events_at (cond w ((e.0, rest) ∷ rests due queues) (rests due queues)) path)
+          || (handed || later)) ≡ true
+      by true w true i more = rw i (or_left _ handed later (here i))
+      by false w true i more = rw (rw (nothing w _ refl) at (here i)) (or_true _)
+      by true w false i more = rw i (or_between _ handed later (more (rw i at h)))
+      by false w false i more = or_between _ handed later (more (rw i at h))
+
 -- at a tick, what stands for a change stays or is handed out
 pub found-rests : (due : Timed → Bool) (queues : Queues) (path : PathValue) (kind : EventKind) →
     AreAllTold queues → list_any (stands_for kind) (events_at queues path) ≡ true →
     (list_any (stands_for kind) (events_at (rests due queues) path)
     || is_among path kind (place_list due queues)) ≡ true
-found-rests due [] path kind t h = absurd (true≢false (sym h))
-found-rests due (e ∷ queues) path kind t h =
-    rw (list_any-append (λ x. has_first (λ p. path_eq p path) x.event.paths && stands_for kind x)
-    (last_of_kind (expired_beginning due e.1)) (place_list due queues))
-    (by (waits rest) refl (is_eq (path_cmp path e.0)) refl (found-rests due queues path kind t.1))
-  where
-    rest : List Timed
-    rest = rest_after due e.1
-
-    handed : Bool
-    handed = is_among path kind (last_of_kind (expired_beginning due e.1))
-
-    later : Bool
-    later = is_among path kind (place_list due queues)
-
-    here : is_eq (path_cmp path e.0) ≡ true → (list_any (stands_for kind) rest || handed) ≡ true
-    here i = at (list_any (stands_for kind) rest) (rw (found-cut (stands_for kind) due e.1) at (rw i at h))
-      where
-        told : AreTold path e.1
-        told = subst (λ q. AreTold q e.1) (sym (tied path e.0 i)) t.0
-
-        at : (b : Bool) → (b || list_any (stands_for kind) (expired_beginning due e.1)) ≡ true →
-            (b || handed) ≡ true
-        at true g = refl
-        at false g = last_among path kind (expired_beginning due e.1) (each_early due (IsTold path) e.1 told) g
-
-    nothing : waits rest ≡ false → (b : Bool) → list_any (stands_for kind) rest ≡ b → b ≡ false
-    nothing w true g = absurd (true≢false (sym (waits-found (stands_for kind) rest g) ∙ w))
-    nothing w false g = refl
-
-    by : (w : Bool) → waits rest ≡ w → (b : Bool) → is_eq (path_cmp path e.0) ≡ b →
-        (list_any (stands_for kind) (events_at queues path) ≡ true →
-        (list_any (stands_for kind) (events_at (rests due queues) path) || later) ≡ true) →
-        (list_any (stands_for kind) (events_at (cond w ((e.0, rest) ∷ rests due queues) (rests due queues))
-        path) || (handed || later)) ≡ true
-    by true w true i more = rw i (or_left _ handed later (here i))
-    by false w true i more = rw (rw (nothing w _ refl) at (here i)) (or_true _)
-    by true w false i more = rw i (or_between _ handed later (more (rw i at h)))
-    by false w false i more = or_between _ handed later (more (rw i at h))
+found-rests due queues path kind t h = found-cuts path kind (stands_for kind) (λ x e. e) due queues t h
 
 -- an event that told a change stands for it once it is pushed
 pub found-pushed : (queues : Queues) (p : PathValue) (x : Timed) → AreAllTold queues → IsTold p x →

@@ -4,10 +4,12 @@ use Rattle.debounce_model.specs.declared.command.Command.{Command}
 use Rattle.debounce_model.specs.declared.command.Reply.{Reply}
 use Rattle.debounce_model.specs.Cache.{Rules}
 use Rattle.debounce_model.specs.CommandView.{command_values, reply_values}
+use Rattle.debounce_model.specs.Flood.{FloodsNowhere}
 use Rattle.debounce_model.specs.Founded.{IsNoneInvented}
 use Rattle.debounce_model.specs.Kept.{has_rename, is_kept}
 use Rattle.debounce_model.specs.PathsLaw.{LeavesRawPaths}
 use Rattle.debounce_model.specs.Run.{Run}
+use Rattle.debounce_model.specs.Soon.{is_soon}
 use Rattle.debounce_model.specs.State.{State, Core, waiting}
 
 module _ {Z : Type 0} where
@@ -30,3 +32,15 @@ module _ {Z : Type 0} where
   abbrev pub InventsNoRename : State → List (Command Z) → List (Reply Z) → State → Type 0
   InventsNoRename s commands replies t =
       waiting s ≡ 0 → s.rename_slot ≡ None → IsNoneInvented (command_values commands) (reply_values replies) t
+
+  -- from s, in which nothing waits, no batch is a flood, and no more is emitted than was accepted
+  abbrev pub EmitsNoFlood : State → List (Command Z) → List (Reply Z) → State → Type 0
+  EmitsNoFlood s commands replies t =
+      waiting s ≡ 0 → FloodsNowhere (command_values commands) (reply_values replies) t
+
+  -- from s, in which nothing waits, and without renames each change is emitted by the first tick at which it is as old
+  -- as the timeout
+  abbrev pub EmitsSoon : State → List (Command Z) → List (Reply Z) → Type 0
+  EmitsSoon s commands replies =
+      waiting s ≡ 0 → has_rename (command_values commands) (reply_values replies) ≡ false
+      → is_soon s.timeout s.latest (command_values commands) (reply_values replies) ≡ true

@@ -4,13 +4,13 @@ use Rattle.std.specs.declared.vec.Vec.{Vec}
 use Rattle.notify_paths.specs.Errors.{ErrorValue}
 use Rattle.notify_types.specs.Event.{Timed}
 use Rattle.notify_watch.specs.Handler.{Outcome}
-use Rattle.debounce_shell.specs.Turn.{Turns, HandsList, HandsBatch, HandsErrors}
+use Rattle.debounce_turns.specs.Turn.{Turns, HandsList, HandsBatch, HandsErrors}
 use Rattle.debounce_model.specs.Command.{ErrorsCommand, ErrorsReply}
-use Rattle.debounce_shell.specs.History.{picked}
-use Rattle.debounce_shell.specs.Adds.{BatchMakes, ErrorsMake, TicksOn}
+use Rattle.told_lock.specs.History.{picked}
+use Rattle.debounce_access.specs.Adds.{BatchMakes, ErrorsMake, TicksOn}
 use Rattle.debounce_shell.specs.Handed.{Handed, HandsOn}
-use Rattle.debounce_shell.specs.Happened.{History, accepted, is_emitting}
-use Rattle.debounce_shell.specs.Stands.{Known}
+use Rattle.debounce_access.specs.Happened.{History, accepted, is_emitting}
+use Rattle.debounce_access.specs.Stands.{Known}
 
 module _ {H A : Type 0} (handles : H → Outcome A → H → Type 0) where
   handed_append : (xs ys : History) (h m e : H) → Handed handles h xs m → Handed handles m ys e

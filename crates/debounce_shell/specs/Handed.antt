@@ -4,11 +4,11 @@ use Rattle.std.specs.declared.vec.Vec.{Vec}
 use Rattle.notify_paths.specs.Errors.{ErrorValue}
 use Rattle.notify_types.specs.Event.{Timed}
 use Rattle.notify_watch.specs.Handler.{Outcome}
-use Rattle.debounce_shell.specs.Turn.{HandsBatch, HandsErrors}
+use Rattle.debounce_turns.specs.Turn.{HandsBatch, HandsErrors}
 use Rattle.debounce_model.specs.Command.{ReplyValue, ErrorsReply, BatchReply}
-use Rattle.debounce_shell.specs.History.{picked}
-use Rattle.debounce_shell.specs.Happened.{HappenedValue, History, Accepted, is_emitting}
-use Rattle.debounce_shell.specs.Stands.{Known}
+use Rattle.told_lock.specs.History.{picked}
+use Rattle.debounce_access.specs.Happened.{HappenedValue, History, Accepted, is_emitting}
+use Rattle.debounce_access.specs.Stands.{Known}
 
 module _ {H A : Type 0} (handles : H → Outcome A → H → Type 0) where
   -- the handler was called with what this reply gives, unless that is empty

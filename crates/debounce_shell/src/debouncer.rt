@@ -8,20 +8,21 @@ ghost use Rattle.debounce_model.specs.State.{State};
 ghost use Rattle.debounce_model.specs.Tick.{IsOutlook};
 ghost use Rattle.debounce_book.specs.Journal.{IsJournal, IsLegal, IsPart};
 ghost use Rattle.debounce_book.specs.JournalLaws.{LosesNoChange, GivesRawPaths, InventsNoRename};
-ghost use Rattle.debounce_shell.specs.History.{Begins, picked};
-ghost use Rattle.debounce_shell.specs.Adds.{Adds};
-ghost use Rattle.debounce_shell.specs.Happened.{Opened, accepted, entries_of, is_emitting, journal_of};
-ghost use Rattle.debounce_shell.specs.Stands.{GivesJournal, IsLeft, IsStarted, RunsOn, StaysButTells};
-ghost use Rattle.debounce_shell.specs.Start.{IsIo, IsStartError, IsStopped, IsTooSlow, too_slow, tick_nanos};
-ghost use Rattle.debounce_shell.specs.Watched.{AsksFirst, ListsFirst};
+ghost use Rattle.told_lock.specs.History.{Begins, picked};
+ghost use Rattle.debounce_access.specs.Adds.{Adds};
+ghost use Rattle.debounce_access.specs.Happened.{Opened, accepted, entries_of, is_emitting, journal_of};
+ghost use Rattle.debounce_access.specs.Stands.{GivesJournal, IsLeft, IsStarted, RunsOn, StaysButTells};
+ghost use Rattle.debounce_turns.specs.Clock.{IsIo};
+ghost use Rattle.debounce_turns.specs.Watched.{AsksFirst, ListsFirst};
+ghost use Rattle.debounce_shell.specs.Start.{IsStartError, IsStopped, IsTooSlow, too_slow, tick_nanos};
 
-use crate::access::Access;
-use crate::clock::start_of;
-use crate::feed::{Feed, Receipt};
-use crate::shared::Shared;
 use crate::worker::{Pace, Worker, start_worker};
+use debounce_access::access::Access;
 use debounce_book::book::Book;
 use debounce_book::entry::Entry;
+use debounce_turns::clock::start_of;
+use debounce_turns::feed::{Feed, Receipt};
+use debounce_turns::shared::Shared;
 use file_id_cache::cache::FileIdCache;
 use notify_paths::error::{Error, ErrorKind};
 use notify_paths::path::PathBuf;
@@ -57,8 +58,8 @@ pub struct Debouncer<T: Drop, C: Drop, R: Threads + Wait + Drop, A: Allocator = 
 
 impl<T: Drop, C: Drop, R: Threads + Wait + Drop, A: Allocator> Model for Debouncer<T, C, R, A> {
     ghost use Rattle.std.specs.Prelude.{◌≡◌, true};
-    ghost use Rattle.debounce_shell.specs.Happened.{entries_of, is_nil};
-    ghost use Rattle.debounce_shell.specs.Stands.{Running};
+    ghost use Rattle.debounce_access.specs.Happened.{entries_of, is_nil};
+    ghost use Rattle.debounce_access.specs.Stands.{Running};
 
     ghost Value = { Running T };
 
@@ -237,7 +238,7 @@ fn start_fed<
     ensures err { IfErr result (λ e. (e ≡ out_of_memory) ⊎ IsIo e) }
 {
     let start = start_of(&shared.rt, shared.alloc)?;
-    let feed = Feed::new(shared, start)?;
+    let feed = shared.feed(start)?;
     let spare = shared.another()?;
     let worker = start_worker(shared, handler, Pace { start, tick })?;
     Ok(Fed {
@@ -281,8 +282,7 @@ impl<
         ensures ok { OnOk result
             (Adds self.old.seen (accepted (RootCommand path.now mode) RootedReply) self.new.seen) }
     {
-        self.watcher.watch(path, mode)?;
-        self.shared.owner.root(&self.shared.rt, path, mode)
+        self.shared.watch(&mut self.watcher, path, mode)
     }
 
     /// Watches a path no longer. The debouncer forgets the roots below it too; whether the watcher does
@@ -434,7 +434,7 @@ impl<T: Drop, C: Drop, R: Threads + Wait + Clock + Drop, A: Allocator + Copy> De
         ensures ok { IfOk result (λ f. (f.lock ≡ self.old.lock) × (f.seen ≡ self.old.seen)) }
         ensures err { IfErr result (λ e. e ≡ out_of_memory) }
     {
-        Feed::new(&mut self.shared, self.start)
+        self.shared.feed(self.start)
     }
 
     /// Looks at the history up to now. What the receipt shows is in it.
@@ -444,9 +444,7 @@ impl<T: Drop, C: Drop, R: Threads + Wait + Clock + Drop, A: Allocator + Copy> De
         ensures seen { RunsOn self.old self.new }
         ensures shown { Begins receipt.seen self.new.seen }
     {
-        self.shared
-            .owner
-            .catch_up(&self.shared.rt, receipt.into_pass());
+        self.shared.catch_up(receipt);
     }
 
     /// Stops the watcher and the debouncer's thread, and waits until that thread has ended. A turn that
@@ -486,13 +484,13 @@ impl<T: Drop, C: Drop, R: Threads + Wait + Clock + Drop, A: Allocator + Copy> De
         self.shared.set_stop();
         let Self {
             watcher: _,
-            mut shared,
+            shared,
             spare: _,
             worker,
             start: _,
         } = self;
         worker.join(&shared.rt);
-        shared.owner.journal(&shared.rt)
+        shared.into_journal()
     }
 }
 

@@ -2,11 +2,11 @@
 //! batches and errors.
 //!
 //! [`debouncer::new_debouncer_opt`] starts it all and returns a [`debouncer::Debouncer`], by which
-//! paths are watched. What happens in a turn of its thread is [`turn::turn`], whose contract says what the
-//! handler is called with; what happens under the lock is a step of `debounce_book`.
+//! paths are watched. What happens in a turn of its thread is `turn` of `debounce_turns`, whose contract says
+//! what the handler is called with; what happens under the lock is a step of `debounce_book`.
 //!
-//! The lock is that of the module `told_lock`: the contract of each call says what it adds to the history of
-//! the book, so what comes back at the end is what was under the lock.
+//! The lock is that of `told_lock`, and `debounce_access` has the ways to the book under it: the contract of each
+//! call says what it adds to the history of the book, so what comes back at the end is what was under the lock.
 //!
 //! ```text
 //! let handler = |outcome: DebounceEventResult| { .. };
@@ -16,17 +16,6 @@
 //! ```
 #![tactic(auto)]
 
-mod access;
-mod clock;
 pub mod debouncer;
-mod feed;
-mod locked;
-mod made;
 pub mod send_to;
-mod shared;
-mod told_lock;
-pub mod turn;
 mod worker;
-
-pub use clock::now;
-pub use feed::{Feed, Receipt};

@@ -26,3 +26,13 @@ pub fn commands<A: Allocator + Copy>(
         Err(_) => panic!(rt; "no script, or no memory"),
     }
 }
+
+/// Checks a text. A test that says itself what differs is dearer to prove.
+pub fn check_text(rt: &impl Abort, got: &str, wanted: &str, what: &str) {
+    assert_eq!(rt; got, wanted, "{what}");
+}
+
+/// Checks some numbers.
+pub fn check_numbers(rt: &impl Abort, got: &[u64], wanted: &[u64], what: &str) {
+    assert_eq!(rt; got, wanted, "{what}");
+}

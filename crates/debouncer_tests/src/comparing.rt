@@ -1,6 +1,8 @@
 //! What changed between two listings.
+use crate::build::check_text;
 use crate::trees::{listing, text_of};
 use folder_listing::compare::compare;
+use folder_listing::listing::Listing;
 use std::process::Abort;
 
 /// An old listing, a new one, and the events between them.
@@ -18,18 +20,26 @@ const COMPARISONS: [&str; 8] = [
 #[test]
 fn listings_are_compared(rt: HostRuntime) {
     for comparison in COMPARISONS {
-        let (old, others) = comparison.split_once(" | ").expect(&rt, comparison);
-        let (new, events) = others.split_once(" | ").expect(&rt, comparison);
-        check_comparison(&rt, old, new, events);
+        check_line(&rt, comparison);
     }
+}
+
+fn check_line(rt: &(impl Abort + AllocGlobal), comparison: &str) {
+    let (old, others) = comparison.split_once(" | ").expect(rt, comparison);
+    let (new, events) = others.split_once(" | ").expect(rt, comparison);
+    check_comparison(rt, old, new, events);
 }
 
 fn check_comparison(rt: &(impl Abort + AllocGlobal), old: &str, new: &str, wanted: &str) {
     let before = listing(rt, rt.alloc(), old);
-    let after = listing(rt, rt.alloc(), new)
-        .try_clone(rt.alloc())
-        .expect(rt, "memory");
+    let after = copy_of(rt, new);
     let events = compare(rt.alloc(), &before, &after).expect(rt, "memory");
-    let got = text_of(rt, events.as_slice());
-    assert_eq!(rt; got.as_str(), wanted, "{old} | {new}");
+    check_text(rt, text_of(rt, events.as_slice()).as_str(), wanted, new);
+}
+
+/// A copy of the listing of a text.
+fn copy_of(rt: &(impl Abort + AllocGlobal), text: &str) -> Listing {
+    listing(rt, rt.alloc(), text)
+        .try_clone(rt.alloc())
+        .expect(rt, "memory")
 }

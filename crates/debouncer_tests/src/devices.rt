@@ -1,6 +1,7 @@
 //! Folders that fail, and folders that go missing.
 ghost use Rattle.std.specs.Prelude.{None};
 
+use crate::build::{check_numbers, check_text};
 use crate::trees::{Notes, listing, root, text_of, tree};
 use fake_folders::failing::FailingFolders;
 use fake_folders::tree::TreeFolders;
@@ -12,6 +13,7 @@ use notify_paths::path::PathBuf;
 use poll_rounds::folders::Folders;
 use poll_rounds::list::list;
 use poll_rounds::round::poll_round;
+use std::alloc::Global;
 use std::io;
 use std::process::Abort;
 
@@ -28,7 +30,7 @@ const CHANGES: &str =
 /// A look at each entry, and the names of each folder.
 const CALLS: u64 = 9;
 
-type Failing = FailingFolders<std::alloc::Global, TreeFolders<std::alloc::Global>>;
+type Failing = FailingFolders<Global, TreeFolders<Global>>;
 
 fn failing(rt: &(impl Abort + AllocGlobal), call: u64) -> Failing {
     FailingFolders::new(rt.alloc(), tree(rt, rt.alloc(), SIX), call)
@@ -36,19 +38,51 @@ fn failing(rt: &(impl Abort + AllocGlobal), call: u64) -> Failing {
 
 #[test]
 fn a_failed_call_fails_the_listing(rt: HostRuntime) {
-    let roots = root(&rt, rt.alloc(), "/");
     for call in 0..CALLS {
-        let mut folders = failing(&rt, call);
-        let refused = list(rt.alloc(), &mut folders, roots.as_slice());
-        let wanted = Err(Error::new(rt.alloc(), ErrorKind::Io(io::ErrorKind::Other)));
-        assert!(rt;
-            refused.map(|_| ()) == wanted && folders.failures() == 1,
-            "{call}"
-        );
+        check_failed_listing(&rt, call);
     }
-    let mut folders = failing(&rt, CALLS);
-    let listed = list(rt.alloc(), &mut folders, roots.as_slice()).expect(&rt, "no call fails");
-    assert_eq!(rt; (listed.len(), folders.failures()), (6, 0));
+    check_listing(&rt);
+}
+
+/// The listing if no call fails.
+fn check_listing(rt: &(impl Abort + AllocGlobal)) {
+    let mut folders = failing(rt, CALLS);
+    let count = list_all(rt, &mut folders).len() as u64;
+    check_numbers(rt, &[count, folders.failures()], &[6, 0], "no call fails");
+}
+
+/// The listing fails at this call, with the error of the call.
+fn check_failed_listing(rt: &(impl Abort + AllocGlobal), call: u64) {
+    let mut folders = failing(rt, call);
+    let told = is_failure(rt, &try_list(rt, &mut folders)) as u64;
+    check_numbers(
+        rt,
+        &[told, folders.failures(), call],
+        &[1, 1, call],
+        "told, failures, call",
+    );
+}
+
+/// What the folders hold, or why they can't be listed.
+fn try_list(
+    rt: &(impl Abort + AllocGlobal),
+    folders: &mut impl Folders<Global>,
+) -> Result<Listing, Error> {
+    let roots = root(rt, rt.alloc(), "/");
+    list(rt.alloc(), folders, roots.as_slice())
+}
+
+/// Whether the call failed as a device does.
+fn is_failure(rt: &impl AllocGlobal, listed: &Result<Listing, Error>) -> bool {
+    match listed {
+        Ok(_) => false,
+        Err(error) => *error == Error::new(rt.alloc(), ErrorKind::Io(io::ErrorKind::Other)),
+    }
+}
+
+/// What the folders hold, of which no call fails.
+fn list_all(rt: &(impl Abort + AllocGlobal), folders: &mut impl Folders<Global>) -> Listing {
+    try_list(rt, folders).expect(rt, "no call fails")
 }
 
 #[test]
@@ -60,44 +94,58 @@ fn a_failed_round_reports_its_error_and_nothing_else(rt: HostRuntime) {
 
 #[test]
 fn a_round_asks_for_each_entry_once(rt: HostRuntime) {
-    for (text, changes) in [(SIX, ""), (LAST, CHANGES)] {
-        // One more call would fail.
-        let mut folders = failing(&rt, CALLS);
-        let mut last = listing(&rt, rt.alloc(), text);
-        check_round(&rt, &mut folders, &mut last, (true, 6, changes), CALLS);
-    }
+    check_whole_round(&rt, SIX, "");
+    check_whole_round(&rt, LAST, CHANGES);
+}
+
+/// A round in which one more call would fail.
+fn check_whole_round(rt: &(impl Abort + AllocGlobal), text: &str, changes: &str) {
+    let mut folders = failing(rt, CALLS);
+    let mut last = listing(rt, rt.alloc(), text);
+    check_round(rt, &mut folders, &mut last, [1, 6, CALLS], changes);
 }
 
 /// The first round fails at this call, and the second one reports all changes since the last listing.
 fn check_failed_round(rt: &(impl Abort + AllocGlobal), call: u64) {
     let mut folders = failing(rt, call);
     let mut last = listing(rt, rt.alloc(), LAST);
-    check_round(rt, &mut folders, &mut last, (false, 3, "error Io"), call);
-    check_round(rt, &mut folders, &mut last, (true, 6, CHANGES), call);
+    check_round(rt, &mut folders, &mut last, [0, 3, call], "error Io");
+    check_round(rt, &mut folders, &mut last, [1, 6, call], CHANGES);
 }
 
-/// Checks whether the round succeeds, how many entries its listing has, and what it reports.
+/// Checks whether the round succeeds, which is 1, how many entries its listing has, beside the call at which
+/// it fails, and what it reports.
 fn check_round(
     rt: &(impl Abort + AllocGlobal),
     folders: &mut Failing,
     last: &mut Listing,
-    wanted: (bool, usize, &str),
-    call: u64,
+    wanted: [u64; 3],
+    reported: &str,
 ) {
-    let roots = root(rt, rt.alloc(), "/");
     let mut notes = Notes::new(rt);
-    let polled = poll_round(rt.alloc(), folders, roots.as_slice(), last, &mut notes);
-    let text = notes.take();
-    assert_eq!(rt; (polled, last.len(), text.as_str()), wanted, "{call}");
+    let polled = poll(rt, folders, last, &mut notes) as u64;
+    let got = [polled, last.len() as u64, wanted[2]];
+    check_numbers(rt, &got, &wanted, "polled, entries, call");
+    check_text(rt, notes.take().as_str(), reported, "what is reported");
+}
+
+fn poll(
+    rt: &(impl Abort + AllocGlobal),
+    folders: &mut Failing,
+    last: &mut Listing,
+    notes: &mut Notes,
+) -> bool {
+    let roots = root(rt, rt.alloc(), "/");
+    poll_round(rt.alloc(), folders, roots.as_slice(), last, notes)
 }
 
 /// Folders of which one goes missing after it was looked at.
 #[derive(Drop)]
 struct Vanishing {
-    inner: TreeFolders<std::alloc::Global>,
+    inner: TreeFolders<Global>,
 }
 
-impl Folders<std::alloc::Global> for Vanishing {
+impl Folders<Global> for Vanishing {
     ghost told = { λ _. None };
 
     ghost failed = { λ _. 0 };
@@ -120,13 +168,21 @@ impl Folders<std::alloc::Global> for Vanishing {
 
 #[test]
 fn a_folder_that_goes_missing_is_left_out(rt: HostRuntime) {
-    let roots = root(&rt, rt.alloc(), "/");
     let mut folders = Vanishing {
         inner: tree(&rt, rt.alloc(), SIX),
     };
-    let listed = list(rt.alloc(), &mut folders, roots.as_slice()).expect(&rt, "no call fails");
-    let events = compare(rt.alloc(), &Listing::new(rt.alloc()), &listed).expect(&rt, "memory");
-    let got = text_of(&rt, events.as_slice());
+    let listed = list_all(&rt, &mut folders);
     let wanted = "Create(Folder) /, Create(Folder) /b, Create(File) /b/y, Create(File) /c";
-    assert_eq!(rt; got.as_str(), wanted);
+    check_text(
+        &rt,
+        text_of_all(&rt, &listed).as_str(),
+        wanted,
+        "what is there",
+    );
+}
+
+/// What the events say that create all of the listing.
+fn text_of_all(rt: &(impl Abort + AllocGlobal), listed: &Listing) -> String {
+    let events = compare(rt.alloc(), &Listing::new(rt.alloc()), listed).expect(rt, "memory");
+    text_of(rt, events.as_slice())
 }

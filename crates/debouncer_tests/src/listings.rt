@@ -1,5 +1,5 @@
 //! Each request for memory refused in turn.
-use crate::build::{new_heap, path};
+use crate::build::{check_numbers, new_heap, path};
 use crate::trees::{Notes, entries, listing, root, roots, tree};
 use fake_folders::tree::TreeFolders;
 use notify_debouncer_full::{
@@ -8,6 +8,7 @@ use notify_debouncer_full::{
 use poll_rounds::look::look_round;
 use refusing_allocator::{Heap, TestHeap};
 use std::alloc::Allocator;
+use std::fmt::Debug;
 use std::process::Abort;
 
 const OLD: &str = "/ folder, /a folder, /a/x file 1, /b file 2, /c file 3";
@@ -57,14 +58,19 @@ fn check_refusals<A: TestHeap>(rt: &impl Abort, heap: A, name: &str, call: &mut 
         let answer = call.answer(rt, heap, n);
         let came = heap.left() == 0;
         heap.refuse(0);
-        let wanted = if came { Answer::Memory } else { Answer::Done };
-        assert_eq!(rt; answer, wanted, "{name}, request {n}");
+        check_answer(rt, answer, came, name, n);
         if !came {
-            assert!(rt; 1 < n, "{name} asks for no memory");
             return;
         }
     }
     panic!(rt; "{name} is refused again and again");
+}
+
+/// Checks the answer to a call of which this request was to be refused, from whether the request came.
+fn check_answer(rt: &impl Abort, answer: Answer, came: bool, name: &str, n: u64) {
+    let wanted = if came { Answer::Memory } else { Answer::Done };
+    assert_eq!(rt; answer, wanted, "{name}, request {n}");
+    assert!(rt; came || 1 < n, "{name} asks for no memory");
 }
 
 /// What a call answers.
@@ -138,41 +144,87 @@ impl<A: TestHeap> Call<A> for Listed<A> {
 /// Paths that are looked at in place of a round, as a list each; they are looked at one after the other.
 const LOOKS: [&str; 2] = ["/", "/d /c /a0 /b /a /"];
 
-/// A round, or a look at some paths, the last listing before it and after it, and what it reports.
+/// Folders, and what is asked for in them: a round at the roots, or a look at some paths if there are some.
 #[derive(Drop)]
-struct Polls<'a, A: Allocator> {
+struct Asked<A: Allocator> {
     folders: TreeFolders<A>,
     roots: Vec<(PathBuf<A>, RecursiveMode), A>,
     looks: Vec<PathBuf<A>, A>,
+}
+
+impl<A: Allocator + Copy + Debug + 'static> Asked<A> {
+    fn new(rt: &impl Abort, heap: A, text: &str, places: &str, looks: &str) -> Asked<A> {
+        Asked {
+            folders: tree(rt, heap, text),
+            roots: roots(rt, heap, places),
+            looks: paths(rt, heap, looks),
+        }
+    }
+
+    fn poll(&mut self, heap: A, last: &mut Listing<A>, notes: &mut Notes) -> bool {
+        let roots = self.roots.as_slice();
+        let looks = self.looks.as_slice();
+        if looks.is_empty() {
+            poll_round(heap, &mut self.folders, roots, last, notes)
+        } else {
+            look_round(heap, &mut self.folders, roots, last, looks, notes)
+        }
+    }
+}
+
+/// The last listing, and what it is before a round and after it.
+#[derive(Drop)]
+struct Seen<A: Allocator> {
     last: Listing<A>,
-    notes: Notes,
     before: Listing<A>,
     after: Listing<A>,
+}
+
+impl<A: Allocator + Copy + Debug> Seen<A> {
+    fn new(rt: &impl Abort, heap: A, text: &str) -> Seen<A> {
+        Seen {
+            last: listing(rt, heap, OLD),
+            before: listing(rt, heap, OLD),
+            after: listing(rt, heap, text),
+        }
+    }
+
+    /// Whether the last listing is the one after a round that was taken, or the one before it.
+    fn is_wanted(&self, taken: bool) -> bool {
+        if taken {
+            is_same(&self.last, &self.after)
+        } else {
+            is_same(&self.last, &self.before)
+        }
+    }
+}
+
+/// A round, or a look at some paths, and what it reports.
+#[derive(Drop)]
+struct Polls<'a, A: Allocator> {
+    asked: Asked<A>,
+    seen: Seen<A>,
+    notes: Notes,
     reported: &'a str,
 }
 
 impl<'a, A: TestHeap> Call<A> for Polls<'a, A> {
     fn answer(&mut self, rt: &impl Abort, heap: A, n: u64) -> Answer {
-        let roots = self.roots.as_slice();
-        let looks = self.looks.as_slice();
-        let last = &mut self.last;
-        let taken = if looks.is_empty() {
-            poll_round(heap, &mut self.folders, roots, last, &mut self.notes)
-        } else {
-            look_round(heap, &mut self.folders, roots, last, looks, &mut self.notes)
-        };
-        let is_wanted = if taken {
-            is_same(&self.last, &self.after)
-        } else {
-            is_same(&self.last, &self.before)
-        };
-        assert!(rt; is_wanted, "{}, request {n}", self.reported);
-        let notes = self.notes.take();
-        match (taken, notes.as_str()) {
-            (true, text) if text == self.reported => Answer::Done,
-            (false, "error Memory") => Answer::Memory,
-            _ => Answer::OtherError,
-        }
+        let taken = self.asked.poll(heap, &mut self.seen.last, &mut self.notes);
+        let is_wanted = self.seen.is_wanted(taken) as u64;
+        check_numbers(rt, &[is_wanted, n], &[1, n], self.reported);
+        answer_of(taken, self.notes.take().as_str(), self.reported)
+    }
+}
+
+/// What a round answers, from whether it was taken and what was noted.
+fn answer_of(taken: bool, notes: &str, reported: &str) -> Answer {
+    if taken && notes == reported {
+        Answer::Done
+    } else if !taken && notes == "error Memory" {
+        Answer::Memory
+    } else {
+        Answer::OtherError
     }
 }
 
@@ -203,8 +255,13 @@ impl<A: TestHeap> Call<A> for Watches<A> {
             self.polled
                 .watch(&mut self.folders, &self.place, RecursiveMode::Recursive),
         );
-        let kept = (self.polled.roots().len(), self.polled.last().len());
-        assert!(rt; answer == Answer::Done || kept == (0, 0));
+        let kept = [
+            self.polled.roots().len() as u64,
+            self.polled.last().len() as u64,
+        ];
+        if answer != Answer::Done {
+            check_numbers(rt, &kept, &[0, 0], "a refused watch");
+        }
         answer
     }
 }
@@ -250,7 +307,7 @@ fn a_refused_look_keeps_the_last_listing(rt: HostRuntime) {
 }
 
 /// The paths of a text, as `/a /b`.
-fn paths<A: TestHeap>(rt: &impl Abort, heap: A, text: &str) -> Vec<PathBuf<A>, A> {
+fn paths<A: Allocator + Copy + Debug>(rt: &impl Abort, heap: A, text: &str) -> Vec<PathBuf<A>, A> {
     let mut paths = Vec::new(heap);
     for place in text.split(' ') {
         if !place.is_empty() {
@@ -266,13 +323,9 @@ fn refuse_rounds<A: TestHeap, R: Abort + AllocGlobal>(rt: &R, places: &str, look
     for round in ROUNDS {
         let (text, reported) = round.split_once('\n').expect(rt, round);
         let mut call = Polls {
-            folders: tree(rt, heap, text),
-            roots: roots(rt, heap, places),
-            looks: paths(rt, heap, looks),
-            last: listing(rt, heap, OLD),
+            asked: Asked::new(rt, heap, text, places, looks),
+            seen: Seen::new(rt, heap, text),
             notes: Notes::new(rt),
-            before: listing(rt, heap, OLD),
-            after: listing(rt, heap, text),
             reported,
         };
         check_refusals(rt, heap, text, &mut call);

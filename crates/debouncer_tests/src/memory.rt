@@ -1,5 +1,5 @@
 //! What asks for memory, and how often.
-use crate::build::{commands, new_heap, path};
+use crate::build::{check_numbers, commands, new_heap, path};
 use notify_debouncer_full::{DebounceDataInner, NoCache};
 use refusing_allocator::{Heap, RefusingHeap};
 use std::process::Abort;
@@ -23,8 +23,13 @@ fn check_requests(rt: &impl Abort, heap: impl RefusingHeap, text: &str, wanted: 
     heap.refuse(MANY);
     let copy = read.try_clone().expect(rt, "memory");
     let to_copy = MANY.saturating_sub(heap.left());
-    assert_eq!(rt; [to_parse, to_copy], [wanted, wanted], "{text}");
-    assert!(rt; copy == read);
+    let is_same = (copy == read) as u64;
+    check_numbers(
+        rt,
+        &[to_parse, to_copy, is_same],
+        &[wanted, wanted, 1],
+        text,
+    );
 }
 
 /// Scripts of which the first one's event has one path, the second one's two; in the last two the tick
@@ -40,10 +45,16 @@ const SCRIPTS: [&str; 4] = [
 #[test]
 fn a_tick_moves_what_it_emits(rt: HostRuntime) {
     let heap: Heap = new_heap(&rt);
-    let [one, two, one_of_many, two_of_many] = SCRIPTS.map(|script| requests_of_tick(
-        &rt, heap, script,
-    ));
-    assert_eq!(rt; [one, one_of_many], [two, two_of_many]);
+    let [one, two, one_of_many, two_of_many] = SCRIPTS;
+    check_ticks(&rt, heap, one, two);
+    check_ticks(&rt, heap, one_of_many, two_of_many);
+}
+
+/// Checks that a tick makes as many requests after one script as after the other.
+fn check_ticks(rt: &impl Abort, heap: impl RefusingHeap, one: &str, other: &str) {
+    let first = requests_of_tick(rt, heap, one);
+    let second = requests_of_tick(rt, heap, other);
+    check_numbers(rt, &[first], &[second], other);
 }
 
 /// A debouncer that has run the script.
@@ -62,8 +73,9 @@ fn requests_of_tick(rt: &impl Abort, heap: impl RefusingHeap, script: &str) -> u
     heap.refuse(0);
     let mut core = core_after(rt, heap, script);
     heap.refuse(MANY);
-    let emitted = core.debounced_events(100).expect(rt, "memory").len();
+    let emitted = core.debounced_events(100).expect(rt, "memory").len() as u64;
     let requests = MANY.saturating_sub(heap.left());
-    assert_eq!(rt; emitted, 1);
+    drop(core);
+    check_numbers(rt, &[emitted], &[1], script);
     requests
 }

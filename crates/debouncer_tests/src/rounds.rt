@@ -1,5 +1,5 @@
 //! Listings one after the other, a debouncer that is given what changed, and a reader of its batches.
-use crate::build::path;
+use crate::build::{check_numbers, check_text, path};
 use crate::cache::add_batch;
 use crate::trees::{Notes, listing, tree};
 use calls_by_hand::follower::Follower;
@@ -17,17 +17,21 @@ fn check_paths(rt: &impl Abort, paths: &[PathBuf], text: &str) {
             _ => panic!(rt; "{place} of {text}"),
         }
     }
-    assert_eq!(rt; rest.len(), 0, "{text}");
+    check_numbers(rt, &[rest.len() as u64], &[0], text);
 }
 
-/// Five listings, one after the other.
-const LISTINGS: [&str; 5] = [
-    "/ folder, /d folder",
-    "/ folder, /d folder, /d/e folder, /d/e/g file 1, /d/f file 2",
-    "/ folder, /d file 5",
-    "/ folder, /d folder, /d/f file 2, /e other",
-    "/ folder, /d folder, /d/f file 3",
-];
+/// Five listings, one after the other, and when each is seen.
+const LISTINGS: &str = "0 / folder, /d folder
+40 / folder, /d folder, /d/e folder, /d/e/g file 1, /d/f file 2
+80 / folder, /d file 5
+120 / folder, /d folder, /d/f file 2, /e other
+160 / folder, /d folder, /d/f file 3";
+
+/// The file still waits when its folder becomes a file, and is dropped.
+const REPLACED: &str = "0 / folder, /d folder
+40 / folder, /d folder, /d/f file 2
+75 / folder, /d file 5
+200 / folder, /d file 5";
 
 /// The follower once it has seen this listing, and then a tick 30 nanoseconds later. Adds what that emits.
 fn follow(
@@ -51,37 +55,36 @@ fn check_reader(rt: &impl Abort, follower: &Follower, text: &str) {
     check_paths(rt, paths.to_list().expect(rt, "memory").as_slice(), text);
 }
 
+/// Follows the listings of some lines. After each a reader has its paths. Adds what is emitted.
+fn follow_all(rt: &(impl Abort + AllocGlobal), lines: &str, emitted: &mut String) {
+    let mut follower = Follower::new(rt.alloc(), 50);
+    for line in lines.split('\n') {
+        let (now, text) = line.split_once(' ').expect(rt, line);
+        follower = follow(rt, follower, text, moment(rt, now), emitted);
+        check_reader(rt, &follower, text);
+    }
+    drop(follower);
+}
+
+fn moment(rt: &impl Abort, text: &str) -> u128 {
+    match text.parse::<u128>() {
+        Ok(moment) => moment,
+        Err(_) => panic!(rt; "{text} is no moment"),
+    }
+}
+
 #[test]
 fn a_reader_ends_with_the_paths_of_the_last_listing(rt: HostRuntime) {
-    let mut follower = Follower::new(rt.alloc(), 50);
-    let mut emitted = String::new(rt.alloc());
-    let mut now = 0u128;
-    for text in LISTINGS {
-        follower = follow(&rt, follower, text, now, &mut emitted);
-        check_reader(&rt, &follower, text);
-        now = now.saturating_add(40);
-    }
+    follow_all(&rt, LISTINGS, &mut String::new(rt.alloc()));
 }
 
 #[test]
 fn a_folder_becomes_a_file(rt: HostRuntime) {
     let mut emitted = String::new(rt.alloc());
-    let mut follower = Follower::new(rt.alloc(), 50);
-    // The file still waits when its folder becomes a file, and is dropped.
-    for (text, now) in [
-        ("/ folder, /d folder", 0u128),
-        ("/ folder, /d folder, /d/f file 2", 40),
-        ("/ folder, /d file 5", 75),
-        ("/ folder, /d file 5", 200),
-    ] {
-        follower = follow(&rt, follower, text, now, &mut emitted);
-    }
-    check_reader(&rt, &follower, "/ folder, /d file 5");
-    assert_eq!(rt;
-        emitted.as_str(),
-        "[] [Create(Folder) 0 /, Create(Folder) 0 /d, ] [] \
-        [Remove(Folder) 75 /d, Create(File) 75 /d, ] "
-    );
+    follow_all(&rt, REPLACED, &mut emitted);
+    let wanted = "[] [Create(Folder) 0 /, Create(Folder) 0 /d, ] [] \
+        [Remove(Folder) 75 /d, Create(File) 75 /d, ] ";
+    check_text(&rt, emitted.as_str(), wanted, "what is emitted");
 }
 
 /// Watches the path in folders that hold these entries, and returns what it begins with.
@@ -98,16 +101,25 @@ fn watch(rt: &(impl Abort + AllocGlobal), polled: &mut Polled, text: &str, place
 
 #[test]
 fn a_watch_lists_what_it_takes_from_the_rounds(rt: HostRuntime) {
-    let later = "/ folder, /d folder, /d/f file 2";
+    check_listed(&rt, "/ folder, /d folder, /d/f file 2");
+}
+
+/// Watches two roots, the second when the folders hold these entries.
+fn check_listed(rt: &(impl Abort + AllocGlobal), later: &str) {
     let mut polled = Polled::new(rt.alloc());
-    watch(&rt, &mut polled, "/ folder, /d folder", "/");
+    drop(watch(rt, &mut polled, "/ folder, /d folder", "/"));
     // The file came since, and the first root would report it in the next round.
-    let listed = watch(&rt, &mut polled, later, "/d");
-    let mut notes = Notes::new(&rt);
-    polled.round(&mut tree(&rt, rt.alloc(), later), &mut notes);
-    assert_eq!(rt; notes.take().as_str(), "");
-    let differences = compare(rt.alloc(), &listed, &listing(&rt, rt.alloc(), later));
-    assert_eq!(rt; differences.expect(&rt, "memory").len(), 0);
+    let listed = watch(rt, &mut polled, later, "/d");
+    check_round(rt, &mut polled, later, "nothing");
+    drop(polled);
+    check_same(rt, &listed, later);
+}
+
+/// Checks that nothing differs between the two listings.
+fn check_same(rt: &(impl Abort + AllocGlobal), listed: &Listing, text: &str) {
+    let differences = compare(rt.alloc(), listed, &listing(rt, rt.alloc(), text));
+    let count = differences.expect(rt, "memory").len() as u64;
+    check_numbers(rt, &[count], &[0], text);
 }
 
 /// What happens, in scenes: each begins with `now` and what stands in the folders. Then come, line by line,
@@ -220,7 +232,7 @@ round Create(File) /d/f",
 /// Checks what was reported.
 fn check_notes(rt: &(impl Abort + AllocGlobal), notes: &mut Notes, text: &str, wanted: &str) {
     let wanted = if wanted == "nothing" { "" } else { wanted };
-    assert_eq!(rt; notes.take().as_str(), wanted, "{text}");
+    check_text(rt, notes.take().as_str(), wanted, text);
 }
 
 /// Makes a round, and checks what it reports.

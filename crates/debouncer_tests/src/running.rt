@@ -1,7 +1,8 @@
 //! A watcher that polls.
 use crate::build::path;
 use notify_debouncer_full::{
-    Config, Error, Event, EventHandler, PollTask, PollWatcher, RecursiveMode, Watcher, start_task,
+    Config, DebouncerRuntime, Error, Event, EventHandler, PollTask, PollWatcher, RecursiveMode,
+    Watcher, start_task,
 };
 use std::alloc::Global;
 use std::process::Abort;
@@ -59,27 +60,43 @@ fn check_watches<R: Drop, W: Watcher<Flagged, R, Global>>(
     assert_eq!(rt; [watched, unwatched, again], [true, true, false]);
 }
 
+type Made<R> = (PollWatcher<R>, PollTask<Flagged, R>);
+
+/// A watcher whose handler raises the flag when it is dropped, and the task of its thread.
+fn new_watcher<R: DebouncerRuntime + AllocGlobal + Abort>(
+    rt: R,
+    dropped: &Arc<AtomicBool>,
+) -> Made<R> {
+    let config = Config::default().with_poll_interval(Duration::from_secs(3600));
+    let handler = Flagged {
+        dropped: Arc::try_clone(dropped).expect(&rt, "memory"),
+    };
+    PollWatcher::new(rt, rt.alloc(), handler, config).expect(&rt, "memory")
+}
+
+/// Starts such a watcher, uses it, and drops it.
+fn use_watcher<R: DebouncerRuntime + AllocGlobal + Abort>(rt: R, dropped: &Arc<AtomicBool>) {
+    let (mut watcher, task) = new_watcher(rt, dropped);
+    check_watches::<R, _>(&rt, &mut watcher);
+    start_task(&rt, rt.alloc(), task).expect(&rt, "a thread");
+    thread::sleep(&rt, Duration::from_millis(10));
+    drop(watcher);
+}
+
+/// Whether a thread ends soon once its watcher is dropped.
+fn ends_its_thread<R: DebouncerRuntime + AllocGlobal + Abort>(rt: R) -> bool {
+    let dropped = Arc::new(rt.alloc(), AtomicBool::new(false)).expect(&rt, "memory");
+    use_watcher(rt, &dropped);
+    wait_for(&rt, &dropped)
+}
+
 #[test]
 fn a_dropped_watcher_ends_its_thread(rt: HostRuntime) {
-    let config = Config::default().with_poll_interval(Duration::from_secs(3600));
-    let mut ended = false;
     // A machine that is busy elsewhere may need another try.
     for _ in 0..3 {
-        let dropped = Arc::new(rt.alloc(), AtomicBool::new(false)).expect(&rt, "memory");
-        let handler = Flagged {
-            dropped: Arc::try_clone(&dropped).expect(&rt, "memory"),
-        };
-        let made: Result<(PollWatcher<HostRuntime>, PollTask<Flagged, HostRuntime>), Error> =
-            PollWatcher::new(rt, rt.alloc(), handler, config);
-        let (mut watcher, task) = made.expect(&rt, "memory");
-        check_watches::<HostRuntime, _>(&rt, &mut watcher);
-        start_task(&rt, rt.alloc(), task).expect(&rt, "a thread");
-        thread::sleep(&rt, Duration::from_millis(10));
-        drop(watcher);
-        if wait_for(&rt, &dropped) {
-            ended = true;
-            break;
+        if ends_its_thread(rt) {
+            return;
         }
     }
-    assert!(rt; ended);
+    panic!(rt; "the thread goes on");
 }

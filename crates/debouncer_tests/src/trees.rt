@@ -49,16 +49,21 @@ pub fn entries<A: Allocator + Copy + Debug>(
     let mut entries = Vec::new(alloc);
     for entry in text.split(", ") {
         let (place, found) = entry.split_once(' ').expect(rt, entry);
-        let (kind, length) = match found.split_once(' ') {
-            Some((_, length)) => (EntryKind::File, number(rt, length)),
-            None if found == "folder" => (EntryKind::Folder, 0),
-            None => (EntryKind::Other, 0),
-        };
+        let (kind, length) = found_of(rt, found);
         entries
             .push((path(rt, alloc, place), kind, length))
             .expect(rt, "memory");
     }
     entries
+}
+
+/// What stands at a path, and its length.
+fn found_of(rt: &impl Abort, found: &str) -> (EntryKind, u64) {
+    match found.split_once(' ') {
+        Some((_, length)) => (EntryKind::File, number(rt, length)),
+        None if found == "folder" => (EntryKind::Folder, 0),
+        None => (EntryKind::Other, 0),
+    }
 }
 
 fn number(rt: &impl Abort, text: &str) -> u64 {

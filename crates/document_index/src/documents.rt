@@ -1,9 +1,12 @@
 //! Documents, read from files.
 ghost use Rattle.std.specs.Prelude.{IfOk, OnOk};
+ghost use Rattle.std.specs.Map.{keys_of};
 ghost use Rattle.debounce_model.specs.Play.{events_of};
-ghost use Rattle.document_index.specs.Read.{IsNamedOnly, PutsFirst};
+ghost use Rattle.batch_plan.specs.Plan.{wanted};
+ghost use Rattle.document_index.specs.Read.{IsReadAmong, PutsAt};
 
 use batch_plan::naming::name_listed;
+use batch_plan::wanting::wanted;
 use notify_debouncer_full::{
     DebouncedEvent, DebouncerRuntime, Folders, PathBuf, RealFolders, RecursiveMode, list,
 };
@@ -39,34 +42,44 @@ impl<R: DebouncerRuntime + AllocGlobal> Documents<R> {
         Ok(batch)
     }
 
-    /// Reads what stands at the paths that the batch names first. Nothing else is read.
+    /// Reads what stands at the paths that the batch wants. Nothing else is read.
     pub(crate) fn read(&self, batch: &[DebouncedEvent]) -> Result<BTreeMap<PathBuf, Words>, Fault>
-        ensures named { IfOk result (λ read. IsNamedOnly (events_of batch.now) read.entries) }
+        ensures wanted { IfOk result (λ read.
+            IsReadAmong (wanted (events_of batch.now)) read.entries) }
+    {
+        let paths = wanted(self.rt.alloc(), batch)?;
+        self.read_all(&paths)
+    }
+
+    /// Reads what stands at these paths.
+    fn read_all(&self, paths: &BTreeMap<PathBuf, ()>) -> Result<BTreeMap<PathBuf, Words>, Fault>
+        ensures among { IfOk result (λ read.
+            IsReadAmong (keys_of paths.now.entries) read.entries) }
     {
         let mut read = BTreeMap::new(self.rt.alloc());
-        for event in batch {
-            self.read_first(&mut read, event)?;
+        for path in paths.keys() {
+            self.read_one(&mut read, path)?;
         }
         Ok(read)
     }
 
-    /// Puts in the words of what stands at the event's first path, if it has one and something does.
-    fn read_first(
-        &self,
-        read: &mut BTreeMap<PathBuf, Words>,
-        event: &DebouncedEvent,
-    ) -> Result<(), Fault>
-        ensures put { OnOk result (PutsFirst event.now.event.paths read.old.entries
-            read.new.entries) }
+    /// Puts in the words of what stands at the path, if something does.
+    fn read_one(&self, read: &mut BTreeMap<PathBuf, Words>, path: &PathBuf) -> Result<(), Fault>
+        ensures put { OnOk result (PutsAt path.now read.old.entries read.new.entries) }
     {
-        let Some(path) = event.first_path() else {
-            return Ok(());
-        };
         let key = path.clone()?;
         if let Some(words) = self.words_at(path)? {
             read.insert(key, words)?;
         }
         Ok(())
+    }
+
+    /// Whether nothing stands at the path, or nobody can say what.
+    pub(crate) fn is_missing(&self, path: &PathBuf) -> bool {
+        !matches!(
+            RealFolders::new(self.rt, self.rt.alloc()).look(path),
+            Ok(Some(_))
+        )
     }
 
     /// The words of what stands at the path, if something does. Links aren't followed.

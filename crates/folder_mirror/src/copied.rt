@@ -32,6 +32,20 @@ impl Copied {
         self.paths.remove(path);
     }
 
+    /// What the copy has of the path.
+    pub(crate) fn get(&self, path: &PathBuf) -> Option<Standing> {
+        self.paths.get(path).copied()
+    }
+
+    /// All paths, a folder before what is in it.
+    pub(crate) fn all(&self) -> Result<Vec<PathBuf>, AllocError> {
+        let mut found = Vec::new(self.alloc);
+        for path in self.paths.keys() {
+            found.push(path.clone()?)?;
+        }
+        Ok(found)
+    }
+
     /// The paths at and below this one, a folder before what is in it.
     pub(crate) fn at_or_below(
         &self,

@@ -2,6 +2,8 @@
 ghost use Rattle.std.specs.Prelude.{◌≡◌, option_map, IfOk, IfSome};
 ghost use Rattle.batch_plan.specs.Target.{target_of};
 
+use crate::looks::{Seen, is_missing};
+use crate::writing::{Original, fill, open_new};
 use batch_plan::action::Standing;
 use batch_plan::target::Target;
 use notify_debouncer_full::PathBuf;
@@ -9,9 +11,6 @@ use std::fs::{Files, Metadata};
 use std::os::unix::fs::MetadataExt;
 use std::{fs, io};
 use watch_program::Fault;
-
-/// The name in the copy under which a file is written, before it gets its own.
-const PARTIAL: &str = ".folder_mirror.partial";
 
 /// What the words allow.
 #[derive(Clone, Copy, Debug)]
@@ -31,7 +30,9 @@ pub(crate) struct FolderCopy<R: Drop> {
     pub(crate) to: PathBuf,
     pub(crate) leave: Leave,
     /// The device of the folder: if it is another one, the folder's disk is gone.
-    device: u64,
+    from_device: u64,
+    /// That of the copy, if it is there: in a dry run it may be missing.
+    to_device: Option<u64>,
 }
 
 impl<R: Files + AllocGlobal + Copy + Drop> FolderCopy<R> {
@@ -45,29 +46,82 @@ impl<R: Files + AllocGlobal + Copy + Drop> FolderCopy<R> {
         let Ok(found) = fs::symlink_metadata(&rt, from.as_str()) else {
             return Err(Fault::NotThere);
         };
+        let to_device = match fs::metadata(&rt, to.as_str()) {
+            Ok(found) => Some(found.dev()),
+            Err(_) => None,
+        };
         Ok(FolderCopy {
             rt,
             from,
             to,
             leave,
-            device: found.dev(),
+            from_device: found.dev(),
+            to_device,
         })
     }
 
     /// Whether the folder is there, on the disk on which it was.
-    pub(crate) fn has_folder(&self) -> bool {
+    pub(crate) fn has_folder(&self) -> io::Result<bool> {
         match fs::symlink_metadata(&self.rt, self.from.as_str()) {
-            Ok(found) => found.is_dir() && found.dev() == self.device,
-            Err(_) => false,
+            Ok(found) => Ok(found.is_dir() && found.dev() == self.from_device),
+            Err(error) if is_missing(&error) => Ok(false),
+            Err(error) => Err(error),
         }
     }
 
-    /// Has what stands at the path of the folder stand in the copy too.
-    pub(crate) fn put(&self, path: &PathBuf, standing: Standing) -> io::Result<bool> {
+    /// The number of the copy's folder, if it is there, on the disk on which it was.
+    pub(crate) fn copy_number(&self) -> Option<u64> {
+        match fs::metadata(&self.rt, self.to.as_str()) {
+            Ok(found) if found.is_dir() && Some(found.dev()) == self.to_device => Some(found.ino()),
+            _ => None,
+        }
+    }
+
+    /// Looks at the path of the folder. No link is followed: below one nothing is there.
+    pub(crate) fn look_at(&self, path: &PathBuf) -> Seen {
+        let seen = match fs::symlink_metadata(&self.rt, path.as_str()) {
+            Ok(found) if found.is_dir() => Seen::Stands(Standing::Folder),
+            Ok(found) if found.is_file() => Seen::Stands(Standing::File),
+            Ok(_) => Seen::Other,
+            Err(error) => return Seen::of(error),
+        };
+        match self.check_folders(path, &self.from) {
+            Ok(()) => seen,
+            Err(error) => Seen::of(error),
+        }
+    }
+
+    /// The folder that permission closes above the path, or the path itself.
+    pub(crate) fn closed_above(&self, path: &PathBuf) -> io::Result<PathBuf> {
+        for folder in path.folders() {
+            if fs::symlink_metadata(&self.rt, folder).is_ok() {
+                return parsed(&self.rt, folder.as_os_str());
+            }
+        }
+        parsed(&self.rt, path.as_str())
+    }
+
+    /// It is an error if the folder's names can't be read. What doesn't lie in the folder that is copied is left
+    /// alone.
+    pub(crate) fn check_names(&self, folder: &PathBuf) -> io::Result<()> {
+        if folder.starts_with(&self.from) {
+            self.rt.open_dir(folder.as_str())?;
+        }
+        Ok(())
+    }
+
+    /// Has what stands at the path of the folder stand in the copy too, which was put there before if it is
+    /// known.
+    pub(crate) fn put(
+        &self,
+        path: &PathBuf,
+        standing: Standing,
+        is_known: bool,
+    ) -> io::Result<bool> {
         match (self.target_of(path)?, standing) {
             (None, _) => Ok(false),
             (Some(target), Standing::Folder) => self.make(&target),
-            (Some(target), Standing::File) => self.copy(path, &target),
+            (Some(target), Standing::File) => self.copy(path, &target, is_known),
         }
     }
 
@@ -117,14 +171,16 @@ impl<R: Files + AllocGlobal + Copy + Drop> FolderCopy<R> {
         Ok(true)
     }
 
-    /// Copies the file, unless the copy has the same bytes. The copy has the old bytes or the new ones at
-    /// each moment.
-    fn copy(&self, path: &PathBuf, target: &Target<'_>) -> io::Result<bool> {
+    /// Copies the file, unless the copy has the same bytes, or was there before with the same length and time.
+    /// The copy has the old bytes or the new ones at each moment.
+    fn copy(&self, path: &PathBuf, target: &Target<'_>, is_known: bool) -> io::Result<bool> {
         match self.found_at(target)? {
             Some(found) if found.is_dir() && !self.leave.delete => {
                 return Err(io::Error::from(io::ErrorKind::AlreadyExists));
             }
-            Some(found) if found.is_file() && self.is_same(path, target)? => return Ok(false),
+            Some(found) if found.is_file() && self.is_same(path, target, &found, is_known)? => {
+                return Ok(false);
+            }
             _ if self.leave.dry_run => return Ok(true),
             Some(found) if found.is_dir() => self.replace(path, target, true)?,
             _ => self.replace(path, target, false)?,
@@ -132,26 +188,32 @@ impl<R: Files + AllocGlobal + Copy + Drop> FolderCopy<R> {
         Ok(true)
     }
 
-    /// Copies the file beside its place, and then puts it there. A file that was begun doesn't stay.
+    /// Copies the file beside its place, and then puts it there. What was begun doesn't stay.
     fn replace(&self, path: &PathBuf, target: &Target<'_>, of_folder: bool) -> io::Result<()> {
-        let partial = self.partial()?;
-        if let Err(error) = fs::copy(&self.rt, path.as_str(), partial.as_str()) {
+        let original = Original::open(&self.rt, path.as_str())?;
+        let (partial, file) = open_new(&self.rt, &self.from, &self.to)?;
+        let filled = fill(original, file);
+        let done = match filled {
+            Ok(()) => self.put_there(&partial, target, of_folder),
+            Err(error) => Err(error),
+        };
+        if done.is_err() {
             let _ = fs::remove_file(&self.rt, partial.as_str());
-            return Err(error);
         }
+        done
+    }
+
+    /// Gives the file that was written its place.
+    fn put_there(
+        &self,
+        partial: &Target<'_>,
+        target: &Target<'_>,
+        of_folder: bool,
+    ) -> io::Result<()> {
         if of_folder {
             fs::remove_dir_all(&self.rt, target.as_str())?;
         }
         fs::rename(&self.rt, partial.as_str(), target.as_str())
-    }
-
-    /// The file that is written before it gets its place.
-    fn partial(&self) -> io::Result<Target<'_>> {
-        match Target::named(&self.to, PARTIAL) {
-            Ok(Some(partial)) => Ok(partial),
-            Ok(None) => Err(io::Error::from(io::ErrorKind::InvalidInput)),
-            Err(_) => Err(io::Error::from(io::ErrorKind::OutOfMemory)),
-        }
     }
 
     /// Removes the folder if it is empty.
@@ -192,17 +254,31 @@ impl<R: Files + AllocGlobal + Copy + Drop> FolderCopy<R> {
         }
     }
 
-    /// Whether both files have the same bytes.
-    fn is_same(&self, path: &PathBuf, target: &Target<'_>) -> io::Result<bool> {
+    /// Whether both files have the same bytes. They count as the same if their lengths and times are, unless a
+    /// change was reported of what was copied.
+    fn is_same(
+        &self,
+        path: &PathBuf,
+        target: &Target<'_>,
+        found: &Metadata,
+        is_known: bool,
+    ) -> io::Result<bool> {
+        let original = fs::symlink_metadata(&self.rt, path.as_str())?;
+        if original.len() != found.len() {
+            return Ok(false);
+        }
+        if !is_known && same_time(&original, found) {
+            return Ok(true);
+        }
         let new = fs::read(&self.rt, path.as_str())?;
         let old = fs::read(&self.rt, target.as_str())?;
         Ok(old.as_slice() == new.as_slice())
     }
 
-    /// It is an error if a folder of the copy above the target is none, as a link to one.
-    fn check_folders_above(&self, target: &Target<'_>) -> io::Result<()> {
-        for folder in target.path().folders() {
-            if folder.as_os_str().len() <= self.to.as_str().len() {
+    /// It is an error if a folder above the path and below the top is none, as a link to one.
+    fn check_folders(&self, path: &PathBuf, top: &PathBuf) -> io::Result<()> {
+        for folder in path.folders() {
+            if folder.as_os_str().len() <= top.as_str().len() {
                 break;
             }
             if !fs::symlink_metadata(&self.rt, folder)?.is_dir() {
@@ -215,7 +291,7 @@ impl<R: Files + AllocGlobal + Copy + Drop> FolderCopy<R> {
     /// What stands there, and not what a link on the way leads to. In a dry run the folders above may be
     /// missing, since they weren't made.
     fn found_at(&self, target: &Target<'_>) -> io::Result<Option<Metadata>> {
-        match self.check_folders_above(target) {
+        match self.check_folders(target.path(), &self.to) {
             Err(error) if self.leave.dry_run && is_missing(&error) => return Ok(None),
             checked => checked?,
         }
@@ -227,6 +303,18 @@ impl<R: Files + AllocGlobal + Copy + Drop> FolderCopy<R> {
     }
 }
 
-fn is_missing(error: &io::Error) -> bool {
-    error.kind() == io::ErrorKind::NotFound
+/// Whether both were modified at the same time.
+fn same_time(one: &Metadata, other: &Metadata) -> bool {
+    match (one.modified(), other.modified()) {
+        (Ok(one), Ok(other)) => one == other,
+        _ => false,
+    }
+}
+
+/// The path of this text.
+fn parsed<R: AllocGlobal>(rt: &R, text: &str) -> io::Result<PathBuf> {
+    match PathBuf::parse(rt.alloc(), text) {
+        Ok(path) => Ok(path),
+        Err(_) => Err(io::Error::from(io::ErrorKind::OutOfMemory)),
+    }
 }

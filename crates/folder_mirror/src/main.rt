@@ -3,10 +3,13 @@
 #![tactic(auto)]
 
 mod apart;
+mod complaints;
 mod copied;
 mod copy;
 mod looks;
 mod mirror;
+mod waiting;
+mod writing;
 
 use apart::check_apart;
 use clap::{Arg, ArgMatches, Command};
@@ -15,6 +18,7 @@ use mirror::Mirror;
 use notify_debouncer_full::{DebouncerRuntime, PathBuf, RecursiveMode};
 use std::alloc::{AllocError, Global};
 use std::fs;
+use std::fs::Files;
 use std::io::Write;
 use std::process::ExitCode;
 use watch_loop::follow_folder;
@@ -45,16 +49,18 @@ fn leave_of(matches: &ArgMatches<'_>) -> Leave {
     }
 }
 
-/// Makes the folder TO, if it is missing, and returns it as the copy of FROM.
-fn copy_of<R: DebouncerRuntime + AllocGlobal>(
+/// Makes the folder TO, if it is missing, and returns it as the copy of FROM. What is in the way is said.
+fn copy_of<R: DebouncerRuntime + AllocGlobal, E: Write>(
     rt: R,
     matches: &ArgMatches<'_>,
+    err: &mut E,
 ) -> Result<FolderCopy<R>, Fault> {
     let (from, to) = (place_of(matches), matches.get_str("to").unwrap_or(""));
     let leave = leave_of(matches);
     check_apart(&rt, from, to)?;
+    check_folder(&rt, from, err)?;
     if !leave.dry_run {
-        make_folder(&rt, to)?;
+        make_folder(&rt, to, err)?;
         // A name through a folder that was missing leads somewhere only now.
         check_apart(&rt, from, to)?;
     }
@@ -65,11 +71,25 @@ fn copy_of<R: DebouncerRuntime + AllocGlobal>(
     }
 }
 
+/// Refuses what is there and is no folder.
+fn check_folder<R: Files, E: Write>(rt: &R, folder: &str, err: &mut E) -> Result<(), Fault> {
+    match fs::metadata(rt, folder) {
+        Ok(found) if !found.is_dir() => {
+            let _ = writeln!(err, "{NAME}: {folder} is no folder");
+            Err(Fault::NotWatched)
+        }
+        _ => Ok(()),
+    }
+}
+
 /// Makes the folder, and those above it, if it is missing.
-fn make_folder<R: DebouncerRuntime + AllocGlobal>(rt: &R, folder: &str) -> Result<(), Fault> {
+fn make_folder<R: Files, E: Write>(rt: &R, folder: &str, err: &mut E) -> Result<(), Fault> {
     match fs::create_dir_all(rt, folder) {
         Ok(()) => Ok(()),
-        Err(_) => Err(Fault::CannotWatch),
+        Err(error) => {
+            let _ = writeln!(err, "{NAME}: cannot make {folder}: {error}");
+            Err(Fault::NotWatched)
+        }
     }
 }
 
@@ -95,10 +115,11 @@ fn run<R: DebouncerRuntime + AllocGlobal, O: Write + Drop, E: Write + Drop>(
     rt: R,
     matches: &ArgMatches<'_>,
     out: O,
-    err: E,
+    mut err: E,
     complaints: Complaints<'_, E>,
 ) -> Result<(), Fault> {
-    let mut mirror = Mirror::new(rt, copy_of(rt, matches)?, out, err);
+    let copy = copy_of(rt, matches, &mut err)?;
+    let mut mirror = Mirror::new(rt, copy, out, err);
     keep(rt, &mut mirror, pace_of(matches), complaints)
 }
 

@@ -11,8 +11,6 @@
 mod folder;
 mod lines;
 mod reading;
-#[cfg(test)]
-mod tests;
 
 pub use folder::HintedFolder;
 pub use lines::{Ends, HintLines};

@@ -34,10 +34,11 @@ pub use debounce_model::command::{Command, Reply};
 pub use debounce_model::file_id::FileId;
 pub use debounce_shell::debouncer::{Debouncer, new_debouncer_opt, new_journaled_debouncer};
 pub use debounce_shell::send_to::{SendTo, Unsent};
-pub use debounce_shell::turn::{Gate, feed_one, turn};
-pub use debounce_shell::{Feed, Receipt, now};
 pub use debounce_threads::meet::{Meet, NoMeet};
 pub use debounce_threads::run::run_threads;
+pub use debounce_turns::clock::now;
+pub use debounce_turns::feed::{Feed, Receipt};
+pub use debounce_turns::turn::{Gate, feed_one, turn};
 pub use event_order::order::sort_events;
 pub use event_queues::queue::Queue;
 pub use file_id_cache::cache::{FileIdCache, NoCache};
@@ -51,9 +52,6 @@ pub use notify_paths::error::{Error, ErrorKind};
 pub use notify_paths::part::{FoldersAbove, Part, Parts};
 pub use notify_paths::path::PathBuf;
 pub use notify_poll::hints::Hints;
-pub use notify_poll::noting::NotingFolders;
-pub use notify_poll::polled::Polled;
-pub use notify_poll::real::RealFolders;
 pub use notify_poll::watcher::{PollTask, PollWatcher};
 pub use notify_types::event::{DebouncedEvent, Event, EventAttributes, Flag, RecursiveMode};
 pub use notify_types::kind::{
@@ -64,9 +62,12 @@ pub use notify_types::time::{Moment, age};
 pub use notify_watch::config::{Config, WatcherKind};
 pub use notify_watch::handler::{DebounceEventHandler, DebounceEventResult, EventHandler};
 pub use notify_watch::watcher::{ListingWatcher, Task, Watcher, start_task};
+pub use poll_roots::polled::Polled;
 pub use poll_rounds::folders::Folders;
 pub use poll_rounds::list::list;
 pub use poll_rounds::round::poll_round;
+pub use real_folders::noting::NotingFolders;
+pub use real_folders::real::RealFolders;
 pub use recommended::{
     RecommendedCache, RecommendedDebouncer, RecommendedWatcher, new_debouncer,
     new_debouncer_with_config,

@@ -5,15 +5,15 @@ ghost use Rattle.debounce_model.specs.State.{State};
 ghost use Rattle.debounce_model.specs.Tick.{IsOutlook};
 ghost use Rattle.debounce_book.specs.Journal.{IsLegal};
 ghost use Rattle.debounce_shell.specs.Start.{IsStartError, IsTooSlow, too_slow};
-ghost use Rattle.debounce_shell.specs.Watched.{AsksFirst, ListsFirst};
+ghost use Rattle.debounce_turns.specs.Watched.{AsksFirst, ListsFirst};
 
 use crate::recommended::{RecommendedCache, RecommendedWatcher};
 use crate::runtime::{DebouncerAllocator, DebouncerRuntime};
 use crossbeam_channel::{Receiver, Sender, unbounded};
 use debounce_book::book::Book;
-use debounce_shell::Feed;
 use debounce_shell::debouncer::{Debouncer, new_debouncer_opt};
 use debounce_shell::send_to::{SendTo, Unsent};
+use debounce_turns::feed::Feed;
 use notify_paths::error::{Error, ErrorKind};
 use notify_paths::path::PathBuf;
 use notify_types::event::{DebouncedEvent, RecursiveMode};

@@ -1,11 +1,7 @@
-//! The watcher that polls: its roots and their last listing, real folders, and its thread.
+//! The watcher that polls: its thread, what wakes it, and when it makes its rounds.
 #![tactic(auto)]
 
 mod bell;
 pub mod hints;
-pub mod noting;
-pub mod polled;
-pub mod real;
 mod schedule;
-mod times;
 pub mod watcher;

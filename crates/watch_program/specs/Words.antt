@@ -1,11 +1,8 @@
 -- The words of a command line.
-use Rattle.std.specs.Prelude.{◌≡◌, ◌<◌, ◌^◌, ℕ, List, [], map, codes, Option, Some, option_map, unwrap_or}
-use Rattle.std.specs.Duration.{as_nanos}
-use Rattle.std.specs.declared.time.Duration.{Duration}
-use Rattle.std.specs.Str.Parse.{IsNumeral, digits_value, without_leading_plus}
+use Rattle.std.specs.Prelude.{ℕ, List, [], map, codes, option_map, unwrap_or}
 use Rattle.clap.specs.declared.builder.command.Command.{Command}
 use Rattle.clap.specs.declared.parser.matches.ArgMatches.{ArgMatches}
-use Rattle.clap.specs.Words.{app_of, found_of, matched_of, one_text, raw_values}
+use Rattle.clap.specs.Words.{app_of, found_of, matched_of, raw_values}
 
 -- the names of a command's words, in order
 abbrev pub ids_of : Command → List (List ℕ)
@@ -14,16 +11,3 @@ ids_of command = map (λ rule. rule.id) (app_of command).top.rules
 -- the places that the words name, in order
 abbrev pub places_in : ArgMatches → List (List ℕ)
 places_in matches = unwrap_or (option_map raw_values (matched_of (found_of matches) (codes "place"))) []
-
--- the text is this decimal number of 64 bits, perhaps with a plus
-abbrev pub Reads : List ℕ → ℕ → Type 0
-Reads text n = let digits = without_leading_plus text in
-    IsNumeral 10 digits × (digits_value 10 digits ≡ n) × (n < 2 ^ 64)
-
--- the words give this number by this name
-abbrev pub Gives : ArgMatches → List ℕ → ℕ → Type 0
-Gives matches name n = (text : List ℕ) × (one_text (found_of matches) name ≡ Some text) × Reads text n
-
--- the life is so many nanoseconds long
-abbrev pub IsLife : Option Duration → ℕ → Type 0
-IsLife life nanos = (d : Duration) × (life ≡ Some d) × (as_nanos d ≡ nanos)

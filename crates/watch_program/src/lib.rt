@@ -17,23 +17,18 @@ mod complaints;
 mod ends;
 mod fault;
 mod field;
-mod hints;
 mod output;
-mod pace;
 mod program;
-#[cfg(test)]
-mod tests;
 mod words;
 
 pub use complaints::Complaints;
 pub use ends::{end, write_errors, write_left_out, write_missed, write_watching};
 pub use fault::Fault;
 pub use field::push_field;
-pub use hints::{HintWords, hints_of};
 pub use output::write_now;
-pub use pace::{Pace, milliseconds_of, pace_of};
 pub use program::run_with_words;
+pub use watch_pace::{HintWords, Pace, hints_of, milliseconds_of, number_of, pace_of};
 pub use words::{
-    command, command_of_places, flag, folder_of, folders_of, matches_of, number, number_of, option,
-    place_of, places_of, with_until_eof, words_of,
+    command, command_of_places, flag, folder_of, folders_of, matches_of, number, option, place_of,
+    places_of, with_until_eof, words_of,
 };

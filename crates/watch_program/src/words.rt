@@ -1,9 +1,9 @@
 //! The words of a command line.
 ghost use Rattle.std.specs.Prelude.{◌≡◌, ◌⊎◌, ℕ, [], ◌∷◌, ◌++◌, false, map, codes, None, Some, unwrap_or, IfOk, IfErr};
 ghost use Rattle.std.specs.String.{string_bytes};
-ghost use Rattle.clap.specs.Words.{HasMatchesOf, app_of, first_value, found_of, one_text};
+ghost use Rattle.clap.specs.Words.{HasMatchesOf, app_of, first_value, found_of};
 ghost use Rattle.notify_paths.specs.PathText.{parts_of};
-ghost use Rattle.watch_program.specs.Words.{Gives, ids_of, places_in};
+ghost use Rattle.watch_program.specs.Words.{ids_of, places_in};
 ghost use Rattle.watch_program.specs.declared.fault.Fault.TheVariants.{NotUtf8, Memory};
 
 use crate::fault::Fault;
@@ -155,14 +155,6 @@ pub fn flag<'a>(alloc: Global, name: &'a str) -> Arg<'a>
     ensures local { result.global ≡ false }
 {
     Arg::new(alloc, name).action(ArgAction::SetTrue)
-}
-
-/// Returns the number that the option has, or this one if no word gives it.
-pub fn number_of(matches: &ArgMatches<'_>, name: &str, other: u64) -> u64
-    ensures none { one_text (found_of matches.now) name.now ≡ None → result ≡ other }
-    ensures number { (n : ℕ) → Gives matches.now name.now n → result ≡ n }
-{
-    matches.get_one::<u64>(name).unwrap_or(other)
 }
 
 /// Returns the place: what the program watches.

@@ -8,8 +8,6 @@
 //! ```
 #![tactic(auto)]
 
-#[cfg(test)]
-mod tests;
 mod whole;
 
 pub use whole::{OutputFailed, write_bytes};

@@ -13,9 +13,10 @@ use Rattle.notify_types.specs.Event.{EventValue}
 use Rattle.notify_types.specs.declared.kind.EventKind.{EventKind}
 use Rattle.debounce_model.proofs.Entries.{lookup-insert_other, lookup-insert_same}
 use Rattle.debounce_laws.proofs.PathSets.{tied}
-use Rattle.batch_plan.specs.Plan.{Stands, gone_first, goes, goes_at, goes_first, is_named, look_at, stands}
-use Rattle.batch_plan.proofs.PlanLaw.{gone_where_named}
-use Rattle.word_index.specs.Index.{Documents, IndexValue, IsExact, IsIndexAfter, StaysExact, Tells, put_all, without_document, without_gone, without_if}
+use Rattle.debounce_model.specs.Play.{Paths, has_path}
+use Rattle.batch_plan.specs.Plan.{Stands, gone_first, goes, goes_at, goes_first, is_named, look_at, stands, wanted}
+use Rattle.batch_plan.proofs.PlanLaw.{gone_where_named, not_wanted_goes, unnamed_not_wanted}
+use Rattle.word_index.specs.Index.{Documents, IndexValue, IsExact, IsIndexAfter, StaysExact, Tells, put_if, put_wanted, read_at, without_document, without_gone, without_if}
 use Rattle.word_index.specs.Words.{WordsValue}
 
 -- ---- the index without what goes
@@ -85,30 +86,48 @@ look_at-above : (x : PathValue) (es : IndexValue) → AllByRecursion (λ y. path
 look_at-above x [] a = refl
 look_at-above x (e ∷ es) a = rw a.0 (look_at-above x es a.1)
 
--- where documents are put in, theirs are found first
-look_at-put_all : (s es : IndexValue) → IsStrictlySortedBy path_cmp (keys_of es) → (q : PathValue) →
-    look_at (put_all s es) q ≡ option_or (look_at es q) (look_at s q)
+-- where the documents at some paths are put in, theirs are found first
+look_at-put_wanted : (ps : Paths) (s es : IndexValue) → IsStrictlySortedBy path_cmp (keys_of es) → (q : PathValue) →
+    look_at (put_wanted ps s es) q ≡ option_or (cond (has_path ps q) (look_at es q) None) (look_at s q)
 unfolding IsStrictlySortedBy
-look_at-put_all s [] sorted q = refl
-look_at-put_all s (e ∷ es) sorted q =
-    look_at-put_all (insert_entry path_cmp s e.0 e.1) es sorted.1 q ∙ by (is_at (path_cmp q) e.0) refl
+look_at-put_wanted ps s [] sorted q = nothing (has_path ps q)
   where
-    by : (b : Bool) → is_at (path_cmp q) e.0 ≡ b →
-        option_or (look_at es q) (look_at (insert_entry path_cmp s e.0 e.1) q)
-        ≡ option_or (look_at (e ∷ es) q) (look_at s q)
-    by true h =
-        let none : look_at es q ≡ None = ap (look_at es) (tied q e.0 h) ∙ look_at-above e.0 es sorted.0 in
-        rw (none, h) (look_at-put s e.0 q e.1 true h)
-    by false h = rw h (ap (option_or (look_at es q)) (look_at-put s e.0 q e.1 false h))
+    nothing : (b : Bool) → look_at s q ≡ option_or (cond b None None) (look_at s q)
+    nothing true = refl
+    nothing false = refl
+look_at-put_wanted ps s (e ∷ es) sorted q =
+    look_at-put_wanted ps (put_if (has_path ps e.0) s e.0 e.1) es sorted.1 q
+    ∙ by (is_at (path_cmp q) e.0) refl (has_path ps q) refl
+  where
+    put : (b w : Bool) → is_at (path_cmp q) e.0 ≡ b → look_at (put_if w s e.0 e.1) q
+        ≡ cond (b && w) (Some e.1) (look_at s q)
+    put true true h = look_at-put s e.0 q e.1 true h
+    put false true h = look_at-put s e.0 q e.1 false h
+    put true false h = refl
+    put false false h = refl
+
+    by : (b : Bool) → is_at (path_cmp q) e.0 ≡ b → (w : Bool) → has_path ps q ≡ w →
+        option_or (cond w (look_at es q) None) (look_at (put_if (has_path ps e.0) s e.0 e.1) q)
+        ≡ option_or (cond w (cond b (Some e.1) (look_at es q)) None) (look_at s q)
+    by true h true k =
+        let same : q ≡ e.0 = tied q e.0 h in
+        let none : look_at es q ≡ None = ap (look_at es) same ∙ look_at-above e.0 es sorted.0 in
+        let there : has_path ps e.0 ≡ true = ap (has_path ps) (sym same) ∙ k in
+        ap (λ o. option_or o (look_at (put_if (has_path ps e.0) s e.0 e.1) q)) none
+        ∙ put true (has_path ps e.0) h ∙ ap (λ t. cond t (Some e.1) (look_at s q)) there
+    by true h false k =
+        let there : has_path ps e.0 ≡ false = ap (has_path ps) (sym (tied q e.0 h)) ∙ k in
+        put true (has_path ps e.0) h ∙ ap (λ t. cond t (Some e.1) (look_at s q)) there
+    by false h w k = ap (option_or (cond w (look_at es q) None)) (put false (has_path ps e.0) h)
 
 -- ---- the laws of a batch
 
--- what goes is forgotten, and then what was read is put in
+-- what goes is forgotten, and then what was read at the wanted paths is put in
 pub index_after : (read old : IndexValue) (es : List EventValue) → IsStrictlySortedBy path_cmp (keys_of read) →
-    IsIndexAfter read es old (put_all (without_gone (stands (look_at read)) es old) read)
+    IsIndexAfter read es old (put_wanted (wanted es) (without_gone (stands (look_at read)) es old) read)
 index_after read old es sorted = λ path.
-    look_at-put_all (without_gone (stands (look_at read)) es old) read sorted path
-    ∙ ap (option_or (look_at read path)) (look_at-without_gone (stands (look_at read)) es old path)
+    look_at-put_wanted (wanted es) (without_gone (stands (look_at read)) es old) read sorted path
+    ∙ ap (option_or (read_at read es path)) (look_at-without_gone (stands (look_at read)) es old path)
 
 -- so an index stays exact
 pub stays_exact : (read old new : IndexValue) (es : List EventValue) → IsIndexAfter read es old new →
@@ -120,15 +139,18 @@ stays_exact read old new es after = λ before now tells was path. at before now 
 
     at : (before now : Documents) → Tells read es before now → IsExact before old → (path : PathValue) → (b : Bool) →
         is_named es path ≡ b → look_at new path ≡ now path
-    at before now tells was path true n = after path ∙ by (look_at read path) refl ∙ tells.named path n
+    at before now tells was path true n =
+        after path ∙ by (look_at read path) refl (has_path (wanted es) path) refl ∙ tells.named path n
       where
-        by : (o : Option WordsValue) → look_at read path ≡ o →
-            option_or o (cond (goes there es path) None (look_at old path)) ≡ o
-        by (Some words) e = refl
-        by None e = rw (gone_where_named there es path n (ap is_some e)) refl
+        by : (o : Option WordsValue) → look_at read path ≡ o → (w : Bool) → has_path (wanted es) path ≡ w →
+            option_or (cond w o None) (cond (goes there es path) None (look_at old path)) ≡ cond w o None
+        by (Some words) e true k = refl
+        by (Some words) e false k = rw (not_wanted_goes there es path n k) refl
+        by None e true k = rw (gone_where_named there es path n (ap is_some e)) refl
+        by None e false k = rw (gone_where_named there es path n (ap is_some e)) refl
     at before now tells was path false n =
-        let two = tells.others path n in
         after path
-        ∙ ap (λ o. option_or o (cond (goes there es path) None (look_at old path))) two.0
+        ∙ ap (λ w. option_or (cond w (look_at read path) None) (cond (goes there es path) None (look_at old path)))
+        (unnamed_not_wanted es path n)
         ∙ ap (λ o. cond (goes there es path) None o) (was path)
-        ∙ sym two.1
+        ∙ sym (tells.others path n)

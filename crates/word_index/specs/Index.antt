@@ -1,10 +1,11 @@
 -- An index of documents: the words at each path, and what a batch makes of it.
-use Rattle.std.specs.Prelude.{◌≡◌, ℕ, true, false, not, List, [], ◌∷◌, map, filter, Option, None, Some, if◌then◌else◌}
+use Rattle.std.specs.Prelude.{◌≡◌, ℕ, Bool, true, false, not, List, [], ◌∷◌, map, filter, Option, None, Some, if◌then◌else◌}
 use Rattle.std.specs.BTreeMap.{insert_entry}
 use Rattle.std.specs.Option.{option_or}
 use Rattle.notify_paths.specs.Path.{PathValue, path_cmp, is_prefix}
 use Rattle.notify_types.specs.Event.{EventValue}
-use Rattle.batch_plan.specs.Plan.{Stands, gone_first, goes, is_named, look_at, stands}
+use Rattle.debounce_model.specs.Play.{Paths, has_path}
+use Rattle.batch_plan.specs.Plan.{Stands, gone_first, goes, is_named, look_at, stands, wanted}
 use Rattle.word_index.specs.Words.{WordsValue, has_word}
 
 -- the documents with their words, in the order of their paths
@@ -30,16 +31,26 @@ without_gone there [] index = index
 without_gone there (event ∷ events) index =
     without_gone there events (without_if (gone_first there event.kind event.paths) index)
 
--- the documents are put in one after the other
-abbrev pub put_all : IndexValue → IndexValue → IndexValue
-put_all index [] = index
-put_all index (entry ∷ entries) = put_all (insert_entry path_cmp index entry.0 entry.1) entries
+-- the document is put in, if it stands at one of the paths
+abbrev pub put_if : Bool → IndexValue → PathValue → WordsValue → IndexValue
+put_if b index path words = if b then insert_entry path_cmp index path words else index
 
--- at each path the new index has the words that were read there, or else those that the old one has, unless an event
--- takes the path away
+-- the documents that stand at one of the paths are put in, one after the other
+abbrev pub put_wanted : Paths → IndexValue → IndexValue → IndexValue
+put_wanted paths index [] = index
+put_wanted paths index (entry ∷ entries) =
+    put_wanted paths (put_if (has_path paths entry.0) index entry.0 entry.1) entries
+
+-- what was read at the path, if the events want it: whatever stands at a path that was removed, nothing
+abbrev pub read_at : IndexValue → List EventValue → PathValue → Option WordsValue
+read_at read events path = if has_path (wanted events) path then look_at read path else None
+
+-- at each path the new index has the words that were read there, if the events want the path, or else those that the
+-- old one has, unless an event takes the path away
 abbrev pub IsIndexAfter : IndexValue → List EventValue → IndexValue → IndexValue → Type 0
 IsIndexAfter read events old new = (path : PathValue) → look_at new path
-    ≡ option_or (look_at read path) (if goes (stands (look_at read)) events path then None else look_at old path)
+    ≡ option_or (read_at read events path)
+    (if goes (stands (look_at read)) events path then None else look_at old path)
 
 -- the words of the document at each path, if one stands there
 abbrev pub Documents : Type 0
@@ -49,13 +60,12 @@ Documents = PathValue → Option WordsValue
 abbrev pub IsExact : Documents → IndexValue → Type 0
 IsExact documents index = (path : PathValue) → look_at index path ≡ documents path
 
--- what was read and the events tell how the documents changed: what was read at a path that an event names first is
--- what stands there, and elsewhere nothing was read, and nothing has changed but what an event takes away
+-- what was read and the events tell how the documents changed: at a path that an event names first remains what was
+-- read there, if the events want the path, and elsewhere nothing has changed but what an event takes away
 pub record Tells (read : IndexValue) (events : List EventValue) (before after : Documents) : Type 0 where
-  pub named : (path : PathValue) → is_named events path ≡ true → look_at read path ≡ after path
+  pub named : (path : PathValue) → is_named events path ≡ true → read_at read events path ≡ after path
   pub others : (path : PathValue) → is_named events path ≡ false →
-      (look_at read path ≡ None)
-      × (after path ≡ (if goes (stands (look_at read)) events path then None else before path))
+      after path ≡ (if goes (stands (look_at read)) events path then None else before path)
 
 -- an index of just the documents that stood has become one of just those that remain
 abbrev pub StaysExact : IndexValue → List EventValue → IndexValue → IndexValue → Type 0

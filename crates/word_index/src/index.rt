@@ -1,14 +1,15 @@
 //! The index.
-ghost use Rattle.std.specs.Prelude.{◌≡◌, [], map, IfOk, OnOk};
+ghost use Rattle.std.specs.Prelude.{◌≡◌, [], filter, map, IfOk, OnOk};
 ghost use Rattle.std.specs.Map.{keys_of};
 ghost use Rattle.std.specs.List.Sorted.{IsStrictlySortedBy};
-ghost use Rattle.notify_paths.specs.Path.{path_cmp};
+ghost use Rattle.notify_paths.specs.Path.{is_prefix, path_cmp};
 ghost use Rattle.debounce_model.specs.Play.{events_of};
 ghost use Rattle.batch_plan.specs.Plan.{look_at, stands};
-ghost use Rattle.word_index.specs.Index.{IsIndexAfter, StaysExact, documents_with, put_all, without_gone, without_document};
+ghost use Rattle.word_index.specs.Index.{IsIndexAfter, StaysExact, documents_with, put_if, put_wanted, without_gone, without_document};
 
 use crate::words::Words;
 use batch_plan::planning::gone_at;
+use batch_plan::wanting::wanted;
 use notify_paths::path::PathBuf;
 use notify_types::event::DebouncedEvent;
 use paths_below::drop_at_or_below;
@@ -59,9 +60,24 @@ impl<A: Allocator + Copy> DocumentIndex<A> {
         Ok(paths)
     }
 
-    /// Takes a batch, and what was read at the paths that its events name first: the words of what
-    /// stands there, and nothing of a path at which nothing does. What an event takes away is forgotten
-    /// with all below it, and what was read is put in. If an allocation fails, a part may be put in.
+    /// Returns the paths of the index that lie at this one or below it, in their order.
+    pub fn at_or_below(&self, path: &PathBuf<A>) -> Result<Vec<PathBuf<A>, A>, AllocError>
+        ensures { IfOk result (λ paths. paths.items
+            ≡ filter (is_prefix path.now) (keys_of self.now)) }
+    {
+        let mut paths = Vec::new(self.alloc);
+        for key in self.documents.keys() {
+            if key.starts_with(path) {
+                paths.push(key.clone()?)?;
+            }
+        }
+        Ok(paths)
+    }
+
+    /// Takes a batch, and what was read at the paths that it wants (`wanted` of batch_plan): the words of
+    /// what stands there, and nothing of a path at which nothing does. What an event takes away is
+    /// forgotten with all below it, and what was read is put in. A removal only removes: what was read
+    /// at a path that isn't wanted is passed over. If an allocation fails, a part may be put in.
     pub fn take_batch(
         &mut self,
         read: BTreeMap<PathBuf<A>, Words<A>, A>,
@@ -73,8 +89,9 @@ impl<A: Allocator + Copy> DocumentIndex<A> {
         ensures exact { OnOk result (StaysExact read.entries (events_of batch.now)
             self.old self.new) }
     {
+        let paths = wanted(self.alloc, batch)?;
         self.forget_gone(&read, batch);
-        self.put_all(read)
+        self.put_wanted(read, &paths)
     }
 
     /// Forgets what the events take away.
@@ -97,12 +114,32 @@ impl<A: Allocator + Copy> DocumentIndex<A> {
         drop_at_or_below(&mut self.documents, path, &mut spare);
     }
 
-    /// Puts in what was read.
-    fn put_all(&mut self, read: BTreeMap<PathBuf<A>, Words<A>, A>) -> Result<(), AllocError>
-        ensures put { OnOk result (self.new ≡ put_all self.old read.entries) }
+    /// Puts in what was read at these paths.
+    fn put_wanted(
+        &mut self,
+        read: BTreeMap<PathBuf<A>, Words<A>, A>,
+        paths: &BTreeMap<PathBuf<A>, (), A>,
+    ) -> Result<(), AllocError>
+        ensures put { OnOk result (self.new
+            ≡ put_wanted (keys_of paths.now.entries) self.old read.entries) }
         ensures ordered { IsStrictlySortedBy path_cmp (keys_of read.entries) }
     {
         for (path, words) in read {
+            self.put_if(paths.contains_key(&path), path, words)?;
+        }
+        Ok(())
+    }
+
+    /// Puts in the document, if it is to be.
+    fn put_if(
+        &mut self,
+        is_wanted: bool,
+        path: PathBuf<A>,
+        words: Words<A>,
+    ) -> Result<(), AllocError>
+        ensures { OnOk result (self.new ≡ put_if is_wanted self.old path words) }
+    {
+        if is_wanted {
             self.documents.insert(path, words)?;
         }
         Ok(())

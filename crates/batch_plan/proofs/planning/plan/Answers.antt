@@ -1,6 +1,7 @@
 use Rattle.std.proofs.Common.{◌∙◌, ◌++◌, ap, subst, sym}
+use Rattle.std.specs.Map.{keys_of}
 use Rattle.debounce_model.specs.Play.{events_of}
-use Rattle.batch_plan.specs.Plan.{KeepsOthers, LeavesPlayed, LeavesWhatStands, copies, look_at, removals}
+use Rattle.batch_plan.specs.Plan.{KeepsOthers, LeavesPlayed, LeavesWhatStands, copies, look_at, removals, wanted}
 use Rattle.batch_plan.proofs.PlanLaw.{keeps_others, leaves_played, leaves_what_stands}
 use Rattle.batch_plan.proofs.planning.plan.Goals as goal
 
@@ -9,8 +10,9 @@ returns-clause-plan g c =
     let look = look_at c.args.standing.now.entries in
     let events = events_of c.args.batch.now in
     c.in_ok-push_copies.ensures
-    ∙ ap (λ l. l ++ copies look events)
+    ∙ ap (λ l. l ++ copies look (keys_of c.in_ok-paths.paths.entries))
     (c.in_ok-push_removals.ensures ∙ ap (λ l. l ++ removals look events) c.new-actions.ensures.items)
+    ∙ ap (λ ps. removals look events ++ copies look ps) c.in_ok-paths.ensures
 
 pub returns-clause-played : goal.returns-clause-played
 returns-clause-played g c =

@@ -1,6 +1,6 @@
 -- One round after the other; a watch and its end leave the last listing in between.
 use Rattle.std.proofs.Common.{◌≡◌, ◌∙◌, [], ap, subst, sym}
-use Rattle.notify_poll.specs.Polled.{PolledValue}
+use Rattle.poll_roots.specs.Polled.{PolledValue}
 use Rattle.poll_rounds.specs.Reports.{Reported}
 use Rattle.calls_by_hand.proofs.overlapping.watch_both.Goals as goal
 

@@ -1,7 +1,7 @@
 use Rattle.std.proofs.Common.{◌≡◌}
-use Rattle.debounce_shell.specs.History.{picked}
+use Rattle.told_lock.specs.History.{picked}
 use Rattle.debounce_shell.specs.Handed.{Handed}
-use Rattle.debounce_shell.specs.Happened.{is_emitting}
+use Rattle.debounce_access.specs.Happened.{is_emitting}
 use Rattle.debounce_shell.proofs.worker.work.Given as goal
 
 abbrev pub invariant-loop : goal.invariant-loop

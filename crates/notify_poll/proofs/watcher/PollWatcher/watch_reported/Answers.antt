@@ -1,7 +1,7 @@
 -- What the watcher under the lock did.
 use Rattle.std.proofs.Common.{IfErr, rules}
-use Rattle.notify_poll.specs.Polled.{IsWatchError}
-use Rattle.notify_poll.proofs.PolledLemmas.{watched_next}
+use Rattle.poll_roots.specs.Polled.{IsWatchError}
+use Rattle.poll_roots.proofs.PolledLemmas.{watched_next}
 use Rattle.notify_poll.proofs.watcher.PollWatcher.watch_reported.Goals as goal
 
 pub returns : goal.returns

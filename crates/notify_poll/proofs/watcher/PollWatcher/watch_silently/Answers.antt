@@ -1,7 +1,7 @@
 -- What the watcher under the lock did.
 use Rattle.std.proofs.Common.{IfErr, rules}
-use Rattle.notify_poll.specs.Polled.{IsWatchError}
-use Rattle.notify_poll.proofs.PolledLemmas.{watched}
+use Rattle.poll_roots.specs.Polled.{IsWatchError}
+use Rattle.poll_roots.proofs.PolledLemmas.{watched}
 use Rattle.notify_poll.proofs.watcher.PollWatcher.watch_silently.Goals as goal
 
 pub returns : goal.returns

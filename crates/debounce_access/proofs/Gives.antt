@@ -1,0 +1,223 @@
+-- When a book may be put back under its lock, and what that shows.
+use Rattle.std.proofs.Common.{◌≡◌, ◌⊎◌, inl, inr, ℕ, Bool, true, List, [], ◌∷◌, ◌++◌, Result, Ok, Err, OnOk, sym, refl, ap, ◌∙◌, subst, ⊎_elim, append-nil}
+use Rattle.std.specs.declared.vec.Vec.{Vec}
+use Rattle.atomic_table.specs.Seated.{TableId}
+use Rattle.notify_paths.specs.Errors.{ErrorValue}
+use Rattle.notify_types.specs.Event.{EventValue, Timed}
+use Rattle.debounce_model.specs.Command.{CommandValue, ErrorsCommand, ReplyValue, ErrorsReply}
+use Rattle.debounce_book.specs.Book.{Kept, kept_entries, parted, written}
+use Rattle.debounce_book.specs.Journal.{EntryValue}
+use Rattle.told_lock.specs.declared.hand.Hand.{Hand}
+use Rattle.told_lock.specs.History.{Begins, picked, beside, MayGive, Took, Gave}
+use Rattle.told_lock.proofs.Moves.{begins_self, begins_trans}
+use Rattle.debounce_access.specs.declared.locked.Locked.{Locked}
+use Rattle.debounce_access.specs.Adds.{Adds, AddsFed, BatchMakes, CommandMakes, Does, FedMakes, GainsTick, AddsTick, Makes, TickMakes}
+use Rattle.debounce_access.specs.Happened.{HappenedValue, History, Missed, accepted, entries_of, is_emitting, journal_of}
+use Rattle.debounce_access.specs.Stands.{GoesOn, IsLeft, IsTold, Lasts, LeadsTo, Reach, Stands}
+use Rattle.debounce_access.specs.Taken.{TakesAll, all_out}
+use Rattle.debounce_access.proofs.Steps.{picked_append, parted_stands}
+
+-- what a way to the book shows, by its pass
+abbrev pub reach_of : TableId → Hand HappenedValue → Reach
+reach_of id v = record { lock = id; seen = v.seen; out = v.taken; keeps = v.keeps; tells = v.tells }
+
+module _ {C A : Type 0} where
+  abbrev StandsIn : Locked C A → History → History → Type 0
+  StandsIn l out log = Stands l.book.value l.missed out log
+
+  -- with what happened by what was done
+  pub may_go : (v : Hand HappenedValue) (l : Locked C A) (hs : History) → v.holds ≡ true → Makes l.made.value hs
+      → Stands l.book.value l.missed v.taken (v.seen ++ hs) → (v.tells ≡ true) ⊎ (picked is_emitting hs ≡ [])
+      → MayGive StandsIn is_emitting (λ before out l after now. Does l.made.value before out after now) v l
+  may_go v l hs holds makes stands quiet = record {
+    log = v.seen ++ hs;
+    taken = v.taken;
+    holds = holds;
+    goes_on = (hs, refl);
+    stands = stands;
+    makes = (refl, hs, makes, refl);
+    keeps = inr refl;
+    tells = ⊎_elim (λ (t : v.tells ≡ true). inl t) (λ (q : picked is_emitting hs ≡ []). inr
+        (picked_append v.seen hs ∙ ap (λ l. picked is_emitting v.seen ++ l) q ∙ append-nil (picked is_emitting v.seen)))
+        quiet;
+  }
+
+  -- as it was
+  pub may_stay : (v : Hand HappenedValue) (l : Locked C A) → v.holds ≡ true → StandsIn l v.taken v.seen
+      → MayGive StandsIn is_emitting (λ before taken x after now. (after ≡ before) × (now ≡ taken)) v l
+  may_stay v l holds stands = record {
+    log = v.seen;
+    taken = v.taken;
+    holds = holds;
+    goes_on = begins_self v.seen;
+    stands = stands;
+    makes = (refl, refl);
+    keeps = inr refl;
+    tells = inr refl;
+  }
+
+  -- .. also after it was compared with another
+  pub may_stay_beside : (v other w : Hand HappenedValue) (l : Locked C A) → w ≡ beside v other → v.holds ≡ true
+      → StandsIn l v.taken v.seen → MayGive StandsIn is_emitting (λ before taken x after now. (after ≡ before)
+      × (now ≡ taken)) w l
+  may_stay_beside v other w l same holds stands =
+      subst (λ (x : Hand HappenedValue). MayGive StandsIn is_emitting (λ before taken x after now. (after ≡ before)
+      × (now ≡ taken)) x l) (sym same) (may_stay (beside v other) l holds stands)
+
+  -- with all entries taken out
+  pub may_take : (v : Hand HappenedValue) (l : Locked C A) (old : Kept C) → v.holds ≡ true → v.keeps ≡ true
+      → Stands old l.missed v.taken v.seen → l.book.value ≡ parted old
+      → MayGive StandsIn is_emitting (λ before out l after now. TakesAll l.book.value before out after now) v l
+  may_take v l old holds keeps stands same = record {
+    log = v.seen;
+    taken = all_out (kept_entries l.book.value) v.taken v.seen;
+    holds = holds;
+    goes_on = begins_self v.seen;
+    stands = subst (λ (k : Kept C). Stands k l.missed (all_out (kept_entries k) v.taken v.seen) v.seen) (sym same)
+        (parted_stands old l.missed v.taken v.seen stands).0;
+    makes = (refl, refl);
+    keeps = inl keeps;
+    tells = inr refl;
+  }
+
+  pub goes_on_by : (change : History → History → Locked C A → History → History → Type 0) (a b : TableId)
+      (u v w : Hand HappenedValue) (x y : Locked C A) → b ≡ a
+      → Took StandsIn is_emitting u x v → Gave StandsIn change v y w → GoesOn (reach_of a u) (reach_of b w)
+  goes_on_by change a b u v w x y same took gave = record {
+    lock = same;
+    keeps = gave.keeps ∙ took.keeps;
+    tells = gave.tells ∙ took.tells;
+    seen = begins_trans u.seen v.seen w.seen took.goes_on gave.goes_on;
+  }
+
+  pub lasts_by : (change : History → History → Locked C A → History → History → Type 0) (a b : TableId)
+      (u v w : Hand HappenedValue) (x y : Locked C A) → b ≡ a
+      → Took StandsIn is_emitting u x v → Gave StandsIn change v y w → w.taken ≡ v.taken
+      → Lasts (reach_of a u) (reach_of b w)
+  lasts_by change a b u v w x y same took gave taken = (
+    goes_on_by change a b u v w x y same took gave,
+    λ keeps. taken
+        ∙ took.taken keeps,
+  )
+
+  -- .. also if it was compared with another meanwhile
+  pub lasts_beside : (a b : TableId) (u v other m w : Hand HappenedValue) (x : Locked C A) → b ≡ a → m ≡ beside v other
+      → Took StandsIn is_emitting u x v
+      → Gave StandsIn (λ before taken y after now. (after ≡ before) × (now ≡ taken)) m x w
+      → Lasts (reach_of a u) (reach_of b w)
+  lasts_beside a b u v other m w x same is took gave = (
+    record {
+      lock = same;
+      keeps = gave.keeps ∙ ap (λ (h : Hand HappenedValue). h.keeps) is ∙ took.keeps;
+      tells = gave.tells ∙ ap (λ (h : Hand HappenedValue). h.tells) is ∙ took.tells;
+      seen = begins_trans u.seen v.seen w.seen took.goes_on (subst (λ (h : Hand HappenedValue). Begins h.seen w.seen) is
+          gave.goes_on);
+    },
+    λ keeps. gave.makes.1 ∙ ap (λ (h : Hand HappenedValue). h.taken) is ∙ took.taken keeps,
+  )
+
+  -- the way that alone takes entries out knows at which history they were
+  pub left_by : (u v : Hand HappenedValue) (x : Locked C A) → u.keeps ≡ true → Took StandsIn is_emitting u x v
+      → IsLeft u.seen (entries_of u.taken) x.book.value x.missed
+  left_by u v x keeps took = (
+    v.seen,
+    took.goes_on,
+    subst (λ (l : History). LeadsTo x.book.value x.missed (entries_of l)
+        v.seen) (took.taken keeps) took.stands.0,
+  )
+
+  pub told_by : (u v : Hand HappenedValue) (x : Locked C A) (seen : History) → u.keeps ≡ true
+      → Took StandsIn is_emitting u x v → Begins seen v.seen → picked is_emitting seen ≡ picked is_emitting v.seen
+      → IsTold seen (entries_of u.taken) x.book.value x.missed
+  told_by u v x seen keeps took begins told = (
+    v.seen,
+    begins,
+    subst (λ (l : History). LeadsTo x.book.value x.missed
+        (entries_of l) v.seen) (took.taken keeps) took.stands.0,
+    told,
+  )
+
+-- what is fed, once it is put back
+pub fed_adds : (before mid after : History) (item shown : Result EventValue ErrorValue) (now : ℕ) (exists : Bool)
+    (was res : Result (Unit {0}) ErrorValue) (hs : History) → Begins before mid → shown ≡ item → was ≡ res
+    → FedMakes shown now exists was hs → after ≡ mid ++ hs → OnOk res (AddsFed before item now exists after)
+fed_adds before mid after item shown now exists was res hs goes same end makes is = by res
+    (subst (λ (x : Result EventValue ErrorValue × Result (Unit {0}) ErrorValue). FedMakes x.0 now exists x.1 hs)
+    (λ i. (same i, end i)) makes)
+  where
+    by : (r : Result (Unit {0}) ErrorValue) → FedMakes item now exists r hs
+        → OnOk r (AddsFed before item now exists after)
+    by (Ok u) m = (m.0, (mid, goes, is ∙ ap (λ l. mid ++ l) m.1))
+    by (Err e) m = tt
+
+-- .. by a command
+pub command_adds : (before mid after : History) (c : CommandValue) (y : ReplyValue)
+    (was res : Result (Unit {0}) ErrorValue) (hs : History) → Begins before mid → was ≡ res
+    → CommandMakes c y was hs → after ≡ mid ++ hs → OnOk res (Adds before (accepted c y) after)
+command_adds before mid after c y was res hs goes end makes is = by res (subst
+    (λ (x : Result (Unit {0}) ErrorValue). CommandMakes c y x hs) end makes)
+  where
+    by : (r : Result (Unit {0}) ErrorValue) → CommandMakes c y r hs → OnOk r (Adds before (accepted c y) after)
+    by (Ok u) m = (mid, goes, is ∙ ap (λ l. mid ++ l) m)
+    by (Err e) m = tt
+
+-- .. by what is missed
+pub miss_adds : (before mid after hs : History) → Begins before mid → hs ≡ Missed ∷ [] → after ≡ mid ++ hs
+    → Adds before Missed after
+miss_adds before mid after hs goes makes is = (mid, goes, is ∙ ap (λ l. mid ++ l) makes)
+
+abbrev TickedAs : Type 0 → Type 0
+TickedAs A = Result (Vec Timed A) ErrorValue × Vec ErrorValue A
+
+module _ {A : Type 0} where
+  -- all that happens by a tick emits
+  tick_picked : (now : ℕ) (res : Result (Vec Timed A) ErrorValue) (errors : List ErrorValue) (hs : History)
+      → TickMakes now res errors hs → picked is_emitting hs ≡ hs
+  tick_picked now res errors hs (a, b, batch, errs, is) = ap (picked is_emitting) is ∙ picked_append a b
+      ∙ (λ i. of_batch res batch i ++ of_errors i) ∙ sym is
+    where
+      of_batch : (r : Result (Vec Timed A) ErrorValue) → BatchMakes now r a → picked is_emitting a ≡ a
+      of_batch (Ok x) h = ap (picked is_emitting) h ∙ sym h
+      of_batch (Err e) h = ap (picked is_emitting) h ∙ sym h
+
+      of_errors : picked is_emitting b ≡ b
+      of_errors = ⊎_elim (λ (h : b ≡ accepted ErrorsCommand (ErrorsReply errors) ∷ []). ap (picked is_emitting) h
+          ∙ sym h) (λ (h : (errors ≡ []) × (b ≡ [])). ap (picked is_emitting) h.1 ∙ sym h.1) errs
+
+  pub tick_adds : (before mid after : History) (now : ℕ) (shown ticked : TickedAs A) (hs : History) → Begins before mid
+      → shown ≡ ticked → TickMakes now shown.0 shown.1.items hs → after ≡ mid ++ hs
+      → AddsTick before now ticked.0 ticked.1.items after
+  tick_adds before mid after now shown ticked hs goes same makes is = (
+    mid,
+    goes,
+    (hs, subst (λ (t : TickedAs A). TickMakes now t.0 t.1.items hs) same makes, is),
+  )
+
+  pub tick_gains : (before mid after : History) (now : ℕ) (shown ticked : TickedAs A) (hs : History)
+      → picked is_emitting mid ≡ picked is_emitting before → shown ≡ ticked → TickMakes now shown.0 shown.1.items hs
+      → after ≡ mid ++ hs
+      → GainsTick (picked is_emitting before) now ticked.0 ticked.1.items (picked is_emitting after)
+  tick_gains before mid after now shown ticked hs told same makes is = (
+    hs,
+    subst (λ (t : TickedAs A). TickMakes now t.0 t.1.items hs) same makes,
+    ap (picked is_emitting) is ∙ picked_append mid hs ∙ (λ i. told i ++ tick_picked now shown.0 shown.1.items hs makes
+        i),
+  )
+
+module _ {C : Type 0} where
+  -- what was taken out follows what was out before
+  pub taken_out : (old new : Kept C) (count : ℕ) (out was log now : History) (items : List EntryValue)
+      → Stands old count out log → new ≡ parted old → now ≡ all_out (kept_entries new) out log → out ≡ was → items
+      ≡ written old
+      → entries_of now ≡ entries_of was ++ items
+  taken_out old new count out was log now items stands same all first is =
+      ap entries_of (all ∙ ap (λ (k : Kept C). all_out (kept_entries k) out log) same)
+      ∙ (parted_stands old count out log stands).1 ∙ ap (λ (l : History). entries_of l ++ written old) first
+      ∙ ap (λ l. entries_of was ++ l) (sym is)
+
+  -- .. and with that is the journal
+  pub whole_out : (old new : Kept C) (count : ℕ) (out log now after : History) → Stands old count out log → new
+      ≡ parted old → now ≡ all_out (kept_entries new) out log → after ≡ log → entries_of now ≡ journal_of after
+  whole_out old new count out log now after stands same all is =
+      ap entries_of (all ∙ ap (λ (k : Kept C). all_out (kept_entries k) out log) same)
+      ∙ (parted_stands old count out log stands).2 ∙ ap journal_of (sym is)

@@ -1,0 +1,23 @@
+use Rattle.std.proofs.Common.{inr, refl, [], ◌∷◌}
+use Rattle.debounce_access.specs.Happened.{Missed}
+use Rattle.debounce_access.proofs.Gives.{lasts_by, may_go, miss_adds}
+use Rattle.debounce_access.proofs.Steps.{miss_stands}
+use Rattle.debounce_access.proofs.access.Access.miss.Goals as goal
+
+pub give-requires-clause-may : goal.give-requires-clause-may
+give-requires-clause-may g c =
+    let took = c.take-guard.ensures.took in
+    may_go _ _ (Missed ∷ []) took.holds (rw c.of-held.ensures refl) (miss_stands _ _ _ _ took.stands) (inr refl)
+
+pub returns-clause-lasts : goal.returns-clause-lasts
+returns-clause-lasts g c =
+    let took = c.take-guard.ensures.took in
+    let gave = c.give.ensures.gave in
+    rw (← c.self.view_is) (lasts_by _ c.self.inside.pass.table_id c.give.new.pass.table_id _ _ _ _ _ (cc) took gave
+    gave.makes.0)
+
+pub returns-clause-missed : goal.returns-clause-missed
+returns-clause-missed g c =
+    let took = c.take-guard.ensures.took in
+    let made = c.give.ensures.gave.makes in
+    rw (← c.self.view_is) (miss_adds _ _ _ _ took.goes_on (rw c.of-held.ensures at made.2) made.3)

@@ -1,0 +1,4 @@
+pub mod Adds
+pub mod Happened
+pub mod Stands
+pub mod Taken

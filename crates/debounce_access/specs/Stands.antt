@@ -1,0 +1,117 @@
+-- The history of a book under its lock, and what each that reaches the book knows of it.
+use Rattle.std.specs.Prelude.{◌≡◌, ◌%◌, ◌^◌, ℕ, Bool, true, List, [], ◌∷◌, ◌++◌, Option, Some, None, is_some}
+use Rattle.atomic_table.specs.Seated.{TableId}
+use Rattle.told_lock.specs.Passes.{Pass, view}
+use Rattle.debounce_book.specs.Book.{Kept, kept_entries}
+use Rattle.debounce_book.specs.Journal.{EntryValue, IsLegal}
+use Rattle.told_lock.specs.History.{Begins, picked}
+use Rattle.debounce_access.specs.Happened.{History, Opened, entries_of, is_journaled, journal_of, missed_in, is_emitting}
+
+-- it begins with the opening of a book of this timeout, with a journal or without
+abbrev pub BeginsAs : ℕ → Bool → History → Type 0
+BeginsAs timeout journaled [] = ⊥
+BeginsAs timeout journaled (h ∷ hs) = h ≡ Opened timeout journaled
+
+-- the parts that were taken out, and then the entries that are kept, are all entries; if none are kept, none were
+-- taken out
+abbrev pub IsRest : Option (List EntryValue) → List EntryValue → List EntryValue → Type 0
+IsRest None parts all = parts ≡ []
+IsRest (Some kept) parts all = parts ++ kept ≡ all
+
+-- the history leads to this book, out of whose journal these parts were taken, and to this count of what was missed
+pub record LeadsTo {C : Type 0} (book : Kept C) (count : ℕ) (parts : List EntryValue) (log : History) : Type 0 where
+  pub opened : BeginsAs book.core.state.timeout (is_some (kept_entries book)) log
+  pub rest : IsRest (kept_entries book) parts (entries_of log)
+  pub legal : IsLegal (entries_of log) book.core.state
+  pub missed : count ≡ missed_in log % 2 ^ 64
+
+-- .. where the entries of this beginning of it were taken out. A journal of which nothing was is whole
+abbrev pub Stands : {C : Type 0} → Kept C → ℕ → History → History → Type 0
+Stands book count out log = LeadsTo book count (entries_of out) log × (out ≡ [] → book.part ≡ None)
+
+-- what is left at the end: a history that goes on from what was seen leads to it
+abbrev pub IsLeft : {C : Type 0} → History → List EntryValue → Kept C → ℕ → Type 0
+IsLeft seen parts book count = (log : History) × Begins seen log × LeadsTo book count parts log
+
+-- .. and nothing else was emitted than this has seen
+abbrev pub IsTold : {C : Type 0} → History → List EntryValue → Kept C → ℕ → Type 0
+IsTold seen parts book count =
+    (log : History) × Begins seen log × LeadsTo book count parts log
+    × (picked is_emitting seen ≡ picked is_emitting log)
+
+-- the history of a book that was just opened
+abbrev pub opening : {C : Type 0} → Kept C → History
+opening book = Opened book.core.state.timeout (is_some (kept_entries book)) ∷ []
+
+-- the history as far as this pass has seen it
+abbrev pub seen_by : {T E : Type 0} → Pass T E → List E
+seen_by pass = (view pass).seen
+
+-- the history at which entries were last taken out, as far as it knows
+abbrev pub taken_by : {T E : Type 0} → Pass T E → List E
+taken_by pass = (view pass).taken
+
+-- whether it alone takes entries out
+abbrev pub keeps_of : {T E : Type 0} → Pass T E → Bool
+keeps_of pass = (view pass).keeps
+
+-- whether it alone emits
+abbrev pub tells_of : {T E : Type 0} → Pass T E → Bool
+tells_of pass = (view pass).tells
+
+-- what a feed, a receipt or the worker shows: of which lock it is, and the history as far as it has seen it
+pub record Known : Type 0 where
+  pub lock : TableId
+  pub seen : History
+
+-- what each that reaches a book shows: also at which history entries were last taken out, and whether it alone takes
+-- them out, and alone emits
+pub record Reach : Type 0 where
+  pub lock : TableId
+  pub seen : History
+  pub out : History
+  pub keeps : Bool
+  pub tells : Bool
+
+-- the same lock and rights, where a history goes on
+pub record GoesOn (old new : Reach) : Type 0 where
+  pub lock : new.lock ≡ old.lock
+  pub keeps : new.keeps ≡ old.keeps
+  pub tells : new.tells ≡ old.tells
+  pub seen : Begins old.seen new.seen
+
+-- .. and nothing was taken out
+abbrev pub Lasts : Reach → Reach → Type 0
+Lasts old new = GoesOn old new × (old.keeps ≡ true → new.out ≡ old.out)
+
+-- all stays but the right to emit, which another has now
+abbrev pub StaysButTells : Reach → Reach → Type 0
+StaysButTells old new =
+    (new.lock ≡ old.lock) × (new.seen ≡ old.seen) × (new.out ≡ old.out) × (new.keeps ≡ old.keeps)
+
+-- what a debouncer that runs shows: its watcher, of which lock it is, the history as far as it has seen it, the parts
+-- of the journal that were taken out, and whether none was
+pub record Running (T : Type 0) : Type 0 where
+  pub watcher : T
+  pub lock : TableId
+  pub seen : History
+  pub parts : List EntryValue
+  pub is_whole : Bool
+
+-- it runs on in the same history, and nothing was taken out of its journal
+pub record RunsOn {T : Type 0} (old new : Running T) : Type 0 where
+  pub lock : new.lock ≡ old.lock
+  pub parts : new.parts ≡ old.parts
+  pub is_whole : new.is_whole ≡ old.is_whole
+  pub seen : Begins old.seen new.seen
+
+-- it has just been started with this timeout, and with a journal or without
+pub record IsStarted {T : Type 0} (started : Running T) (timeout : ℕ) (journaled : Bool) : Type 0 where
+  pub seen : started.seen ≡ Opened timeout journaled ∷ []
+  pub parts : started.parts ≡ []
+  pub is_whole : started.is_whole ≡ true
+
+-- these are the timeout and the journal of a history that goes on from what was seen
+abbrev pub GivesJournal : History → ℕ → List EntryValue → Type 0
+GivesJournal seen timeout journal =
+    (log : History) × Begins seen log × BeginsAs timeout (is_journaled log) log × (journal ≡ journal_of log)

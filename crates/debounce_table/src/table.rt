@@ -1,0 +1,108 @@
+//! The step table: what an event of each case makes of what waits.
+ghost use Rattle.std.specs.Prelude.{◌≡◌, ◌<◌, [], false, length, None, Some, OnOk, OnErr};
+ghost use Rattle.notify_types.specs.Event.{first_of};
+ghost use Rattle.debounce_model.specs.Memory.{row_grows_nothing};
+ghost use Rattle.debounce_model.specs.Queues.{push};
+ghost use Rattle.debounce_model.specs.RenameSlot.{first_half};
+ghost use Rattle.debounce_model.specs.Table.{FitsCase, renamed_to};
+ghost use Rattle.debounce_model.specs.WellFormed.{AreQueues};
+ghost use Rattle.debounce_table.specs.Row.{IsRow};
+
+use crate::rename_slot::{RenameSlot, first_half};
+use debounce_model::case::Case;
+use debounce_model::file_id::FileId;
+use event_queues::queues::IndexedQueues;
+use joined_rename::join::join;
+use notify_types::event::DebouncedEvent;
+use std::alloc::{AllocError, Allocator};
+
+/// What waits: the queues, the first half of a rename that is kept for the second, and the last event
+/// that said that others were lost.
+#[derive(Drop)]
+pub struct Waiting<A: Allocator> {
+    pub queues: IndexedQueues<A>,
+    pub rename_slot: Option<RenameSlot<A>>,
+    pub rescan_slot: Option<DebouncedEvent<A>>,
+}
+
+impl<A: Allocator + Copy> Waiting<A> {
+    pub fn new(alloc: A) -> Waiting<A>
+        ensures queues { result.queues ≡ [] }
+        ensures rename_slot { result.rename_slot ≡ None }
+        ensures rescan_slot { result.rescan_slot ≡ None }
+    {
+        Waiting {
+            queues: IndexedQueues::new(alloc),
+            rename_slot: None,
+            rescan_slot: None,
+        }
+    }
+
+    /// Takes an event of this case, with the cache's answer. All that can fail comes before the first
+    /// change.
+    pub fn take(
+        &mut self,
+        case: Case,
+        event: DebouncedEvent<A>,
+        answer: Option<FileId>,
+    ) -> Result<(), AllocError>
+        requires fits { FitsCase case event.event }
+        requires queues { AreQueues self.old.queues }
+        ensures ok { OnOk result (IsRow case self.old event answer self.new) }
+        ensures unchanged { OnErr result (self.new ≡ self.old) }
+        ensures sure { OnErr result (row_grows_nothing case self.old.queues event.event ≡ false) }
+    {
+        match case {
+            Case::Rescan => {
+                self.rescan_slot = Some(event);
+                Ok(())
+            }
+            Case::Creation | Case::Plain => self.queues.push(event),
+            Case::Removal => self.queues.remove(event),
+            Case::RenameFrom => self.rename_from(event, answer),
+            Case::RenameTo => self.rename_to(event, answer),
+            Case::Ignored => Ok(()),
+        }
+    }
+
+    /// The first half of a rename is pushed, and kept.
+    fn rename_from(
+        &mut self,
+        event: DebouncedEvent<A>,
+        number: Option<FileId>,
+    ) -> Result<(), AllocError>
+        requires { 0 < length event.event.paths }
+        ensures ok { OnOk result (self.new ≡ record self.old {
+          queues = push self.old.queues (first_of event.event.paths) event;
+          rename_slot = Some (record { half = event; number = number });
+        }) }
+        ensures unchanged { OnErr result (self.new ≡ self.old) }
+    {
+        let half = event.clone()?;
+        self.queues.push(event)?;
+        self.rename_slot = Some(RenameSlot::new(half, number));
+        Ok(())
+    }
+
+    /// The second half of a rename is joined to the first, if the slot keeps one that fits, and else pushed. The
+    /// slot is empty then.
+    fn rename_to(
+        &mut self,
+        event: DebouncedEvent<A>,
+        number: Option<FileId>,
+    ) -> Result<(), AllocError>
+        requires path { 0 < length event.event.paths }
+        requires queues { AreQueues self.old.queues }
+        ensures ok { OnOk result (self.new ≡ record self.old {
+          queues = renamed_to self.old.queues (first_of event.event.paths) event
+              (first_half self.old.rename_slot event.event number);
+          rename_slot = None;
+        }) }
+        ensures unchanged { OnErr result (self.new ≡ self.old) }
+    {
+        let half = first_half(&self.rename_slot, &event, number);
+        join(&mut self.queues, half, event)?;
+        self.rename_slot = None;
+        Ok(())
+    }
+}

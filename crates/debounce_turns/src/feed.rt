@@ -1,0 +1,154 @@
+//! What a watcher reports to.
+ghost use Rattle.std.specs.Prelude.{◌≡◌, ℕ, Bool, [], IfErr, IfOk, OnErr, OnOk};
+ghost use Rattle.notify_paths.specs.Errors.{out_of_memory};
+ghost use Rattle.told_lock.specs.History.{Begins};
+ghost use Rattle.debounce_access.specs.Adds.{AddsFed, AddsItem};
+ghost use Rattle.debounce_access.specs.Stands.{Lasts};
+
+use crate::clock::now;
+use crate::shared::{Shared, Signals};
+use debounce_access::access::Access;
+use debounce_access::locked::BookPass;
+use file_id_cache::cache::FileIdCache;
+use notify_paths::error::Error;
+use notify_types::event::Event;
+use notify_types::kind::{EventKind, ModifyKind, RenameMode};
+use notify_watch::handler::EventHandler;
+use std::alloc::{Allocator, Global};
+use std::fs::Files;
+use std::marker::Model;
+use std::sync::atomic::Ordering;
+use std::sync::{Arc, Wait};
+use std::time::{Clock, Instant};
+
+/// The handler that a debouncer gives to its watcher: it feeds events and errors to the book. Clauses
+/// see how much of the book's history it has seen.
+#[derive(Drop)]
+pub struct Feed<C: Drop, R: Wait + Drop, A: Allocator = Global> {
+    rt: R,
+    alloc: A,
+    access: Access<C, A>,
+    signals: Arc<Signals, A>,
+    start: Instant,
+}
+
+impl<C: Drop, R: Wait + Drop, A: Allocator> Model for Feed<C, R, A> {
+    ghost use Rattle.debounce_access.specs.Stands.{Known};
+
+    ghost Value = { Known };
+
+    ghost view = { λ f. record { lock = f.access.lock; seen = f.access.seen } };
+}
+
+/// Shows that something was taken. Clauses see the history up to then. It has no bytes.
+#[derive(Drop)]
+pub struct Receipt<C: Drop, A: Allocator = Global> {
+    pass: BookPass<C, A>,
+}
+
+impl<C: Drop, A: Allocator> Model for Receipt<C, A> {
+    ghost use Rattle.std.specs.Prelude.{◌≡◌, []};
+    ghost use Rattle.debounce_access.specs.Stands.{Known, seen_by};
+
+    ghost Value = { Known };
+
+    ghost view = { λ r. record { lock = r.pass.table_id; seen = seen_by r.pass } };
+
+    ghost invariant = { λ r. r.pass.me.1 ≡ [] };
+}
+
+impl<C: Drop, R: Wait + Copy + Drop, A: Allocator + Copy> Shared<C, R, A> {
+    /// A feed of the debouncer, which counts from this start.
+    pub fn feed(&mut self, start: Instant) -> Result<Feed<C, R, A>, Error<A>>
+        ensures same { self.new.owner ≡ self.old.owner }
+        ensures ok { IfOk result (λ f.
+            (f.lock ≡ self.old.owner.lock) × (f.seen ≡ self.old.owner.seen)) }
+        ensures err { IfErr result (λ e. e ≡ out_of_memory) }
+    {
+        let access = self.another()?;
+        let signals = self.signals()?;
+        Ok(Feed {
+            rt: self.rt,
+            alloc: self.alloc,
+            access,
+            signals,
+            start,
+        })
+    }
+}
+
+impl<C: Drop, R: Wait + Drop, A: Allocator> Shared<C, R, A> {
+    /// Looks at the history up to now. What the receipt shows is in it.
+    pub fn catch_up(&mut self, receipt: Receipt<C, A>)
+        requires { receipt.lock ≡ self.old.owner.lock }
+        ensures lasts { Lasts self.old.owner self.new.owner }
+        ensures shown { Begins receipt.seen self.new.owner.seen }
+    {
+        let Receipt { pass } = receipt;
+        self.owner.catch_up(&self.rt, pass);
+    }
+}
+
+impl<
+    C: FileIdCache<A> + Drop + Send + 'static,
+    R: Clock + Files + Wait + Drop + Send + 'static,
+    A: Allocator + Copy + Send + Sync + 'static,
+> EventHandler<Result<Event<A>, Error<A>>> for Feed<C, R, A> {
+    ghost ready = { λ _. Unit {0} };
+
+    ghost handles = { λ old item new. (new.lock ≡ old.lock) × AddsItem old.seen item new.seen };
+
+    /// Feeds an event or an error to the book. One that is refused is counted as missed, under the lock for
+    /// `finish`, and beside it for `Debouncer::missed`.
+    fn handle_event(&mut self, event: Result<Event<A>, Error<A>>)
+        ensures again { Unit {0} }
+        ensures handled { (self.new.lock ≡ self.old.lock)
+            × AddsItem self.old.seen event self.new.seen }
+    {
+        if self.feed(event).is_err() {
+            self.access.miss(&self.rt);
+            self.signals.missed.fetch_add(1, Ordering::SeqCst);
+        }
+    }
+}
+
+impl<C: FileIdCache<A> + Drop, R: Clock + Files + Wait + Drop, A: Allocator + Copy> Feed<C, R, A> {
+    /// Feeds an event or an error to the book, at the moment of the call. One that is refused isn't
+    /// counted as missed: who feeds by hand has the error.
+    pub fn feed(&mut self, item: Result<Event<A>, Error<A>>) -> Result<(), Error<A>>
+        ensures lock { self.new.lock ≡ self.old.lock }
+        ensures ok { OnOk result ((now : ℕ) × (exists : Bool)
+            × AddsFed self.old.seen item now exists self.new.seen) }
+        ensures err { OnErr result (Begins self.old.seen self.new.seen) }
+    {
+        let exists = match &item {
+            Ok(event) => exists(&self.rt, event),
+            Err(_) => false,
+        };
+        let now = now(&self.rt, self.alloc, self.start)?;
+        self.access.feed(&self.rt, item, now, exists)
+    }
+}
+
+impl<C: Drop, R: Wait + Drop, A: Allocator> Feed<C, R, A> {
+    /// Shows as much of the history as this feed has seen, to `Debouncer::catch_up`.
+    pub fn receipt(&mut self) -> Receipt<C, A>
+        ensures same { self.new ≡ self.old }
+        ensures shown { result ≡ self.old }
+    {
+        Receipt {
+            pass: self.access.shown(),
+        }
+    }
+}
+
+/// Whether the first path exists, if that decides what the event is; and else false.
+fn exists<R: Files, A: Allocator>(rt: &R, event: &Event<A>) -> bool {
+    if event.kind != EventKind::Modify(ModifyKind::Name(RenameMode::Any)) {
+        return false;
+    }
+    match event.first_path() {
+        Some(path) => path.as_path().exists(rt),
+        None => false,
+    }
+}

@@ -1,2 +1,0 @@
-pub mod Polled
-pub mod Noted

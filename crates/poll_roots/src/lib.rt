@@ -1,0 +1,5 @@
+//! What a polling watcher keeps: its roots, their last listing, and where its last round failed; and its steps.
+#![tactic(auto)]
+
+pub mod polled;
+pub mod watched;

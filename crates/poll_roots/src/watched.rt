@@ -1,0 +1,80 @@
+//! What a polling watcher keeps under its lock.
+ghost use Rattle.std.specs.Prelude.{◌≡◌, ◌+◌, ◌-◌, ◌^◌, min, None, false, true};
+
+use crate::polled::Polled;
+use notify_paths::error::Error;
+use notify_paths::path::PathBuf;
+use notify_types::event::Event;
+use notify_watch::handler::EventHandler;
+use poll_rounds::folders::Folders;
+use real_folders::noting::NotingFolders;
+use real_folders::real::RealFolders;
+use std::alloc::Allocator;
+use std::fs::Files;
+use std::time::Clock;
+
+/// What stands under a polling watcher's lock.
+#[derive(Drop)]
+pub struct Watched<A: Allocator> {
+    /// Its roots and their last listing.
+    pub polled: Polled<A>,
+    /// Where the last round failed, if it did, as far as there was memory for the path.
+    pub failed_path: Option<PathBuf<A>>,
+    /// How many names the last round that went well left out, with those of paths that were watched since.
+    pub left_out: u64,
+}
+
+impl<A: Allocator + Copy> Watched<A> {
+    /// Returns what watches nothing yet.
+    pub fn new(alloc: A) -> Watched<A> {
+        Watched {
+            polled: Polled::new(alloc),
+            failed_path: None,
+            left_out: 0,
+        }
+    }
+
+    /// Makes one round, and keeps where it failed, or how many names it left out.
+    pub fn round<
+        F: EventHandler<Result<Event<A>, Error<A>>>,
+        R: Files + Clock + Alloc + Clone + Drop,
+    >(&mut self, folders: &mut NotingFolders<RealFolders<R, A>, A>, handler: &mut F) -> bool
+        requires { F.ready handler.old }
+        ensures again { F.ready handler.new }
+        ensures cleared { result ≡ true → self.new.failed_path ≡ None }
+        ensures left_out { result ≡ true →
+            self.new.left_out ≡ folders.new.inner.left_out - folders.old.inner.left_out }
+        ensures same { result ≡ false → self.new.left_out ≡ self.old.left_out }
+    {
+        let before = folders.inner().left_out();
+        let went_well = self.polled.round(folders, handler);
+        let failed_path = folders.take_failed_path();
+        if went_well {
+            self.left_out = folders.inner().left_out().saturating_sub(before);
+        }
+        self.failed_path = if went_well { None } else { failed_path };
+        went_well
+    }
+
+    /// A path is watched from now on, whose first listing left out so many names.
+    pub fn leave_out(&mut self, names: u64)
+        ensures { self.new.left_out ≡ min (self.old.left_out + names) (2 ^ 64 - 1) }
+    {
+        self.left_out = self.left_out.saturating_add(names);
+    }
+
+    /// Looks at these paths. Where a look fails isn't kept: a round follows it.
+    pub fn look_at<D: Folders<A> + Drop, F: EventHandler<Result<Event<A>, Error<A>>>>(
+        &mut self,
+        folders: &mut NotingFolders<D, A>,
+        handler: &mut F,
+        paths: &[PathBuf<A>],
+    ) -> bool
+        requires { F.ready handler.old }
+        ensures { F.ready handler.new }
+    {
+        let went_well = self.polled.look_at(folders, handler, paths);
+        folders.take_failed_path();
+        went_well
+    }
+}

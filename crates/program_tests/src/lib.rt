@@ -1,0 +1,10 @@
+//! Tests of what no clause says of the crates that programs are made of: outputs that take a part, are
+//! interrupted or fail, and inputs of hints that come in pieces.
+#![tactic(auto)]
+
+#[cfg(test)]
+mod flushes;
+#[cfg(test)]
+mod hints;
+#[cfg(test)]
+mod pieces;

@@ -1,0 +1,5 @@
+//! The real file system, as folders that can be looked at, and folders that note where a call failed.
+#![tactic(auto)]
+
+pub mod noting;
+pub mod real;
