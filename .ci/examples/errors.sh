@@ -18,7 +18,7 @@ for name in build_trigger change_journal config_reloader document_index; do
     rm -rf d l queries && mkdir -p d/x && ln -s d l && mkfifo queries
     echo 'port = 80' >d/x/f.toml
     place=l/x
-    seen='f\.toml$'
+    seen='f\.toml(	|$)'
     case $name in
         config_reloader) place=l/x/f.toml && seen='port = 8080' ;;
         document_index) seen='l/x/f\.toml' ;;

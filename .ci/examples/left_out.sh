@@ -35,7 +35,7 @@ for name in build_trigger change_journal config_reloader document_index folder_m
     : >$'d/\xff' && : >$'d/\xfe/\xfd'
     echo 'port = 80' >d/f.toml
     places=(d)
-    seen='f\.toml$'
+    seen='f\.toml(	|$)'
     case $name in
         config_reloader) places=(d/f.toml) && seen='port = 8080' ;;
         folder_mirror) places+=(copy) && seen='copy d/g\.toml' ;;
