@@ -1,10 +1,11 @@
 -- A program that follows a folder.
 use Rattle.std.specs.Prelude.{◌≡◌, ℕ, Result, Ok, Err, MatchResult, IfErr, IfOk, IsSome, ◌⊎◌}
 use Rattle.watch_program.specs.declared.fault.Fault.{Fault}
-use Rattle.watch_program.specs.declared.fault.Fault.TheVariants.{CannotWatch, Memory, NoHints, NoThread, NotThere, NotWatched}
+use Rattle.watch_program.specs.declared.fault.Fault.TheVariants.{Memory}
 use Rattle.report_loop.specs.declared.source.Given.TheVariants.{Nothing}
 use Rattle.report_loop.specs.Loop.{Answer, Follows, Program, Source}
-use Rattle.watch_loop.specs.Rest.{IsLeft}
+use Rattle.folder_reports.specs.Rest.{IsLeft}
+use Rattle.folder_reports.specs.Start.{IsStartFault}
 
 -- a folder's reports: what the channel carries is in no contract; at the end what was emitted and what waits is left
 abbrev pub folder_source : Source (Unit {0})
@@ -12,11 +13,6 @@ folder_source = record {
   gives = λ before pause given after. given ≡ Nothing → IsSome pause;
   ends = λ reports ended. IfErr ended (λ e. e ≡ Memory) × IfOk ended (λ rest. IsLeft rest.reports.items);
 }
-
--- why a folder can't be watched
-abbrev pub IsStartFault : Fault → Type 0
-IsStartFault e =
-    ((e ≡ Memory) ⊎ ((e ≡ NotThere) ⊎ (e ≡ NotWatched))) ⊎ ((e ≡ CannotWatch) ⊎ ((e ≡ NoThread) ⊎ (e ≡ NoHints)))
 
 -- the folder couldn't be watched, and the program was not called
 abbrev pub NeverBegins : {P : Type 0} → P → Result ℕ Fault → P → Type 0

@@ -2,7 +2,7 @@
 ghost use Rattle.report_loop.specs.Loop.{Follows};
 ghost use Rattle.watch_loop.specs.FollowsFolder.{FollowsFolder, folder_source};
 
-use crate::folder_reports::FolderReports;
+use folder_reports::FolderReports;
 use notify_debouncer_full::{DebouncerRuntime, PathBuf, RecursiveMode};
 use report_loop::{TakesReports, hand_on, take_rest};
 use std::io::Write;

@@ -9,13 +9,7 @@
 //! report by `next` or `next_within`, and for the rest by `finish`.
 #![tactic(auto)]
 
-mod folder_reports;
 mod follow;
-mod hint_reader;
-mod input_end;
-mod live;
-mod rest;
-mod waiting;
 mod whole_program;
 
 pub use folder_reports::FolderReports;

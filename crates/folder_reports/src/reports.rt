@@ -1,7 +1,7 @@
 //! What is reported of a folder.
 ghost use Rattle.std.specs.Prelude.{◌≡◌, ◌≢◌, IfErr, IfOk};
-ghost use Rattle.watch_loop.specs.FollowsFolder.{IsStartFault};
-ghost use Rattle.watch_loop.specs.Rest.{IsLeft};
+ghost use Rattle.folder_reports.specs.Start.{IsStartFault};
+ghost use Rattle.folder_reports.specs.Rest.{IsLeft};
 ghost use Rattle.watch_program.specs.declared.fault.Fault.TheVariants.{CannotWatch, Memory, NotThere, NotWatched};
 
 use crate::hint_reader::check_hints;
@@ -71,8 +71,8 @@ impl<'n, R: DebouncerRuntime + AllocGlobal, E: Write + Drop> FolderReports<'n, R
         self.live.names_left_out()
     }
 
-    /// Says how many that are, once, if any is.
-    pub(crate) fn say_left_out(&mut self) {
+    /// Says how many that are, once, if any is (`NAME: 3 names are not UTF-8 and are left out`).
+    pub fn say_left_out(&mut self) {
         let names = self.live.names_left_out();
         self.complaints.leave_out(names);
     }
@@ -90,8 +90,8 @@ impl<'n, R: DebouncerRuntime + AllocGlobal, E: Write + Drop> FolderReports<'n, R
         self.live.waiting().next_within(pause)
     }
 
-    /// Returns the wait for what is reported.
-    pub(crate) fn waiting(&self) -> Waiting<'_, R> {
+    /// Returns what waits for these reports, as `report_loop::hand_on` takes it.
+    pub fn waiting(&self) -> Waiting<'_, R> {
         self.live.waiting()
     }
 

@@ -1,7 +1,7 @@
 //! A debouncer that watches folders, until a program's life is over.
 ghost use Rattle.std.specs.Prelude.{◌≡◌, ◌≤◌, ◌⊎◌, None, IfErr, IfOk, IfSome};
 ghost use Rattle.std.specs.Duration.{as_nanos};
-ghost use Rattle.watch_loop.specs.Rest.{IsLeft};
+ghost use Rattle.folder_reports.specs.Rest.{IsLeft};
 ghost use Rattle.watch_program.specs.declared.fault.Fault.TheVariants.{CannotWatch, Memory, NoThread, NotThere};
 
 use crate::hint_reader::{start_hints, start_skipping};

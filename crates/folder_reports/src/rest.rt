@@ -2,7 +2,7 @@
 ghost use Rattle.std.specs.Prelude.{◌≡◌, ◌++◌, List, IfErr, IfOk, OnOk};
 ghost use Rattle.std.specs.declared.alloc.Global.{Global};
 ghost use Rattle.notify_watch.specs.Handler.{Outcome};
-ghost use Rattle.watch_loop.specs.Rest.{IsBatchOf, IsLeft, IsListOf, Waits};
+ghost use Rattle.folder_reports.specs.Rest.{IsBatchOf, IsLeft, IsListOf, Waits};
 ghost use Rattle.watch_program.specs.declared.fault.Fault.TheVariants.{Memory};
 
 use notify_debouncer_full::{

@@ -1,7 +1,7 @@
 use Rattle.std.proofs.Common.{[], ◌∷◌, refl, sym, ◌∙◌}
 use Rattle.std.specs.Prelude.{Err}
-use Rattle.watch_loop.proofs.RestLemmas.{list_of}
-use Rattle.watch_loop.proofs.rest.push_errors.Goals as goal
+use Rattle.folder_reports.proofs.RestLemmas.{list_of}
+use Rattle.folder_reports.proofs.rest.push_errors.Goals as goal
 
 pub returns : goal.returns
 returns c = (

@@ -10,12 +10,12 @@ use report_loop::{Given, GivesReports};
 use std::sync::Wait;
 use std::time::{Clock, Duration, Instant};
 
-/// What is reported into a channel, until a program's life is over.
+/// The wait for what is reported of a folder, until a program's life is over: `FolderReports::waiting`.
 ///
 /// It asks for no more than a wait needs: in a method of a trait, a call that may wait has a proof only over
 /// bounds of the kit's own.
 #[derive(Drop)]
-pub(crate) struct Waiting<'a, R: Wait + Clock> {
+pub struct Waiting<'a, R: Wait + Clock> {
     rt: &'a R,
     queue: &'a Receiver<DebounceEventResult>,
     end: Option<Instant>,

@@ -1,7 +1,7 @@
 use Rattle.std.proofs.Common.{◌==◌, [], ◌∷◌, ap, length, refl, sym, ◌∙◌}
 use Rattle.std.specs.Prelude.{Ok}
-use Rattle.watch_loop.proofs.RestLemmas.{batch_of}
-use Rattle.watch_loop.proofs.rest.push_batch.Goals as goal
+use Rattle.folder_reports.proofs.RestLemmas.{batch_of}
+use Rattle.folder_reports.proofs.rest.push_batch.Goals as goal
 
 pub returns : goal.returns
 returns c = (

@@ -5,7 +5,7 @@ use Rattle.std.specs.declared.alloc.Global.{Global}
 use Rattle.std.specs.declared.vec.Vec.{Vec}
 use Rattle.notify_paths.specs.Errors.{ErrorValue}
 use Rattle.notify_types.specs.Event.{Timed}
-use Rattle.watch_loop.specs.Rest.{IsBatchOf, IsListOf}
+use Rattle.folder_reports.specs.Rest.{IsBatchOf, IsListOf}
 
 -- events that are some are one batch
 pub batch_of : (batch : Vec Timed Global) (events : List Timed) → batch.items ≡ events →
