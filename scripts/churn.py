@@ -210,11 +210,15 @@ def main():
     words.add_argument("--index", default=program("document_index"))
     words = words.parse_args()
     right = 0
-    for seed in range(words.seed, words.seed + words.times):
-        wrong = churn(seed, words.changes, os.path.abspath(words.mirror), os.path.abspath(words.index))
-        right += not wrong
-        for it in [f"seed {seed}:", *wrong] if wrong else []:
-            print(it, flush=True)
+    with tempfile.TemporaryDirectory() as reached:
+        # Whoever runs the programs can reach these copies of them.
+        os.chmod(reached, 0o755)
+        mirror, index = (shutil.copy(it, reached) for it in (words.mirror, words.index))
+        for seed in range(words.seed, words.seed + words.times):
+            wrong = churn(seed, words.changes, mirror, index)
+            right += not wrong
+            for it in [f"seed {seed}:", *wrong] if wrong else []:
+                print(it, flush=True)
     print(f"{right} right, {words.times - right} wrong")
     return 1 if right < words.times else 0
 
