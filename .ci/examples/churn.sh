@@ -1,0 +1,5 @@
+# shellcheck shell=bash disable=SC2154
+# Copy and answers after a folder has changed for some seconds; scripts/churn.py alone does it 50 times.
+well=no
+"$top/scripts/churn.py" --times 3 >churned 2>&1 && well=yes || cat churned
+report 'folder_mirror, document_index: right after three churns' $well
