@@ -1,18 +1,18 @@
 //! Documents, read from files.
-ghost use Rattle.std.specs.Prelude.{IfOk, OnOk};
+ghost use Rattle.std.specs.Prelude.{◌≡◌, IfOk, OnOk};
 ghost use Rattle.std.specs.Map.{keys_of};
-ghost use Rattle.debounce_model.specs.Play.{events_of};
-ghost use Rattle.batch_plan.specs.Plan.{wanted};
+ghost use Rattle.folder_listing.specs.Listing.{ListingValue};
+ghost use Rattle.batch_plan.specs.Naming.{namings};
 ghost use Rattle.document_index.specs.Read.{IsReadAmong, PutsAt};
 
 use batch_plan::naming::name_listed;
-use batch_plan::wanting::wanted;
 use notify_debouncer_full::{
     DebouncedEvent, DebouncerRuntime, Folders, PathBuf, RealFolders, RecursiveMode, list,
 };
 use std::collections::BTreeMap;
 use std::{fs, io};
 use watch_program::Fault;
+use word_index::kept::ReadsDocuments;
 use word_index::words::{Words, words_of};
 
 /// What stands below a folder, read anew at each call. What can't be read has no words.
@@ -29,7 +29,10 @@ impl<R: DebouncerRuntime + AllocGlobal> Documents<R> {
     }
 
     /// Returns a batch that names all that stands at the folder and below it.
-    pub(crate) fn all(&self) -> Result<Vec<DebouncedEvent>, Fault> {
+    pub(crate) fn all(&self) -> Result<Vec<DebouncedEvent>, Fault>
+        ensures { IfOk result (λ batch. (listing : ListingValue)
+            × (batch.items ≡ namings self.now.folder listing)) }
+    {
         let alloc = self.rt.alloc();
         let mut folders = RealFolders::new(self.rt, alloc);
         let root = (self.folder.clone()?, RecursiveMode::Recursive);
@@ -40,15 +43,6 @@ impl<R: DebouncerRuntime + AllocGlobal> Documents<R> {
         let mut batch = Vec::new(alloc);
         name_listed(&mut batch, &listing, &self.folder)?;
         Ok(batch)
-    }
-
-    /// Reads what stands at the paths that the batch wants. Nothing else is read.
-    pub(crate) fn read(&self, batch: &[DebouncedEvent]) -> Result<BTreeMap<PathBuf, Words>, Fault>
-        ensures wanted { IfOk result (λ read.
-            IsReadAmong (wanted (events_of batch.now)) read.entries) }
-    {
-        let paths = wanted(self.rt.alloc(), batch)?;
-        self.read_all(&paths)
     }
 
     /// Reads what stands at these paths.
@@ -74,14 +68,6 @@ impl<R: DebouncerRuntime + AllocGlobal> Documents<R> {
         Ok(())
     }
 
-    /// Whether nothing stands at the path, or nobody can say what.
-    pub(crate) fn is_missing(&self, path: &PathBuf) -> bool {
-        !matches!(
-            RealFolders::new(self.rt, self.rt.alloc()).look(path),
-            Ok(Some(_))
-        )
-    }
-
     /// The words of what stands at the path, if something does. Links aren't followed.
     fn words_at(&self, path: &PathBuf) -> Result<Option<Words>, Fault> {
         match RealFolders::new(self.rt, self.rt.alloc()).look(path) {
@@ -99,5 +85,21 @@ impl<R: DebouncerRuntime + AllocGlobal> Documents<R> {
             Err(error) if error.kind() == io::ErrorKind::OutOfMemory => Err(Fault::Memory),
             Err(_) => Ok(Words::new(alloc)),
         }
+    }
+}
+
+impl<R: DebouncerRuntime + AllocGlobal> ReadsDocuments for Documents<R> {
+    // What a file holds is in no contract; but nothing is read at another path.
+    ghost reads = { λ documents paths read. IsReadAmong paths read };
+
+    fn read(&self, paths: &BTreeMap<PathBuf, ()>) -> Result<BTreeMap<PathBuf, Words>, Fault> {
+        self.read_all(paths)
+    }
+
+    fn is_missing(&self, path: &PathBuf) -> bool {
+        !matches!(
+            RealFolders::new(self.rt, self.rt.alloc()).look(path),
+            Ok(Some(_))
+        )
     }
 }
