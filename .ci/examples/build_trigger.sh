@@ -102,6 +102,23 @@ for turn in 1 2 3; do
 done
 report 'build_trigger: what waits is not lost' $well
 
+# A pause that is longer than the default parts no burst, and after one that is shorter a line comes though files come
+# all the time.
+mkdir calm
+: >err
+(watches calm && : >calm/.a && sleep 2 && : >calm/b && sleep 1) |
+    timeout 100 "$trigger" calm --quiet 99999999 --until-eof --timeout 50 --interval 10 >out 2>err
+report 'build_trigger: a long pause' "$([ $? = 0 ] && [ "$(cat out)" = $'2\t./.a\t./b' ] && ! complains && echo yes)"
+mkdir busy
+: >err
+"$trigger" busy --quiet 20 --timeout 20 --interval 10 --seconds 60 >out 2>err &
+running=$!
+watches busy
+for n in $(seq 200); do : >busy/$n && [ ! -s out ] && sleep 0.25 || break; done
+kill $running
+wait $running 2>/dev/null
+report 'build_trigger: a short pause' "$([ -s out ] && are_counted && ! complains && echo yes)"
+
 expect 'build_trigger: a quiet folder' 0 /dev/null 'build_trigger: watching src' "$trigger" src --ticks 1
 expect 'build_trigger: a missing folder' 5 /dev/null 'build_trigger: cannot watch missing: not there' "$trigger" missing --ticks 1
 expect 'build_trigger: no pattern' 2 /dev/null "build_trigger: a pattern is not a regular expression: --ignore 'a(' at 1" \

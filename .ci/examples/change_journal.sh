@@ -101,8 +101,8 @@ expect 'a journal of a missing folder' 5 nothing 'change_journal: cannot watch m
 report 'a journal in two forms' "$([ $? = 2 ] && [ ! -s out ] && grep -q "cannot be used with" err && echo yes)"
 
 # What is there already comes first with --initial, and not without it.
-mkdir -p first/notes && echo one >first/notes/a.txt
-printf '%s\tfirst%s\n' 'Create(Folder)' '' 'Create(Folder)' /notes 'Create(File)' /notes/a.txt >wanted
+mkdir -p first/notes && echo one >first/notes/.hidden
+printf '%s\tfirst%s\n' 'Create(Folder)' '' 'Create(Folder)' /notes 'Create(File)' /notes/.hidden >wanted
 expect 'a journal from nothing' 0 wanted 'change_journal: watching first' "$journal" --initial --timeout 50 --ticks 4 first
 expect 'a journal from now on' 0 nothing 'change_journal: watching first' "$journal" --timeout 50 --seconds 1 first
 

@@ -96,6 +96,21 @@ report 'document_index: what comes back is read' $well
 exec 3>&- 4<&- 5>&-
 wait $running
 
+# Blanks and a carriage return beside a word don't count, a hidden file does. A line that isn't UTF-8 is said, has an
+# empty answer, and makes the status 1; the next line is answered.
+mkdir lines && echo one >lines/.hidden && echo 'one two' >lines/a
+printf ' one\r\n\xff\n\ttwo \n\none' >asked
+printf 'lines/.hidden\nlines/a\n\n\nlines/a\n\n\nlines/.hidden\nlines/a\n\n' >wanted
+printf 'document_index: %s\n' 'watching lines' 'cannot read a line: stream did not contain valid UTF-8' \
+    'not all could be done' >complaints
+"$index" lines <asked >out 2>err
+report 'document_index: a line that can not be read' \
+    "$([ $? = 1 ] && cmp -s out wanted && cmp -s err complaints && echo yes)"
+printf 'document_index: %s\n' 'watching lines' 'cannot read a line: Is a directory (os error 21)' \
+    'not all could be done' >complaints
+timeout 60 "$index" lines <lines >out 2>err
+report 'document_index: an input that can not be read' "$([ $? = 1 ] && [ "$(wc -c <out)" = 1 ] && cmp -s err complaints && echo yes)"
+
 echo 'Event' >notes/z.txt
 echo notes/z.txt >wanted
 expect 'document_index: one query' 0 wanted 'document_index: watching notes' "$index" notes --query EVENT

@@ -56,7 +56,7 @@ for name in build_trigger change_journal; do
     rm -rf a b && mkdir a b && : >err
     (says err 'watching b$' && : >b/h && echo b/h && says out "(^|	)${before}b/h(	|$)" && : >a/h && echo "$PWD/a/h" &&
         says out "(^|	)${before}a/h(	|$)" && echo yes >hinted) |
-        timeout 100 "$program" a b "${own[@]}" --hints - --until-eof --timeout 50 --interval 60000 >out 2>err
+        timeout 100 "$program" a b "${own[@]}" --hints - --until-eof --timeout 50 --interval 99999999 >out 2>err
     report "$name: hints about two folders" "$([ $? = 0 ] && cat hinted)"
     rm -f hinted
 done

@@ -166,6 +166,14 @@ mkdir from && echo one >from/a && (begins copy.err 'folder_mirror: watching from
     timeout 100 "$mirror" from to --until-eof --timeout 60000 --interval 20 >copy.out 2>copy.err && diff -r from to && well=yes
 report 'hints: a copy until the end of the input' $well
 
+# The input ends the journal also if its hints come by a file; the end of these doesn't.
+well=no
+mkdir beside && mkfifo told && (begins beside.err 'change_journal: watching beside' && : >beside/a && echo beside/a >told &&
+    prints beside.out $'Create(File)\tbeside/a' && : >beside/b) |
+    timeout 100 "$journal" beside --hints told --until-eof --timeout 50 --interval 99999999 >beside.out 2>beside.err &&
+    [ "$(cat beside.out)" = $'Create(File)\tbeside/a\nCreate(File)\tbeside/b' ] && well=yes
+report 'hints: the input ends beside a file of hints' $well
+
 # Where no hints come from, and whence they can't: nothing waits for who reads them.
 mkfifo pipe
 expect 'hints: nobody writes' 0 nothing 'change_journal: watching input' timeout 100 "$journal" input --hints pipe --ticks 1

@@ -32,6 +32,14 @@ report 'crates are copied, and once more' $well
 (cd elsewhere/crates/mine && "$toolchain" try) >out 2>err
 report 'a program of another repository' "$([ $? = 0 ] && [ "$(cat out)" = watched ] && echo yes)"
 
+# The tutorial's commands for a crate of one's own, up to its trial, run as they stand.
+mkdir -p own/crates/example && cp -r "$top/crates/example/src" own/crates/example && echo 'example: anyhow' >own/crates.txt
+grep -A 3 '^cd crates && rt new' "$top/docs/TUTORIAL.md" >commands
+(cd own && PATH=${toolchain%/*}:$PATH bash -e ../commands) >out 2>err
+report "the tutorial's own crate" "$([ $? = 0 ] && [ "$(wc -l <commands)" = 4 ] &&
+    [ "$(cd own/crates/mine && find . -type f)" = ./src/main.rt ] &&
+    [ "$(tail -n 1 own/crates.txt)" = 'mine: notify_debouncer_full anyhow' ] && echo yes)"
+
 # The tutorial's program over a folder, with the crates that it names.
 mkdir -p programs/crates/changed/src grown
 grep -o 'changed: [a-z_ ]*' "$top/docs/TUTORIAL.md" >programs/crates.txt

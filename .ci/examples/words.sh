@@ -12,6 +12,7 @@ is_refused() {
 for name in build_trigger change_journal config_reloader document_index folder_mirror; do
     program=$top/crates/$name/out/$name
     places=(watched)
+    shown=(DIR)
     own=()
     more=(one more)
     numbers=(timeout interval seconds ticks)
@@ -19,9 +20,9 @@ for name in build_trigger change_journal config_reloader document_index folder_m
         # These two take several folders.
         build_trigger) own=(ignore) && numbers+=(quiet) && more=(-x) ;;
         change_journal) own=(initial json include exclude) && more=(-x) ;;
-        config_reloader) places=(watched/app.toml) ;;
+        config_reloader) places=(watched/app.toml) && shown=(FILE) ;;
         document_index) own=(query) && places+=(--query none) ;;
-        folder_mirror) own=(delete dry-run) && places+=(copy) ;;
+        folder_mirror) own=(delete dry-run) && places+=(copy) && shown=(FROM TO) ;;
     esac
 
     "$program" --help >out 2>err
@@ -30,7 +31,13 @@ for name in build_trigger change_journal config_reloader document_index folder_m
         # Each has a text beside it, or below it.
         grep -A 1 -E -- "--$word( <[A-Z]+>)?( |$)" out | tr '\n' ' ' | grep -qE -- "--$word( <[A-Z]+>)? +[A-Za-z]" || well=no
     done
+    for place in "${shown[@]}"; do
+        grep -qE "^ +<$place>(\.\.\.)? +[a-z]" out || well=no
+    done
     report "$name: --help has each word" "$well"
+    # Whatever the file is called that is run, as that of a trial.
+    ln -sf "$program" other
+    report "$name: its name is in its usage" "$(./other --help | grep -q "^Usage: $name " && echo yes)"
     echo "$name 0.6.0" >wanted
     expect "$name: --version" 0 wanted '' "$program" --version
     expect "$name: -V" 0 wanted '' "$program" -V
@@ -53,5 +60,15 @@ for name in build_trigger change_journal config_reloader document_index folder_m
     is_refused "${places[@]}" --nothing && is_refused && is_refused --ticks 1 && is_refused "${places[@]}" "${more[@]}" &&
         is_refused "${places[@]}" --ticks 1 --ticks 2 && well=yes
     report "$name: words that don't fit" $well
+    expect "$name: what stands after hints, and no hints" 2 /dev/null "$name: --hints-zero asks for --hints" \
+        "$program" "${places[@]}" --hints-zero
+    if [ $name != document_index ]; then
+        begun=${EPOCHREALTIME/[.,]/}
+        "$program" "${places[@]}" --seconds 2 >out 2>err
+        ended=$?
+        took=$((${EPOCHREALTIME/[.,]/} - begun))
+        report "$name: a life of two seconds" \
+            "$([ $ended = 0 ] && [ $took -ge 2000000 ] && [ $took -lt 30000000 ] && echo yes)"
+    fi
     expect "$name: a word that is not UTF-8" 2 /dev/null "$name: an argument is not UTF-8" "$program" $'\xff'
 done

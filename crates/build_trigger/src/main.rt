@@ -2,7 +2,8 @@
 //! `while read`. docs/examples/build_trigger.md is its page.
 #![tactic(auto)]
 
-ghost use Rattle.std.specs.Prelude.{◌≡◌, [], OnOk};
+ghost use Rattle.std.specs.Prelude.{◌≡◌, [], codes, option_map, IfSome, OnOk};
+ghost use Rattle.clap.specs.Words.{first_value, found_of};
 ghost use Rattle.journal_lines.specs.KeptView.{filter_rule};
 ghost use Rattle.trigger_lines.specs.Printed.{PrintsAll};
 ghost use Rattle.watch_loop.specs.FollowsFolder.{folder_source};
@@ -16,8 +17,8 @@ use std::process::ExitCode;
 use trigger_lines::{Bursts, Trigger, only_folder};
 use watch_loop::follow_folders;
 use watch_program::{
-    Complaints, Fault, command_of_places, folders_of, milliseconds_of, number, option, pace_of,
-    places_of, run_with_words, with_until_eof, write_missed,
+    Complaints, Fault, PlaceWord, command_of_places, folders_of, milliseconds_of, number, option,
+    pace_of, places_of, run_with_words, with_until_eof, write_missed,
 };
 
 /// The program's name.
@@ -31,7 +32,11 @@ const QUIET: u64 = 500;
 
 /// The command line.
 fn command_line<'a>(alloc: Global, name: &'a str) -> Result<Command<'a>, AllocError> {
-    let line = with_until_eof(alloc, command_of_places(alloc, name, ABOUT, "DIR")?)?;
+    let folders = PlaceWord {
+        name: "DIR",
+        help: "the folders that are watched, with all below them",
+    };
+    let line = with_until_eof(alloc, command_of_places(alloc, name, ABOUT, folders)?)?;
     let line = line.arg(option(alloc, "ignore", "RE").help(
         "leave out events with such paths alone",
     ))?;
@@ -39,7 +44,11 @@ fn command_line<'a>(alloc: Global, name: &'a str) -> Result<Command<'a>, AllocEr
 }
 
 /// The pattern of what is left out, if a word gives one.
-fn ignored<'a>(matches: &ArgMatches<'a>) -> Option<Pattern<'a, 'a>> {
+fn ignored<'a>(matches: &ArgMatches<'a>) -> Option<Pattern<'a, 'a>>
+    ensures text { option_map (λ p. p.text.now) result
+        ≡ first_value (found_of matches.now) (codes "ignore") }
+    ensures named { IfSome result (λ p. p.option.now ≡ codes "--ignore") }
+{
     match matches.get_str("ignore") {
         None => None,
         Some(text) => Some(Pattern {

@@ -1,15 +1,22 @@
 //! The words of the program.
+ghost use Rattle.std.specs.Prelude.{◌≡◌, ◌⊎◌, Some, None, codes, option_map, IfSome};
+ghost use Rattle.clap.specs.Words.{first_value, found_of, one_text};
+
 use clap::{Arg, ArgMatches, Command};
 use journal_lines::{Form, Pattern};
 use std::alloc::{AllocError, Global};
-use watch_program::{command_of_places, flag, option, with_until_eof};
+use watch_program::{PlaceWord, command_of_places, flag, option, with_until_eof};
 
 /// The program's name.
 pub(crate) const NAME: &str = "change_journal";
 
 /// The command line.
 pub(crate) fn command_line<'a>(alloc: Global, name: &'a str) -> Result<Command<'a>, AllocError> {
-    let line = command_of_places(alloc, name, "Prints the changes below folders.", "DIR")?;
+    let folders = PlaceWord {
+        name: "DIR",
+        help: "the folders that are watched, with all below them",
+    };
+    let line = command_of_places(alloc, name, "Prints the changes below folders.", folders)?;
     let line = with_until_eof(alloc, line)?;
     let initial = flag(alloc, "initial").long("initial");
     let line = line.arg(initial.help("print what is there first, as created"))?;
@@ -36,13 +43,24 @@ fn with_patterns<'a>(alloc: Global, line: Command<'a>) -> Result<Command<'a>, Al
 /// The patterns that the words give: of what is printed, and of what is left out.
 pub(crate) fn patterns_of<'a>(
     matches: &ArgMatches<'a>,
-) -> (Option<Pattern<'a, 'a>>, Option<Pattern<'a, 'a>>) {
+) -> (Option<Pattern<'a, 'a>>, Option<Pattern<'a, 'a>>)
+    ensures include { option_map (λ p. p.text.now) result.0
+        ≡ first_value (found_of matches.now) (codes "include") }
+    ensures exclude { option_map (λ p. p.text.now) result.1
+        ≡ first_value (found_of matches.now) (codes "exclude") }
+    ensures named { IfSome result.0 (λ p. p.option.now ≡ codes "--include")
+        × IfSome result.1 (λ p. p.option.now ≡ codes "--exclude") }
+{
     let include = pattern("--include", matches.get_str("include"));
     let exclude = pattern("--exclude", matches.get_str("exclude"));
     (include, exclude)
 }
 
-fn pattern<'a>(option: &'a str, text: Option<&'a str>) -> Option<Pattern<'a, 'a>> {
+/// The pattern of this option, if it has a text.
+fn pattern<'a>(option: &'a str, text: Option<&'a str>) -> Option<Pattern<'a, 'a>>
+    ensures text { option_map (λ p. p.text.now) result ≡ option_map (λ t. t.now) text }
+    ensures named { IfSome result (λ p. p.option.now ≡ option.now) }
+{
     match text {
         None => None,
         Some(text) => Some(Pattern { option, text }),
@@ -50,7 +68,19 @@ fn pattern<'a>(option: &'a str, text: Option<&'a str>) -> Option<Pattern<'a, 'a>
 }
 
 /// The form that the words ask for.
-pub(crate) fn form_of(matches: &ArgMatches<'_>) -> Form {
+pub(crate) fn form_of(matches: &ArgMatches<'_>) -> Form
+    ensures json { one_text (found_of matches.now) (codes "json") ≡ Some (codes "true")
+        → result ≡ Form.Json }
+    ensures zero { (one_text (found_of matches.now) (codes "json") ≡ None)
+        ⊎ (one_text (found_of matches.now) (codes "json") ≡ Some (codes "false"))
+        → one_text (found_of matches.now) (codes "zero") ≡ Some (codes "true")
+        → result ≡ Form.Zero }
+    ensures plain { (one_text (found_of matches.now) (codes "json") ≡ None)
+        ⊎ (one_text (found_of matches.now) (codes "json") ≡ Some (codes "false"))
+        → (one_text (found_of matches.now) (codes "zero") ≡ None)
+        ⊎ (one_text (found_of matches.now) (codes "zero") ≡ Some (codes "false"))
+        → result ≡ Form.Plain }
+{
     if matches.get_flag("json") {
         Form::Json
     } else if matches.get_flag("zero") {

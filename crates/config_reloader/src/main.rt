@@ -14,7 +14,7 @@ use std::io::Write;
 use std::process::ExitCode;
 use watch_loop::follow_folder;
 use watch_program::{
-    Complaints, Fault, Pace, command, pace_of, place_of, run_with_words, with_until_eof,
+    Complaints, Fault, Pace, PlaceWord, command, pace_of, place_of, run_with_words, with_until_eof,
     write_missed,
 };
 
@@ -26,7 +26,11 @@ const ABOUT: &str = "Reads a TOML file when it changes.";
 
 /// The command line.
 fn command_line<'a>(alloc: Global, name: &'a str) -> Result<Command<'a>, AllocError> {
-    with_until_eof(alloc, command(alloc, name, ABOUT, "FILE")?)
+    let file = PlaceWord {
+        name: "FILE",
+        help: "the file that is read",
+    };
+    with_until_eof(alloc, command(alloc, name, ABOUT, file)?)
 }
 
 /// Reads the file, and then whenever its folder's reports may be about it. If events were missed, it is

@@ -1,21 +1,22 @@
 //! Documents, read from files.
-ghost use Rattle.std.specs.Prelude.{IfOk, OnOk};
+ghost use Rattle.std.specs.Prelude.{◌≡◌, IfOk, OnOk};
 ghost use Rattle.std.specs.Map.{keys_of};
-ghost use Rattle.debounce_model.specs.Play.{events_of};
-ghost use Rattle.batch_plan.specs.Plan.{wanted};
+ghost use Rattle.folder_listing.specs.Listing.{ListingValue};
+ghost use Rattle.batch_plan.specs.Naming.{namings};
 ghost use Rattle.document_index.specs.Read.{IsReadAmong, PutsAt};
 
 use batch_plan::naming::name_listed;
-use batch_plan::wanting::wanted;
 use notify_debouncer_full::{
     DebouncedEvent, DebouncerRuntime, Folders, PathBuf, RealFolders, RecursiveMode, list,
 };
 use std::collections::BTreeMap;
 use std::{fs, io};
 use watch_program::Fault;
+use word_index::kept::ReadsDocuments;
 use word_index::words::{Words, words_of};
 
-/// What stands below a folder, read anew at each call. What can't be read has no words.
+/// What stands below a folder, read anew at each call. What is no text has no words; what can't be read, as a file that
+/// permission closes, counts as missing until it can.
 #[derive(Drop)]
 pub(crate) struct Documents<R: Drop> {
     rt: R,
@@ -29,7 +30,10 @@ impl<R: DebouncerRuntime + AllocGlobal> Documents<R> {
     }
 
     /// Returns a batch that names all that stands at the folder and below it.
-    pub(crate) fn all(&self) -> Result<Vec<DebouncedEvent>, Fault> {
+    pub(crate) fn all(&self) -> Result<Vec<DebouncedEvent>, Fault>
+        ensures { IfOk result (λ batch. (listing : ListingValue)
+            × (batch.items ≡ namings self.now.folder listing)) }
+    {
         let alloc = self.rt.alloc();
         let mut folders = RealFolders::new(self.rt, alloc);
         let root = (self.folder.clone()?, RecursiveMode::Recursive);
@@ -40,15 +44,6 @@ impl<R: DebouncerRuntime + AllocGlobal> Documents<R> {
         let mut batch = Vec::new(alloc);
         name_listed(&mut batch, &listing, &self.folder)?;
         Ok(batch)
-    }
-
-    /// Reads what stands at the paths that the batch wants. Nothing else is read.
-    pub(crate) fn read(&self, batch: &[DebouncedEvent]) -> Result<BTreeMap<PathBuf, Words>, Fault>
-        ensures wanted { IfOk result (λ read.
-            IsReadAmong (wanted (events_of batch.now)) read.entries) }
-    {
-        let paths = wanted(self.rt.alloc(), batch)?;
-        self.read_all(&paths)
     }
 
     /// Reads what stands at these paths.
@@ -74,30 +69,42 @@ impl<R: DebouncerRuntime + AllocGlobal> Documents<R> {
         Ok(())
     }
 
-    /// Whether nothing stands at the path, or nobody can say what.
-    pub(crate) fn is_missing(&self, path: &PathBuf) -> bool {
-        !matches!(
-            RealFolders::new(self.rt, self.rt.alloc()).look(path),
-            Ok(Some(_))
-        )
-    }
-
-    /// The words of what stands at the path, if something does. Links aren't followed.
+    /// The words of what stands at the path, if something does that can be read. Links aren't followed.
     fn words_at(&self, path: &PathBuf) -> Result<Option<Words>, Fault> {
         match RealFolders::new(self.rt, self.rt.alloc()).look(path) {
-            Ok(Some(found)) if found.kind.is_file() => Ok(Some(self.words_in(path)?)),
+            Ok(Some(found)) if found.kind.is_file() => self.words_in(path),
             Ok(Some(found)) if found.kind.is_folder() => Ok(Some(Words::new(self.rt.alloc()))),
             Ok(_) | Err(_) => Ok(None),
         }
     }
 
-    /// The words of the file. One that is no text has none.
-    fn words_in(&self, path: &PathBuf) -> Result<Words, Fault> {
+    /// The words of the file, if it can be read. One that is no text has none.
+    fn words_in(&self, path: &PathBuf) -> Result<Option<Words>, Fault> {
         let alloc = self.rt.alloc();
         match fs::read_to_string(&self.rt, path.as_str()) {
-            Ok(text) => Ok(words_of(alloc, text.as_str())?),
-            Err(error) if error.kind() == io::ErrorKind::OutOfMemory => Err(Fault::Memory),
-            Err(_) => Ok(Words::new(alloc)),
+            Ok(text) => Ok(Some(words_of(alloc, text.as_str())?)),
+            Err(error) => match error.kind() {
+                io::ErrorKind::OutOfMemory => Err(Fault::Memory),
+                io::ErrorKind::InvalidData => Ok(Some(Words::new(alloc))),
+                _ => Ok(None),
+            },
+        }
+    }
+}
+
+impl<R: DebouncerRuntime + AllocGlobal> ReadsDocuments for Documents<R> {
+    // What a file holds is in no contract; but nothing is read at another path.
+    ghost reads = { λ documents paths read. IsReadAmong paths read };
+
+    fn read(&self, paths: &BTreeMap<PathBuf, ()>) -> Result<BTreeMap<PathBuf, Words>, Fault> {
+        self.read_all(paths)
+    }
+
+    /// Nothing stands there, or a file that couldn't be read: whoever asks has read nothing there.
+    fn is_missing(&self, path: &PathBuf) -> bool {
+        match RealFolders::new(self.rt, self.rt.alloc()).look(path) {
+            Ok(Some(found)) => found.kind.is_file(),
+            Ok(None) | Err(_) => true,
         }
     }
 }

@@ -2,11 +2,18 @@
 //! which files have a word. docs/examples/document_index.md is its page.
 #![tactic(auto)]
 
+ghost use Rattle.std.specs.Prelude.{true, codes, IfOk, OnOk};
+ghost use Rattle.clap.specs.Words.{first_value, found_of};
+ghost use Rattle.document_index.specs.Answered.{Serves};
+ghost use Rattle.document_index.specs.Read.{IsReadAmong};
+
 mod documents;
+mod indexer;
 mod service;
 
 use clap::{ArgMatches, Command};
 use documents::Documents;
+use indexer::Indexer;
 use notify_debouncer_full::{DebouncerRuntime, RecursiveMode};
 use service::Service;
 use std::alloc::{AllocError, Global};
@@ -14,7 +21,7 @@ use std::io::Write;
 use std::process::ExitCode;
 use watch_loop::FolderReports;
 use watch_program::{
-    Complaints, Fault, command, folder_of, hints_of, option, pace_of, run_with_words,
+    Complaints, Fault, PlaceWord, command, folder_of, hints_of, option, pace_of, run_with_words,
 };
 
 /// The program's name.
@@ -25,48 +32,35 @@ const ABOUT: &str = "Says which files below a folder have a word.";
 
 /// The command line.
 fn command_line<'a>(alloc: Global, name: &'a str) -> Result<Command<'a>, AllocError> {
-    let line = command(alloc, name, ABOUT, "DIR")?;
+    let folder = PlaceWord {
+        name: "DIR",
+        help: "the folder whose files are indexed, with all below it",
+    };
+    let line = command(alloc, name, ABOUT, folder)?;
     line.arg(option(alloc, "query", "WORD").help("print the files that have the word, and end"))
 }
 
-/// Answers each line of the standard input, and ends each answer with an empty line.
-fn answer_lines<R: DebouncerRuntime + AllocGlobal + Input, O: Write + Drop, E: Write + Drop>(
-    rt: R,
-    service: &mut Service<R, O, E>,
-    reports: &mut FolderReports<'_, R, E>,
-) -> Result<(), Fault> {
-    for line in rt.lines(rt.alloc()) {
-        match line {
-            Ok(line) => answer_line(rt, service, reports, line.as_str().trim())?,
-            Err(_) => break,
-        }
-    }
-    Ok(())
-}
-
-/// Answers the word, of what stands there now, and ends the answer with an empty line.
-fn answer_line<R: DebouncerRuntime + AllocGlobal, O: Write + Drop, E: Write + Drop>(
-    rt: R,
-    service: &mut Service<R, O, E>,
-    reports: &mut FolderReports<'_, R, E>,
-    word: &str,
-) -> Result<(), Fault> {
-    service.catch_up(rt, reports)?;
-    service.answer(word)?;
-    service.end_answer()
-}
-
-/// Indexes what stands there, and answers the query of the words, or else those of the standard input.
+/// Indexes what stands there, and answers the query of the words, or else those of the standard input. Says
+/// whether all of these could be read.
 fn answer<R: DebouncerRuntime + AllocGlobal + Input, O: Write + Drop, E: Write + Drop>(
     rt: R,
     matches: &ArgMatches<'_>,
     service: &mut Service<R, O, E>,
     reports: &mut FolderReports<'_, R, E>,
-) -> Result<(), Fault> {
-    service.begin()?;
+) -> Result<bool, Fault>
+    ensures served { IfOk result (λ all. Serves IsReadAmong
+        service.old.indexer.documents.folder
+        (first_value (found_of matches.now) (codes "query")) all
+        (record { index = service.old.indexer.kept.index; out = O.contents service.old.out })
+        (record { index = service.new.indexer.kept.index; out = O.contents service.new.out })) }
+{
+    service.indexer.begin()?;
     match matches.get_str("query") {
-        Some(word) => service.answer(word),
-        None => answer_lines(rt, service, reports),
+        Some(word) => {
+            service.answer(word)?;
+            Ok(true)
+        }
+        None => service.answer_lines(rt, reports),
     }
 }
 
@@ -76,14 +70,20 @@ fn serve<R: DebouncerRuntime + AllocGlobal + Input, O: Write + Drop, E: Write + 
     matches: &ArgMatches<'_>,
     complaints: Complaints<'_, E>,
     service: &mut Service<R, O, E>,
-) -> Result<(), Fault> {
-    let folder = &service.documents.folder;
+) -> Result<(), Fault>
+    ensures served { OnOk result (Serves IsReadAmong
+        service.old.indexer.documents.folder
+        (first_value (found_of matches.now) (codes "query")) true
+        (record { index = service.old.indexer.kept.index; out = O.contents service.old.out })
+        (record { index = service.new.indexer.kept.index; out = O.contents service.new.out })) }
+{
+    let folder = &service.indexer.documents.folder;
     // The folder is watched first, so that no change after the first look is missed.
     let (mode, pace) = (RecursiveMode::Recursive, pace_of(matches));
     let mut reports = FolderReports::start(rt, folder, mode, pace, complaints)?;
-    answer(rt, matches, service, &mut reports)?;
-    service.say_missed(reports.finish()?.missed);
-    Ok(())
+    let all = answer(rt, matches, service, &mut reports)?;
+    service.indexer.say_missed(reports.finish()?.missed);
+    if all { Ok(()) } else { Err(Fault::Incomplete) }
 }
 
 /// Refuses hints by standard input, which has the queries.
@@ -104,7 +104,8 @@ fn run<R: DebouncerRuntime + AllocGlobal + Input, O: Write + Drop, E: Write + Dr
 ) -> Result<(), Fault> {
     check_words(matches)?;
     let documents = Documents::new(rt, folder_of(rt.alloc(), matches)?);
-    let mut service = Service::new(rt.alloc(), documents, out, err);
+    let indexer = Indexer::new(rt.alloc(), documents, err);
+    let mut service = Service::new(rt.alloc(), indexer, out);
     serve(rt, matches, complaints, &mut service)
 }
 

@@ -12,7 +12,7 @@ mod waiting;
 mod writing;
 
 use apart::check_apart;
-use clap::{Arg, ArgMatches, Command};
+use clap::{ArgMatches, Command};
 use copy::{FolderCopy, Leave};
 use mirror::Mirror;
 use notify_debouncer_full::{DebouncerRuntime, PathBuf, RecursiveMode};
@@ -23,17 +23,29 @@ use std::io::Write;
 use std::process::ExitCode;
 use watch_loop::follow_folder;
 use watch_program::{
-    Complaints, Fault, Pace, command, flag, folder_of, pace_of, place_of, run_with_words,
-    with_until_eof,
+    Complaints, Fault, Pace, PlaceWord, command, flag, folder_of, pace_of, place_arg, place_of,
+    run_with_words, with_until_eof,
 };
 
 /// The program's name.
 const NAME: &str = "folder_mirror";
 
+/// The folder that is copied.
+const FROM: PlaceWord<'static> = PlaceWord {
+    name: "FROM",
+    help: "the folder that is copied, with all below it",
+};
+
+/// Its copy.
+const TO: PlaceWord<'static> = PlaceWord {
+    name: "TO",
+    help: "the folder that becomes its copy; made if it is missing",
+};
+
 /// The command line.
 fn command_line<'a>(alloc: Global, name: &'a str) -> Result<Command<'a>, AllocError> {
-    let line = command(alloc, name, "Keeps the folder TO a copy of FROM.", "FROM")?;
-    let line = line.arg(Arg::new(alloc, "to").value_name("TO").required(true))?;
+    let line = command(alloc, name, "Keeps the folder TO a copy of FROM.", FROM)?;
+    let line = line.arg(place_arg(alloc, "to", TO))?;
     let line = with_until_eof(alloc, line)?;
     let delete = flag(alloc, "delete").long("delete");
     let line = line.arg(delete.help("remove what TO has and FROM never had"))?;

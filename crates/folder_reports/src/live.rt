@@ -1,6 +1,7 @@
 //! A debouncer that watches folders, until a program's life is over.
-ghost use Rattle.std.specs.Prelude.{◌≡◌, ◌≤◌, ◌⊎◌, None, IfErr, IfOk, IfSome};
+ghost use Rattle.std.specs.Prelude.{◌≡◌, ◌≤◌, ◌<◌, ◌+◌, ◌*◌, ◌^◌, ◌⊎◌, min, None, IsSome, IfErr, IfOk, IfSome};
 ghost use Rattle.std.specs.Duration.{as_nanos};
+ghost use Rattle.std.specs.Time.{FitsClock, instant_nanos};
 ghost use Rattle.folder_reports.specs.Rest.{IsLeft};
 ghost use Rattle.watch_program.specs.declared.fault.Fault.TheVariants.{CannotWatch, Memory, NoThread, NotThere};
 
@@ -127,13 +128,28 @@ impl<R: DebouncerRuntime + AllocGlobal> Live<R> {
 fn end_of<R: Clock>(rt: &R, life: Option<Duration>) -> Option<Instant>
     ensures endless { life ≡ None → result ≡ None }
 {
-    Instant::now(rt).ok()?.checked_add(life?)
+    end_from(Instant::now(rt).ok()?, life)
+}
+
+/// The moment that lies so long after this one, if the clock counts so far.
+fn end_from(start: Instant, life: Option<Duration>) -> Option<Instant>
+    ensures endless { life ≡ None → result ≡ None }
+    ensures moment { IfSome result (λ end. IfSome life
+        (λ d. instant_nanos end ≡ instant_nanos start + as_nanos d)) }
+    ensures counted { IfSome life (λ d. FitsClock (instant_nanos start + as_nanos d)
+        → IsSome result) }
+{
+    start.checked_add(life?)
 }
 
 /// How long a tick is: `None`, a quarter of the timeout, unless that is shorter than the shortest.
 fn tick_of(timeout: Duration) -> Option<Duration>
     // So it is never refused as too slow.
-    ensures { IfSome result (λ tick. as_nanos tick ≤ as_nanos timeout) }
+    ensures fits { IfSome result (λ tick. as_nanos tick ≤ as_nanos timeout) }
+    ensures quarter { 64 * 10 ^ 6 ≤ as_nanos timeout → result ≡ None }
+    ensures shortest { as_nanos timeout < 64 * 10 ^ 6 → IfSome result (λ tick. as_nanos tick
+        ≡ min (as_nanos timeout) (16 * 10 ^ 6)) }
+    ensures some { as_nanos timeout < 64 * 10 ^ 6 → IsSome result }
 {
     let shortest = Duration::from_millis(SHORTEST_TICK);
     if shortest.saturating_mul(4) <= timeout {

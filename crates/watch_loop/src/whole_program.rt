@@ -14,7 +14,7 @@ use std::io;
 use std::io::Write;
 use std::rt::Env;
 use watch_program::{
-    Complaints, Fault, Pace, command, end, folder_of, matches_of, pace_of, place_of,
+    Complaints, Fault, Pace, PlaceWord, command, end, folder_of, matches_of, pace_of, place_of,
     with_until_eof, words_of, write_missed,
 };
 
@@ -57,7 +57,11 @@ pub fn run_program<
 
 /// The command line.
 fn line_of<'a>(alloc: Global, name: &'a str, about: &'a str) -> Result<Command<'a>, AllocError> {
-    with_until_eof(alloc, command(alloc, name, about, "DIR")?)
+    let folder = PlaceWord {
+        name: "DIR",
+        help: "the folder that is watched, with all below it",
+    };
+    with_until_eof(alloc, command(alloc, name, about, folder)?)
 }
 
 /// The runtime's standard error. A program's own is lent to who takes its batches.

@@ -1,9 +1,11 @@
 -- How a program that watches ends: its exit status, and its line on standard error.
 use Rattle.std.specs.Prelude.{ℕ, List, [], ◌∷◌, ◌++◌, codes, Result, Ok, Err, ◌==◌, if◌then◌else◌}
 use Rattle.std.specs.Fmt.{decimal}
+use Rattle.std.specs.declared.io.ErrorKind.{ErrorKind}
+use Rattle.std.specs.declared.io.ErrorKind.TheVariants.{OutOfMemory}
 use Rattle.notify_paths.specs.Errors.{ErrorKindValue, MemoryKind, PathNotFoundKind}
 use Rattle.watch_program.specs.declared.fault.Fault.{Fault}
-use Rattle.watch_program.specs.declared.fault.Fault.TheVariants.{NotUtf8, NotPattern, Memory, NotThere, NotApart, CannotWatch, NotWatched, NoHints, InputTaken, OutputFailed, NoThread, Incomplete}
+use Rattle.watch_program.specs.declared.fault.Fault.TheVariants.{NotUtf8, NotPattern, Memory, NotThere, NotApart, CannotWatch, NotWatched, NoHints, InputTaken, ZerosWithoutHints, OutputFailed, NoThread, Incomplete, Io}
 
 -- the exit status of a program that ends by this fault
 abbrev pub fault_status : Fault → ℕ
@@ -16,9 +18,11 @@ fault_status CannotWatch = 5
 fault_status NotWatched = 5
 fault_status NoHints = 5
 fault_status InputTaken = 2
+fault_status ZerosWithoutHints = 2
 fault_status OutputFailed = 6
 fault_status NoThread = 8
 fault_status Incomplete = 1
+fault_status Io = 1
 
 -- the fault's line, for a program that watches this; there is none if the output failed, or if the line of a
 -- pattern or of one of several folders was written already
@@ -33,14 +37,21 @@ fault_line program watched CannotWatch = program ++ (codes ": cannot watch " ++ 
 fault_line program watched NotWatched = []
 fault_line program watched NoHints = program ++ codes ": the file of hints is not there\n"
 fault_line program watched InputTaken = program ++ codes ": hints cannot come by standard input\n"
+fault_line program watched ZerosWithoutHints = program ++ codes ": --hints-zero asks for --hints\n"
 fault_line program watched OutputFailed = []
 fault_line program watched NoThread = program ++ codes ": cannot start a thread\n"
 fault_line program watched Incomplete = program ++ codes ": not all could be done\n"
+fault_line program watched Io = program ++ codes ": a file or folder cannot be read or written\n"
 
 -- the fault of an error of this kind: want of memory, or else the other one
 abbrev pub fault_of : ErrorKindValue → Fault → Fault
 fault_of MemoryKind other = Memory
 fault_of kind other = other
+
+-- the fault of a call of the file system that failed by this kind of error
+abbrev pub fault_of_io : ErrorKind → Fault
+fault_of_io OutOfMemory = Memory
+fault_of_io kind = Io
 
 -- the fault of an error of this kind, if a path can't be watched
 abbrev pub fault_of_watch : ErrorKindValue → Fault

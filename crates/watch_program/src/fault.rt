@@ -1,7 +1,8 @@
 //! Why a program that watches ends.
 ghost use Rattle.std.specs.Prelude.{◌≡◌, OnOk};
 ghost use Rattle.std.specs.Io.KnownBytes.{Appends};
-ghost use Rattle.watch_program.specs.Faults.{fault_status, fault_line, fault_of, fault_of_watch, said_fault};
+ghost use Rattle.std.specs.IoError.{error_kind};
+ghost use Rattle.watch_program.specs.Faults.{fault_status, fault_line, fault_of, fault_of_io, fault_of_watch, said_fault};
 ghost use Rattle.watch_program.specs.declared.fault.Fault.TheVariants.{Memory, OutputFailed};
 
 use notify_paths::error::{Error, ErrorKind};
@@ -31,12 +32,16 @@ pub enum Fault {
     NoHints,
     /// Hints are to be read from standard input, which the program reads for something else.
     InputTaken,
+    /// A word says what stands after each hint, and none where hints are read.
+    ZerosWithoutHints,
     /// The output can't be written, for instance since its reader is gone.
     OutputFailed,
     /// A thread can't be started.
     NoThread,
     /// Something that was to be done failed, and was said when it did.
     Incomplete,
+    /// A call of the file system failed.
+    Io,
 }
 
 impl Fault {
@@ -67,7 +72,7 @@ impl Fault {
         ensures { result ≡ fault_status self }
     {
         match self {
-            Fault::NotUtf8 | Fault::NotPattern | Fault::InputTaken => 2,
+            Fault::NotUtf8 | Fault::NotPattern | Fault::InputTaken | Fault::ZerosWithoutHints => 2,
             Fault::Memory => 4,
             Fault::NotThere
             | Fault::NotApart
@@ -76,7 +81,7 @@ impl Fault {
             | Fault::NoHints => 5,
             Fault::OutputFailed => 6,
             Fault::NoThread => 8,
-            Fault::Incomplete => 1,
+            Fault::Incomplete | Fault::Io => 1,
         }
     }
 
@@ -118,9 +123,13 @@ impl Fault {
             Fault::CannotWatch => writeln!(err, "{program}: cannot watch {watched}"),
             Fault::NoHints => writeln!(err, "{program}: the file of hints is not there"),
             Fault::InputTaken => writeln!(err, "{program}: hints cannot come by standard input"),
+            Fault::ZerosWithoutHints => {
+                writeln!(err, "{program}: --hints-zero asks for --hints")
+            }
             Fault::NotPattern | Fault::NotWatched | Fault::OutputFailed => Ok(()),
             Fault::NoThread => writeln!(err, "{program}: cannot start a thread"),
             Fault::Incomplete => writeln!(err, "{program}: not all could be done"),
+            Fault::Io => writeln!(err, "{program}: a file or folder cannot be read or written"),
         }
     }
 }
@@ -138,6 +147,18 @@ impl<T: Drop> From<AllocFailed<T>> for Fault {
 
     fn from(_error: AllocFailed<T>) -> Fault {
         Fault::Memory
+    }
+}
+
+impl From<io::Error> for Fault {
+    ghost from_gives = { λ error e. e ≡ fault_of_io (error_kind error) };
+
+    /// Returns `Memory` if an allocation failed, or else `Io`, which doesn't say at which path.
+    fn from(error: io::Error) -> Fault {
+        match error.kind() {
+            io::ErrorKind::OutOfMemory => Fault::Memory,
+            _ => Fault::Io,
+        }
     }
 }
 

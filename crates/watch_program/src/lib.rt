@@ -26,9 +26,9 @@ pub use ends::{end, write_errors, write_left_out, write_missed, write_watching};
 pub use fault::Fault;
 pub use field::push_field;
 pub use output::write_now;
-pub use program::run_with_words;
+pub use program::{run_with_words, run_words};
 pub use watch_pace::{HintWords, Pace, hints_of, milliseconds_of, number_of, pace_of};
 pub use words::{
-    command, command_of_places, flag, folder_of, folders_of, matches_of, number, option, place_of,
-    places_of, with_until_eof, words_of,
+    PlaceWord, command, command_of_places, flag, folder_of, folders_of, matches_of, number, option,
+    place_arg, place_of, places_of, with_until_eof, words_of,
 };

@@ -1,11 +1,12 @@
 //! A program, from its words to its exit status.
-ghost use Rattle.std.specs.Prelude.{◌≡◌, ◌⊎◌};
-ghost use Rattle.std.specs.Fn.{FnOnceReturnsAt};
-ghost use Rattle.watch_program.specs.Faults.{end_status};
+ghost use Rattle.std.specs.Prelude.{◌≡◌, ◌⊎◌, ℕ, List, map};
+ghost use Rattle.std.specs.Fn.{FnOnceReturns, FnOnceReturnsAt};
+ghost use Rattle.std.specs.String.{string_bytes};
+ghost use Rattle.watch_program.specs.Words.{EndsAt};
 
 use crate::ends::end;
 use crate::fault::Fault;
-use crate::words::{matches_of, place_of, words_of};
+use crate::words::{check_hint_words, matches_of, place_of, words_of};
 use clap::{ArgMatches, Command};
 use std::alloc::{AllocError, Global};
 use std::io::Write;
@@ -22,17 +23,38 @@ pub fn run_with_words<
     F: FnOnce(&ArgMatches<'_>) -> Result<(), Fault>,
 >(rt: &R, name: &str, line: L, err: &mut E, run: F) -> u8
     requires ready { L.IsAlwaysCallable line × F.IsAlwaysCallable run }
-    ensures status { ((result ≡ 0) ⊎ ((result ≡ 2) ⊎ (result ≡ 4))) ⊎ ((matches : _) × (ran : _)
-        × FnOnceReturnsAt F.FnOnce run matches ran × (result ≡ end_status ran)) }
+    // The words can't be read, or are these.
+    ensures status { ((result ≡ 2) ⊎ (result ≡ 4)) ⊎ ((words : List (List ℕ)) × (asked : _)
+        × (command : _) × FnOnceReturns L.FnOnce line asked command
+        × EndsAt command words (FnOnceReturnsAt F.FnOnce run) result) }
 {
-    let words = match words_of(rt) {
-        Ok(words) => words,
-        Err(fault) => return end(Err(fault), name, "", err),
-    };
-    let matches = match matches_of(rt, line(rt.alloc(), name), words.as_slice()) {
+    match words_of(rt) {
+        Ok(words) => run_words(rt, name, line(rt.alloc(), name), words.as_slice(), err, run),
+        Err(fault) => end(Err(fault), name, "", err),
+    }
+}
+
+/// Reads these words by this command line, as [`run_with_words`] does those of the program.
+pub fn run_words<'a, R: Print + Eprint, E: Write, F: FnOnce(&ArgMatches<'_>) -> Result<(), Fault>>(
+    rt: &R,
+    name: &str,
+    command: Result<Command<'a>, AllocError>,
+    words: &'a [String],
+    err: &mut E,
+    run: F,
+) -> u8
+    requires ready { F.IsAlwaysCallable run }
+    ensures { EndsAt command.entry (map string_bytes words.entry.now)
+        (FnOnceReturnsAt F.FnOnce run) result }
+{
+    let matches = match matches_of(rt, command, words) {
         Ok(matches) => matches,
         Err(status) => return status,
     };
+    let checked = check_hint_words(&matches);
+    if checked.is_err() {
+        return end(checked, name, place_of(&matches), err);
+    }
     let ran = run(&matches);
     end(ran, name, place_of(&matches), err)
 }

@@ -1,9 +1,9 @@
 //! The words of a command line.
-ghost use Rattle.std.specs.Prelude.{◌≡◌, ◌⊎◌, ℕ, [], ◌∷◌, ◌++◌, false, map, codes, None, Some, unwrap_or, IfOk, IfErr};
+ghost use Rattle.std.specs.Prelude.{◌≡◌, ◌⊎◌, ℕ, [], ◌∷◌, ◌++◌, false, map, codes, None, Some, Err, MatchResult, unwrap_or, IfOk, IfErr};
 ghost use Rattle.std.specs.String.{string_bytes};
-ghost use Rattle.clap.specs.Words.{HasMatchesOf, app_of, first_value, found_of};
+ghost use Rattle.clap.specs.Words.{first_value, found_of, kind_of};
 ghost use Rattle.notify_paths.specs.PathText.{parts_of};
-ghost use Rattle.watch_program.specs.Words.{ids_of, places_in};
+ghost use Rattle.watch_program.specs.Words.{IsCheckOfHints, IsReading, ids_of, places_in, status_of_kind};
 ghost use Rattle.watch_program.specs.declared.fault.Fault.TheVariants.{NotUtf8, Memory};
 
 use crate::fault::Fault;
@@ -17,20 +17,32 @@ use std::{env, io};
 /// The version of each program, which is that of the Rust crate.
 const VERSION: &str = "0.6.0";
 
+/// A place on a command line, as `DIR`: how `--help` writes it, and what it says of it.
+#[derive(Clone, Copy, Debug)]
+pub struct PlaceWord<'a> {
+    /// How it is written.
+    pub name: &'a str,
+    /// What is said of it.
+    pub help: &'a str,
+}
+
 /// Returns a command line with one place, as `DIR`, and the options `--timeout`, `--interval`, `--hints`,
 /// `--hints-zero`, `--seconds` and `--ticks`.
 pub fn command<'a>(
     alloc: Global,
     name: &'a str,
     about: &'a str,
-    place: &'a str,
+    place: PlaceWord<'a>,
 ) -> Result<Command<'a>, AllocError>
     ensures words { IfOk result (λ c. ids_of c ≡ codes "place" ∷ codes "timeout"
         ∷ codes "interval" ∷ codes "hints" ∷ codes "hints-zero" ∷ codes "seconds"
         ∷ codes "ticks" ∷ []) }
 {
-    let place = Arg::new(alloc, "place").value_name(place).required(true);
-    with_options(alloc, with(without_words(alloc, name, about), place)?)
+    let line = with(
+        without_words(alloc, name, about)?,
+        place_arg(alloc, "place", place),
+    )?;
+    with_options(alloc, line)
 }
 
 /// Returns a command line as [`command`], with one place or several, as `DIR...`.
@@ -38,17 +50,26 @@ pub fn command_of_places<'a>(
     alloc: Global,
     name: &'a str,
     about: &'a str,
-    place: &'a str,
+    place: PlaceWord<'a>,
 ) -> Result<Command<'a>, AllocError>
     ensures words { IfOk result (λ c. ids_of c ≡ codes "place" ∷ codes "timeout"
         ∷ codes "interval" ∷ codes "hints" ∷ codes "hints-zero" ∷ codes "seconds"
         ∷ codes "ticks" ∷ []) }
 {
-    let place = Arg::new(alloc, "place").value_name(place).required(true);
-    with_options(
-        alloc,
-        with(without_words(alloc, name, about), place.num_args(1..))?,
-    )
+    let places = place_arg(alloc, "place", place).num_args(1..);
+    let line = with(without_words(alloc, name, about)?, places)?;
+    with_options(alloc, line)
+}
+
+/// Returns a place of this id, which has to be given.
+pub fn place_arg<'a>(alloc: Global, id: &'a str, place: PlaceWord<'a>) -> Arg<'a>
+    ensures id { result.id ≡ id.entry }
+    ensures local { result.global ≡ false }
+{
+    Arg::new(alloc, id)
+        .value_name(place.name)
+        .help(place.help)
+        .required(true)
 }
 
 /// Adds the options of each program that watches to a line with a place.
@@ -109,11 +130,17 @@ fn with_life<'a>(alloc: Global, line: Command<'a>) -> Result<Command<'a>, AllocE
     with(with(line, seconds)?, ticks)
 }
 
-/// A command line without a word, but for `--help` and `--version`.
-fn without_words<'a>(alloc: Global, name: &'a str, about: &'a str) -> Command<'a>
-    ensures { ids_of result ≡ [] }
+/// A command line without a word, but for `--help` and `--version`. Its usage has the program's name, whatever the
+/// file is called that is run.
+fn without_words<'a>(
+    alloc: Global,
+    name: &'a str,
+    about: &'a str,
+) -> Result<Command<'a>, AllocError>
+    ensures { IfOk result (λ c. ids_of c ≡ []) }
 {
-    Command::new(alloc, name).about(about).version(VERSION)
+    let line = Command::new(alloc, name).bin_name(name)?;
+    Ok(line.about(about).version(VERSION))
 }
 
 /// Adds a word.
@@ -155,6 +182,16 @@ pub fn flag<'a>(alloc: Global, name: &'a str) -> Arg<'a>
     ensures local { result.global ≡ false }
 {
     Arg::new(alloc, name).action(ArgAction::SetTrue)
+}
+
+/// Refuses `--hints-zero` without `--hints`.
+pub(crate) fn check_hint_words(matches: &ArgMatches<'_>) -> Result<(), Fault>
+    ensures { IsCheckOfHints (found_of matches.now) result }
+{
+    if matches.get_flag("hints-zero") && matches.get_str("hints").is_none() {
+        return Err(Fault::ZerosWithoutHints);
+    }
+    Ok(())
 }
 
 /// Returns the place: what the program watches.
@@ -232,8 +269,8 @@ pub fn matches_of<'a, R: Print + Eprint>(
     command: Result<Command<'a>, AllocError>,
     words: &'a [String],
 ) -> Result<ArgMatches<'a>, u8>
-    ensures ok { IfOk command.entry (λ c. IfOk result
-        (HasMatchesOf (app_of c) (map string_bytes words.entry.now))) }
+    ensures reading { MatchResult command.entry
+        (λ c. IsReading c (map string_bytes words.entry.now) result) (λ _. result ≡ Err 4) }
     ensures err { IfErr result (λ status. (status ≡ 0) ⊎ ((status ≡ 2) ⊎ (status ≡ 4))) }
 {
     let Ok(command) = command else {
@@ -248,7 +285,8 @@ pub fn matches_of<'a, R: Print + Eprint>(
 /// Prints what there is to say, and returns the status: 0 for help and the version, 4 if an allocation
 /// failed, and else 2.
 fn print<R: Print + Eprint>(rt: &R, error: &Error) -> u8
-    ensures { (result ≡ 0) ⊎ ((result ≡ 2) ⊎ (result ≡ 4)) }
+    ensures status { result ≡ status_of_kind (kind_of error.now) }
+    ensures known { (result ≡ 0) ⊎ ((result ≡ 2) ⊎ (result ≡ 4)) }
 {
     let _ = error.print(rt);
     match error.kind() {

@@ -1,3 +1,4 @@
 pub mod Nothing
 pub mod IndexLaw
 pub mod WordLemmas
+pub mod Again

@@ -1,3 +1,4 @@
 pub mod Index
 pub mod Words
 pub mod Answer
+pub mod Kept

@@ -1,7 +1,8 @@
 //! An index of documents by their words, kept up to date by batches of file events.
 //!
 //! A [`index::DocumentIndex`] holds the words of each document, and answers which documents have a
-//! word. For a batch, read anew what its events name, and hand over what was read.
+//! word. For a batch, read anew what its events name, and hand over what was read. A [`kept::KeptIndex`]
+//! does that, and reads again what was missing.
 //!
 //! ```text
 //! let mut index = DocumentIndex::new(rt.alloc());
@@ -13,4 +14,6 @@
 
 pub mod answer;
 pub mod index;
+pub mod kept;
+mod missing;
 pub mod words;

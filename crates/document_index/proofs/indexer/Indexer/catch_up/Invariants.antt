@@ -1,0 +1,12 @@
+use Rattle.document_index.specs.Read.{IsReadAmong}
+use Rattle.word_index.specs.Index.{IndexValue}
+use Rattle.word_index.specs.Kept.{CatchesUp}
+use Rattle.document_index.proofs.indexer.Indexer.catch_up.Given as goal
+
+-- what the index catches up with after the reports that were taken, it does with all
+abbrev pub invariant-loop : goal.invariant-loop
+invariant-loop g l = record {
+  iterates : (goal.iterator-loop g).can_next l.iterator' × (goal.iterator-loop g).is_finite l.iterator';
+  done : (after : IndexValue) → CatchesUp IsReadAmong l.self.kept.index after →
+      CatchesUp IsReadAmong l.fn.self.kept.index after;
+}

@@ -1,0 +1,85 @@
+//! An index that is kept up to date by what is reported.
+ghost use Rattle.std.specs.Prelude.{◌≡◌, ◌∷◌, [], OnOk};
+ghost use Rattle.document_index.specs.Answered.{Begins};
+ghost use Rattle.document_index.specs.Read.{IsReadAmong};
+ghost use Rattle.word_index.specs.Kept.{CatchesUp, TakesEach};
+
+use crate::NAME;
+use crate::documents::Documents;
+use notify_debouncer_full::{DebounceEventResult, DebouncerRuntime};
+use std::alloc::Global;
+use std::io::Write;
+use std::time::Duration;
+use watch_loop::FolderReports;
+use watch_program::{Fault, write_errors, write_missed, write_watching};
+use word_index::kept::KeptIndex;
+
+/// An index of documents, and where what goes wrong with them is said.
+#[derive(Drop)]
+pub(crate) struct Indexer<R: Drop, E: Drop> {
+    pub(crate) documents: Documents<R>,
+    pub(crate) kept: KeptIndex,
+    pub(crate) err: E,
+}
+
+impl<R: DebouncerRuntime + AllocGlobal, E: Write + Drop> Indexer<R, E> {
+    /// Returns that of no documents yet.
+    pub(crate) fn new(alloc: Global, documents: Documents<R>, err: E) -> Indexer<R, E>
+        ensures { result.kept.index ≡ [] }
+    {
+        Indexer {
+            documents,
+            kept: KeptIndex::new(alloc),
+            err,
+        }
+    }
+
+    /// Says that the folder is watched, and indexes what stands there. From then on the reports say what
+    /// changes.
+    pub(crate) fn begin(&mut self) -> Result<(), Fault>
+        ensures begun { OnOk result (Begins IsReadAmong self.old.documents.folder
+            self.old.kept.index self.new.kept.index) }
+    {
+        let _ = write_watching(self.documents.folder.as_str(), NAME, &mut self.err);
+        let batch = self.documents.all()?;
+        self.kept.take_batch(&self.documents, batch.as_slice())
+    }
+
+    /// Takes a report, or prints a line for each error. After an error the watcher looks again, so no change
+    /// is lost by one.
+    pub(crate) fn take_report(&mut self, report: &DebounceEventResult) -> Result<(), Fault>
+        ensures taken { OnOk result (TakesEach IsReadAmong (report.now ∷ [])
+            self.old.kept.index self.new.kept.index) }
+    {
+        match report {
+            Ok(batch) => self.kept.take_batch(&self.documents, batch.as_slice()),
+            Err(errors) => {
+                write_errors(errors.as_slice(), NAME, &mut self.err);
+                Ok(())
+            }
+        }
+    }
+
+    /// Takes the reports that have come, and reads again what was missing.
+    pub(crate) fn catch_up(
+        &mut self,
+        rt: R,
+        reports: &mut FolderReports<'_, R, E>,
+    ) -> Result<(), Fault>
+        ensures caught { OnOk result (CatchesUp IsReadAmong
+            self.old.kept.index self.new.kept.index) }
+    {
+        for _ in rt.forever() {
+            match reports.next_within(Duration::from_millis(1)) {
+                Some(report) => self.take_report(&report)?,
+                None => return self.kept.read_again(&self.documents),
+            }
+        }
+        unreachable!()
+    }
+
+    /// Says how many events, errors and batches were lost, if any was.
+    pub(crate) fn say_missed(&mut self, missed: u64) {
+        write_missed(missed, NAME, &mut self.err);
+    }
+}

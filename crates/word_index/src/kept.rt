@@ -1,0 +1,87 @@
+//! An index that follows what is reported.
+ghost use Rattle.std.specs.Prelude.{◌≡◌, [], IfOk, OnOk};
+ghost use Rattle.std.specs.Map.{keys_of};
+ghost use Rattle.debounce_model.specs.Play.{events_of};
+ghost use Rattle.word_index.specs.Kept.{ReadsAgain, Takes};
+
+use crate::index::DocumentIndex;
+use crate::missing::{Missing, Reading};
+use crate::words::Words;
+use batch_plan::wanting::wanted;
+use notify_paths::path::PathBuf;
+use notify_types::event::DebouncedEvent;
+use std::alloc::Global;
+use std::collections::BTreeMap;
+use watch_program::Fault;
+
+/// Documents, which are read anew at each call.
+pub trait ReadsDocuments {
+    ghost use Rattle.debounce_model.specs.Play.{Paths};
+    ghost use Rattle.word_index.specs.Index.{IndexValue};
+
+    /// What may be read at paths: who reads says which documents these are.
+    ghost reads: { Self → Paths → IndexValue → Type 0 };
+
+    /// Reads what stands at these paths.
+    fn read(&self, paths: &BTreeMap<PathBuf, ()>) -> Result<BTreeMap<PathBuf, Words>, Fault>
+        ensures { IfOk result (λ read. reads self.now (keys_of paths.now.entries) read.entries) };
+
+    /// Whether the path, at which nothing was read, is to be read later: nothing stands there, or what does can't
+    /// be read now.
+    fn is_missing(&self, path: &PathBuf) -> bool;
+}
+
+/// An index of documents that follows batches. What was reported and isn't there yet is read again.
+#[derive(Drop)]
+pub struct KeptIndex {
+    alloc: Global,
+    /// The index.
+    pub index: DocumentIndex,
+    missing: Missing,
+}
+
+impl KeptIndex {
+    /// Returns the index of no documents.
+    pub fn new(alloc: Global) -> KeptIndex
+        ensures { result.index ≡ [] }
+    {
+        KeptIndex {
+            alloc,
+            index: DocumentIndex::new(alloc),
+            missing: Missing::new(alloc),
+        }
+    }
+
+    /// Brings the index up to date at the paths of the batch. A removal only removes, and what isn't there yet is
+    /// read later, by `read_again`.
+    pub fn take_batch<D: ReadsDocuments>(
+        &mut self,
+        documents: &D,
+        batch: &[DebouncedEvent],
+    ) -> Result<(), Fault>
+        ensures taken { OnOk result (Takes (D.reads documents.now) (events_of batch.now)
+            self.old.index self.new.index) }
+    {
+        let paths = wanted(self.alloc, batch)?;
+        let read = documents.read(&paths)?;
+        let reading = Reading {
+            documents,
+            paths: &paths,
+            read: &read,
+        };
+        self.missing.note(&self.index, batch, &reading)?;
+        Ok(self.index.take_batch(read, batch)?)
+    }
+
+    /// Reads again what was missing.
+    pub fn read_again<D: ReadsDocuments>(&mut self, documents: &D) -> Result<(), Fault>
+        ensures again { OnOk result (ReadsAgain (D.reads documents.now)
+            (keys_of self.old.missing.paths.entries) self.old.index self.new.index) }
+    {
+        if self.missing.is_empty() {
+            return Ok(());
+        }
+        let batch = self.missing.batch()?;
+        self.take_batch(documents, batch.as_slice())
+    }
+}
