@@ -31,7 +31,7 @@ impl<R: DebouncerRuntime + AllocGlobal> Documents<R> {
     /// Returns a batch that names all that stands at the folder and below it.
     pub(crate) fn all(&self) -> Result<Vec<DebouncedEvent>, Fault> {
         let alloc = self.rt.alloc();
-        let mut folders = RealFolders::new(self.rt, alloc);
+        let mut folders = self.folders()?;
         let root = (self.folder.clone()?, RecursiveMode::Recursive);
         let listing = match list(alloc, &mut folders, &[root]) {
             Ok(listing) => listing,
@@ -74,17 +74,24 @@ impl<R: DebouncerRuntime + AllocGlobal> Documents<R> {
         Ok(())
     }
 
-    /// Whether nothing stands at the path, or nobody can say what.
-    pub(crate) fn is_missing(&self, path: &PathBuf) -> bool {
-        !matches!(
-            RealFolders::new(self.rt, self.rt.alloc()).look(path),
-            Ok(Some(_))
-        )
+    /// What is looked at. A link is followed at the folder itself, and nowhere else.
+    fn folders(&self) -> Result<RealFolders<R>, Fault> {
+        let alloc = self.rt.alloc();
+        let mut folders = RealFolders::new(self.rt, alloc);
+        let mut followed = Vec::new(alloc);
+        followed.push(self.folder.clone()?)?;
+        folders.follow(&mut followed);
+        Ok(folders)
     }
 
-    /// The words of what stands at the path, if something does. Links aren't followed.
+    /// Whether nothing stands at the path, or nobody can say what.
+    pub(crate) fn is_missing(&self, path: &PathBuf) -> Result<bool, Fault> {
+        Ok(!matches!(self.folders()?.look(path), Ok(Some(_))))
+    }
+
+    /// The words of what stands at the path, if something does.
     fn words_at(&self, path: &PathBuf) -> Result<Option<Words>, Fault> {
-        match RealFolders::new(self.rt, self.rt.alloc()).look(path) {
+        match self.folders()?.look(path) {
             Ok(Some(found)) if found.kind.is_file() => Ok(Some(self.words_in(path)?)),
             Ok(Some(found)) if found.kind.is_folder() => Ok(Some(Words::new(self.rt.alloc()))),
             Ok(_) | Err(_) => Ok(None),

@@ -96,7 +96,7 @@ impl<R: DebouncerRuntime + AllocGlobal, O: Write + Drop, E: Write + Drop> Servic
         read: &BTreeMap<PathBuf, Words>,
     ) -> Result<(), Fault> {
         for path in paths.keys() {
-            let is_missing = !read.contains_key(path) && self.documents.is_missing(path);
+            let is_missing = !read.contains_key(path) && self.documents.is_missing(path)?;
             self.note(path, is_missing)?;
         }
         Ok(())
