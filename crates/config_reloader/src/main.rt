@@ -8,11 +8,11 @@ ghost use Rattle.watch_loop.specs.FollowsFolder.{folder_source};
 
 use clap::{ArgMatches, Command};
 use config_state::{Follower, Place, Reloader};
-use notify_debouncer_full::{DebouncerRuntime, PathBuf, RecursiveMode};
+use notify_debouncer_full::{DebouncerRuntime, PathBuf};
 use std::alloc::{AllocError, Global};
 use std::io::Write;
 use std::process::ExitCode;
-use watch_loop::follow_folder;
+use watch_loop::follow_file;
 use watch_program::{
     Complaints, Fault, Pace, PlaceWord, command, pace_of, place_of, run_with_words, with_until_eof,
     write_missed,
@@ -33,11 +33,12 @@ fn command_line<'a>(alloc: Global, name: &'a str) -> Result<Command<'a>, AllocEr
     with_until_eof(alloc, command(alloc, name, ABOUT, file)?)
 }
 
-/// Reads the file, and then whenever its folder's reports may be about it. If events were missed, it is
-/// read anew at the end.
+/// Reads the file, and then whenever its folder's reports may be about it, or about what links there lead to. If
+/// events were missed, it is read anew at the end.
 fn watch<R: DebouncerRuntime + AllocGlobal, O: Write + Drop, E: Write + Drop>(
     rt: R,
     folder: &PathBuf,
+    file: &PathBuf,
     pace: Pace<'_>,
     complaints: Complaints<'_, E>,
     follower: &mut Follower<'_, R, O, E>,
@@ -45,8 +46,7 @@ fn watch<R: DebouncerRuntime + AllocGlobal, O: Write + Drop, E: Write + Drop>(
     ensures read { OnOk result (ReadsToEnd folder_source tt follower.old.file follower.old.reloader
         (O.contents follower.old.out) follower.new.reloader (O.contents follower.new.out)) }
 {
-    let mode = RecursiveMode::NonRecursive;
-    let missed = follow_folder(rt, folder, mode, pace, complaints, follower)?;
+    let missed = follow_file(rt, folder, file, pace, complaints, follower)?;
     write_missed(missed, NAME, &mut follower.err);
     follower.read_if_missed(missed)
 }
@@ -63,12 +63,13 @@ fn run<R: DebouncerRuntime + AllocGlobal, O: Write + Drop, E: Write + Drop>(
     let mut follower = Follower {
         rt,
         name: NAME,
-        file,
+        file: file.clone()?,
         reloader: Reloader::new(),
         out,
         err,
     };
-    watch(rt, &folder, pace_of(matches), complaints, &mut follower)
+    let pace = pace_of(matches);
+    watch(rt, &folder, &file, pace, complaints, &mut follower)
 }
 
 fn main(rt: HostRuntime) -> ExitCode {

@@ -35,7 +35,7 @@ impl<R: DebouncerRuntime + AllocGlobal> Documents<R> {
             × (batch.items ≡ namings self.now.folder listing)) }
     {
         let alloc = self.rt.alloc();
-        let mut folders = RealFolders::new(self.rt, alloc);
+        let mut folders = self.folders()?;
         let root = (self.folder.clone()?, RecursiveMode::Recursive);
         let listing = match list(alloc, &mut folders, &[root]) {
             Ok(listing) => listing,
@@ -69,9 +69,19 @@ impl<R: DebouncerRuntime + AllocGlobal> Documents<R> {
         Ok(())
     }
 
+    /// What is looked at. A link is followed at the folder itself, and nowhere else.
+    fn folders(&self) -> Result<RealFolders<R>, Fault> {
+        let alloc = self.rt.alloc();
+        let mut folders = RealFolders::new(self.rt, alloc);
+        let mut followed = Vec::new(alloc);
+        followed.push(self.folder.clone()?)?;
+        folders.follow(&mut followed);
+        Ok(folders)
+    }
+
     /// The words of what stands at the path, if something does that can be read. Links aren't followed.
     fn words_at(&self, path: &PathBuf) -> Result<Option<Words>, Fault> {
-        match RealFolders::new(self.rt, self.rt.alloc()).look(path) {
+        match self.folders()?.look(path) {
             Ok(Some(found)) if found.kind.is_file() => self.words_in(path),
             Ok(Some(found)) if found.kind.is_folder() => Ok(Some(Words::new(self.rt.alloc()))),
             Ok(_) | Err(_) => Ok(None),
@@ -102,7 +112,10 @@ impl<R: DebouncerRuntime + AllocGlobal> ReadsDocuments for Documents<R> {
 
     /// Nothing stands there, or a file that couldn't be read: whoever asks has read nothing there.
     fn is_missing(&self, path: &PathBuf) -> bool {
-        match RealFolders::new(self.rt, self.rt.alloc()).look(path) {
+        let Ok(mut folders) = self.folders() else {
+            return true;
+        };
+        match folders.look(path) {
             Ok(Some(found)) => found.kind.is_file(),
             Ok(None) | Err(_) => true,
         }

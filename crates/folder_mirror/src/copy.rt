@@ -2,6 +2,7 @@
 ghost use Rattle.std.specs.Prelude.{◌≡◌, option_map, IfOk, IfSome};
 ghost use Rattle.batch_plan.specs.Target.{target_of};
 
+use crate::apart::check_apart;
 use crate::looks::{Seen, is_missing};
 use crate::writing::{Original, fill, open_new};
 use batch_plan::action::Standing;
@@ -43,7 +44,7 @@ impl<R: Files + AllocGlobal + Copy + Drop> FolderCopy<R> {
         to: PathBuf,
         leave: Leave,
     ) -> Result<FolderCopy<R>, Fault> {
-        let Ok(found) = fs::symlink_metadata(&rt, from.as_str()) else {
+        let Ok(found) = fs::metadata(&rt, from.as_str()) else {
             return Err(Fault::NotThere);
         };
         let to_device = match fs::metadata(&rt, to.as_str()) {
@@ -60,10 +61,16 @@ impl<R: Files + AllocGlobal + Copy + Drop> FolderCopy<R> {
         })
     }
 
-    /// Whether the folder is there, on the disk on which it was.
+    /// Whether the folder is there, on the disk on which it was, and apart from the copy: a link that leads to it may
+    /// come to lead elsewhere, or to itself.
     pub(crate) fn has_folder(&self) -> io::Result<bool> {
-        match fs::symlink_metadata(&self.rt, self.from.as_str()) {
-            Ok(found) => Ok(found.is_dir() && found.dev() == self.from_device),
+        match fs::metadata(&self.rt, self.from.as_str()) {
+            Ok(found) => {
+                let is_here = found.is_dir() && found.dev() == self.from_device;
+                let (from, to) = (self.from.as_str(), self.to.as_str());
+                Ok(is_here && check_apart(&self.rt, from, to).is_ok())
+            }
+            Err(error) if error.kind() == io::ErrorKind::FilesystemLoop => Ok(false),
             Err(error) if is_missing(&error) => Ok(false),
             Err(error) => Err(error),
         }
@@ -77,9 +84,15 @@ impl<R: Files + AllocGlobal + Copy + Drop> FolderCopy<R> {
         }
     }
 
-    /// Looks at the path of the folder. No link is followed: below one nothing is there.
+    /// Looks at the path of the folder. A link is followed at the folder itself alone: below another one nothing is
+    /// there.
     pub(crate) fn look_at(&self, path: &PathBuf) -> Seen {
-        let seen = match fs::symlink_metadata(&self.rt, path.as_str()) {
+        let found = if *path == self.from {
+            fs::metadata(&self.rt, path.as_str())
+        } else {
+            fs::symlink_metadata(&self.rt, path.as_str())
+        };
+        let seen = match found {
             Ok(found) if found.is_dir() => Seen::Stands(Standing::Folder),
             Ok(found) if found.is_file() => Seen::Stands(Standing::File),
             Ok(_) => Seen::Other,
@@ -105,7 +118,7 @@ impl<R: Files + AllocGlobal + Copy + Drop> FolderCopy<R> {
     /// alone.
     pub(crate) fn check_names(&self, folder: &PathBuf) -> io::Result<()> {
         if folder.starts_with(&self.from) {
-            self.rt.open_dir(folder.as_str())?;
+            fs::read_dir(&self.rt, folder.as_str())?;
         }
         Ok(())
     }

@@ -12,7 +12,7 @@ use std::io;
 use std::time::Clock;
 use watch_program::Fault;
 
-/// What a look at a path answers. Links aren't followed.
+/// What a look at a path answers.
 #[derive(Drop)]
 pub(crate) enum Seen {
     /// What is copied.
@@ -194,13 +194,18 @@ pub(crate) fn beside<R: Files + Clock + AllocGlobal + Copy + Drop>(
     Ok(batch)
 }
 
-/// What stands at the folder and below it.
+/// What stands at the folder, or where a link there leads to, and below it.
 fn listing_of<R: Files + Clock + AllocGlobal + Copy + Drop>(
     rt: R,
     folder: &PathBuf,
 ) -> Result<Listing, Fault> {
+    let alloc = rt.alloc();
+    let mut folders = RealFolders::new(rt, alloc);
+    let mut followed = Vec::new(alloc);
+    followed.push(folder.clone()?)?;
+    folders.follow(&mut followed);
     let root = (folder.clone()?, RecursiveMode::Recursive);
-    match list(rt.alloc(), &mut RealFolders::new(rt, rt.alloc()), &[root]) {
+    match list(alloc, &mut folders, &[root]) {
         Ok(listing) => Ok(listing),
         Err(error) => Err(Fault::of(&error, Fault::CannotWatch)),
     }

@@ -36,7 +36,8 @@ impl<R: DebouncerRuntime + AllocGlobal> Live<R> {
     {
         let config = Config::default()
             .with_poll_interval(pace.interval)
-            .with_initial_events(pace.initial);
+            .with_initial_events(pace.initial)
+            .with_root_links(true);
         let end = end_of(&rt, pace.life);
         let input = InputEnd::new(rt.alloc(), pace.until_eof)?;
         let tick = tick_of(pace.timeout);
@@ -48,6 +49,16 @@ impl<R: DebouncerRuntime + AllocGlobal> Live<R> {
                 input,
             }),
             Err(error) => Err(Fault::of(&error, Fault::NoThread)),
+        }
+    }
+
+    /// Follows links at the path of this file, wherever its folder is watched.
+    pub(crate) fn follow(&self, file: &PathBuf) -> Result<(), Fault>
+        ensures err { IfErr result (λ e. e ≡ Memory) }
+    {
+        match self.reports.debouncer().watcher().follow(file) {
+            Ok(()) => Ok(()),
+            Err(_) => Err(Fault::Memory),
         }
     }
 

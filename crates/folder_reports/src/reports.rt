@@ -42,6 +42,26 @@ impl<'n, R: DebouncerRuntime + AllocGlobal, E: Write + Drop> FolderReports<'n, R
         Ok(FolderReports { live, complaints })
     }
 
+    /// Watches the file's folder, as `start`, with what is in it. A link at the file's path is followed: what is
+    /// reported of the file is what it leads to.
+    pub fn start_file(
+        rt: R,
+        folder: &PathBuf,
+        file: &PathBuf,
+        pace: Pace<'_>,
+        complaints: Complaints<'n, E>,
+    ) -> Result<FolderReports<'n, R, E>, Fault>
+        ensures err { IfErr result IsStartFault }
+        ensures unsaid { IfErr result (λ e. e ≢ NotWatched) }
+    {
+        check_hints(&rt, pace.hints)?;
+        let mut live = Live::start(rt, pace)?;
+        live.follow(file)?;
+        live.watch(folder, RecursiveMode::NonRecursive)?;
+        live.start_reading(slice::from_ref(folder), pace)?;
+        Ok(FolderReports { live, complaints })
+    }
+
     /// Watches each of the folders from now on, in order, as `start`. One of them that can't be watched is said
     /// (`NAME: cannot watch FOLDER`), and the fault that is left then is returned.
     pub fn start_all(

@@ -10,18 +10,20 @@ pub struct Config {
     poll_interval: Duration,
     modified_times: bool,
     initial_events: bool,
+    root_links: bool,
 }
 
 impl Default for Config {
     ghost is_default = { IsDefaultConfig };
 
-    /// Returns the settings of most programs: a poll each second, by lengths and modified times, and no
-    /// event of what stands at a path when it is watched.
+    /// Returns the settings of most programs: a poll each second, by lengths and modified times, no event of what
+    /// stands at a path when it is watched, and no link followed.
     fn default() -> Config {
         Config {
             poll_interval: Duration::from_secs(1),
             modified_times: true,
             initial_events: false,
+            root_links: false,
         }
     }
 }
@@ -80,6 +82,26 @@ impl Config {
         ensures { result ≡ self.now.initial_events }
     {
         self.initial_events
+    }
+
+    /// Sets whether a polling watcher follows a link at a path that is watched, at each look anew. What it reports has
+    /// the path as it was given, and a link that comes to lead elsewhere is the difference of what both lead to. One
+    /// that leads nowhere, or to itself, counts as missing. A link below a watched path isn't followed, unless it is
+    /// watched itself.
+    pub fn with_root_links(self, followed: bool) -> Config
+        ensures { result ≡ record self { root_links = followed } }
+    {
+        Config {
+            root_links: followed,
+            ..self
+        }
+    }
+
+    /// Returns whether a polling watcher follows a link at a path that is watched.
+    pub fn root_links(&self) -> bool
+        ensures { result ≡ self.now.root_links }
+    {
+        self.root_links
     }
 }
 

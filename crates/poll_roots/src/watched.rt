@@ -1,12 +1,12 @@
 //! What a polling watcher keeps under its lock.
-ghost use Rattle.std.specs.Prelude.{◌≡◌, ◌+◌, ◌-◌, ◌^◌, min, None, false, true};
+ghost use Rattle.std.specs.Prelude.{◌≡◌, ◌+◌, ◌-◌, ◌^◌, min, None, false, true, IfErr};
+ghost use Rattle.notify_paths.specs.Errors.{out_of_memory};
 
 use crate::polled::Polled;
 use notify_paths::error::Error;
 use notify_paths::path::PathBuf;
 use notify_types::event::Event;
 use notify_watch::handler::EventHandler;
-use poll_rounds::folders::Folders;
 use real_folders::noting::NotingFolders;
 use real_folders::real::RealFolders;
 use std::alloc::Allocator;
@@ -18,6 +18,8 @@ use std::time::Clock;
 pub struct Watched<A: Allocator> {
     /// Its roots and their last listing.
     pub polled: Polled<A>,
+    /// Where links are followed. Folders have it while they are looked at, by [`RealFolders::follow`].
+    pub followed: Vec<PathBuf<A>, A>,
     /// Where the last round failed, if it did, as far as there was memory for the path.
     pub failed_path: Option<PathBuf<A>>,
     /// How many names the last round that went well left out, with those of paths that were watched since.
@@ -29,8 +31,38 @@ impl<A: Allocator + Copy> Watched<A> {
     pub fn new(alloc: A) -> Watched<A> {
         Watched {
             polled: Polled::new(alloc),
+            followed: Vec::new(alloc),
             failed_path: None,
             left_out: 0,
+        }
+    }
+
+    /// Follows a link at the path from the next look on.
+    pub fn follow(&mut self, path: &PathBuf<A>) -> Result<(), Error<A>>
+        ensures same { self.new.polled ≡ self.old.polled }
+        ensures err { IfErr result (λ e. e ≡ out_of_memory) }
+    {
+        if self.followed.iter().any(|followed| *followed == *path) {
+            return Ok(());
+        }
+        let alloc = *self.followed.allocator();
+        let Ok(()) = self.followed.push(path.try_clone()?) else {
+            return Err(Error::out_of_memory(alloc));
+        };
+        Ok(())
+    }
+
+    /// Follows no link at the path any longer, unless it is watched.
+    pub fn unfollow(&mut self, path: &PathBuf<A>)
+        ensures same { self.new.polled ≡ self.old.polled }
+    {
+        if !self
+            .polled
+            .roots()
+            .iter()
+            .any(|(root, _mode)| *root == *path)
+        {
+            self.followed.retain(|followed| *followed != *path);
         }
     }
 
@@ -47,7 +79,9 @@ impl<A: Allocator + Copy> Watched<A> {
         ensures same { result ≡ false → self.new.left_out ≡ self.old.left_out }
     {
         let before = folders.inner().left_out();
+        folders.follow(&mut self.followed);
         let went_well = self.polled.round(folders, handler);
+        folders.follow(&mut self.followed);
         let failed_path = folders.take_failed_path();
         if went_well {
             self.left_out = folders.inner().left_out().saturating_sub(before);
@@ -64,16 +98,21 @@ impl<A: Allocator + Copy> Watched<A> {
     }
 
     /// Looks at these paths. Where a look fails isn't kept: a round follows it.
-    pub fn look_at<D: Folders<A> + Drop, F: EventHandler<Result<Event<A>, Error<A>>>>(
+    pub fn look_at<
+        F: EventHandler<Result<Event<A>, Error<A>>>,
+        R: Files + Clock + Alloc + Clone + Drop,
+    >(
         &mut self,
-        folders: &mut NotingFolders<D, A>,
+        folders: &mut NotingFolders<RealFolders<R, A>, A>,
         handler: &mut F,
         paths: &[PathBuf<A>],
     ) -> bool
         requires { F.ready handler.old }
         ensures { F.ready handler.new }
     {
+        folders.follow(&mut self.followed);
         let went_well = self.polled.look_at(folders, handler, paths);
+        folders.follow(&mut self.followed);
         folders.take_failed_path();
         went_well
     }

@@ -6,6 +6,7 @@ ghost use Rattle.folder_listing.specs.Listing.{entry_at};
 ghost use Rattle.poll_rounds.specs.Folders.{IsRefusal, NamesOf};
 ghost use Rattle.real_folders.specs.Noted.{IsNoted, Notes};
 
+use crate::real::RealFolders;
 use folder_listing::entry::Found;
 use notify_paths::error::Error;
 use notify_paths::path::PathBuf;
@@ -53,6 +54,17 @@ impl<D: Drop, A: Allocator + Copy> NotingFolders<D, A> {
         ensures noted { IsNoted path.now self.new.failed_path }
     {
         self.failed_path = path.try_clone().ok();
+    }
+}
+
+impl<R: Drop, A: Allocator + Copy> NotingFolders<RealFolders<R, A>, A> {
+    /// Follows links at these paths and no other, as [`RealFolders::follow`].
+    pub fn follow(&mut self, paths: &mut Vec<PathBuf<A>, A>)
+        ensures taken { paths.new ≡ self.old.inner.followed }
+        ensures left { self.new.inner ≡ record self.old.inner { followed = paths.old } }
+        ensures noted { self.new.failed_path ≡ self.old.failed_path }
+    {
+        self.inner.follow(paths);
     }
 }
 

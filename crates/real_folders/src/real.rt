@@ -15,9 +15,10 @@ use real_entries::times::ModifiedTimes;
 use std::alloc::{Allocator, Global};
 use std::fs::{Files, Metadata};
 use std::time::Clock;
-use std::{fs, io};
+use std::{fs, io, mem};
 
-/// The real file system. It can't tell its tree, which others change.
+/// The real file system. It can't tell its tree, which others change. A link is followed where
+/// [`follow`](RealFolders::follow) says so, and nowhere else.
 #[derive(Drop)]
 pub struct RealFolders<R: Drop, A: Allocator = Global> {
     rt: R,
@@ -27,6 +28,8 @@ pub struct RealFolders<R: Drop, A: Allocator = Global> {
     left_out: u64,
     /// How modified times are asked for, if they are.
     times: Option<ModifiedTimes>,
+    /// Where a link is followed.
+    followed: Vec<PathBuf<A>, A>,
 }
 
 impl<R: Drop, A: Allocator + Copy> RealFolders<R, A> {
@@ -42,6 +45,7 @@ impl<R: Drop, A: Allocator + Copy> RealFolders<R, A> {
             failures: 0,
             left_out: 0,
             times: None,
+            followed: Vec::new(alloc),
         }
     }
 
@@ -59,7 +63,22 @@ impl<R: Drop, A: Allocator + Copy> RealFolders<R, A> {
             failures: 0,
             left_out: 0,
             times: Some(ModifiedTimes::new()),
+            followed: Vec::new(alloc),
         }
+    }
+
+    /// Follows a link at each of these paths from now on, and at no other, and gives those of before in exchange. A link
+    /// that leads nowhere, or to itself, counts as missing then.
+    pub fn follow(&mut self, paths: &mut Vec<PathBuf<A>, A>)
+        ensures taken { paths.new ≡ self.old.followed }
+        ensures left { self.new ≡ record self.old { followed = paths.old } }
+    {
+        mem::swap(&mut self.followed, paths);
+    }
+
+    /// Whether a link at the path is followed.
+    fn follows(&self, path: &PathBuf<A>) -> bool {
+        self.followed.iter().any(|followed| *followed == *path)
     }
 
     /// Returns how many names were left out of what [`names`](Folders::names) answered so far, since they aren't
@@ -105,7 +124,8 @@ impl<R: Files + Clock + Drop, A: Allocator + Copy> Folders<A> for RealFolders<R,
         ensures folder { IfOk result (λ r. IfSome r (λ found.
             is_same_kind Folder found.kind ≡ true → found.modified ≡ None)) }
     {
-        match self.metadata_at(path.as_str()) {
+        let follows = self.follows(path);
+        match self.metadata_at(path.as_str(), follows) {
             Ok(metadata) => Ok(Some(found_of(&self.rt, &metadata, &mut self.times))),
             Err(error) if is_missing(path.as_str(), &error) => Ok(None),
             Err(error) => Err(self.refusal(&error)),
@@ -113,8 +133,7 @@ impl<R: Files + Clock + Drop, A: Allocator + Copy> Folders<A> for RealFolders<R,
     }
 
     fn names(&mut self, path: &PathBuf<A>) -> Result<Option<Vec<String<A>, A>>, Error<A>> {
-        // The folder is read itself: an entry of `fs::read_dir` has memory of its own, with the whole path.
-        match self.rt.open_dir(path.as_str()) {
+        match self.open(path) {
             Ok(mut folder) => match read_names(&mut folder, self.alloc, &mut self.left_out) {
                 Ok(names) => Ok(Some(names)),
                 Err(error) => Err(self.refusal(&error)),
@@ -133,18 +152,44 @@ impl<R: Files + Clock + Drop, A: Allocator + Copy> Folders<A> for RealFolders<R,
     }
 }
 
-impl<R: Files + Clock + Drop, A: Allocator> RealFolders<R, A> {
+impl<R: Files + Clock + Drop, A: Allocator + Copy> RealFolders<R, A> {
     /// What the system says of the path, once its modified time isn't young any more, as far as it waits.
-    fn metadata_at(&mut self, path: &str) -> io::Result<Metadata>
+    fn metadata_at(&mut self, path: &str, follows: bool) -> io::Result<Metadata>
         ensures { self.new.failures ≡ self.old.failures }
     {
-        let metadata = fs::symlink_metadata(&self.rt, path)?;
+        let metadata = metadata_of(&self.rt, path, follows)?;
         if let Some(times) = &mut self.times
             && !metadata.is_dir()
             && times.waits_for(&self.rt, &metadata)
         {
-            return fs::symlink_metadata(&self.rt, path);
+            return metadata_of(&self.rt, path, follows);
         }
         Ok(metadata)
+    }
+
+    /// The folder at the path, to be read itself: an entry of `fs::read_dir` has memory of its own, with the whole
+    /// path.
+    fn open(&self, path: &PathBuf<A>) -> io::Result<R::Dir> {
+        if !self.follows(path) {
+            return self.rt.open_dir(path.as_str());
+        }
+        // A link is opened only as what it leads to, which a slash asks for.
+        let mut text = String::from_str(self.alloc, path.as_str())?;
+        text.push('/')?;
+        self.rt.open_dir(&text)
+    }
+}
+
+/// What the system says of the path, or of what a link there leads to, if it is followed.
+fn metadata_of<R: Files>(rt: &R, path: &str, follows: bool) -> io::Result<Metadata> {
+    let metadata = fs::symlink_metadata(rt, path)?;
+    if !follows || !metadata.is_symlink() {
+        return Ok(metadata);
+    }
+    match fs::metadata(rt, path) {
+        Err(error) if error.kind() == io::ErrorKind::FilesystemLoop => {
+            Err(io::Error::from(io::ErrorKind::NotFound))
+        }
+        followed => followed,
     }
 }

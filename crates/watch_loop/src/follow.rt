@@ -29,6 +29,23 @@ pub fn follow_folder<R: DebouncerRuntime + AllocGlobal, P: TakesReports, E: Writ
     follow(rt, reports, program)
 }
 
+/// Watches the file's folder, as [`FolderReports::start_file`], and goes on as [`follow_folder`].
+pub fn follow_file<R: DebouncerRuntime + AllocGlobal, P: TakesReports, E: Write + Drop>(
+    rt: R,
+    folder: &PathBuf,
+    file: &PathBuf,
+    pace: Pace<'_>,
+    complaints: Complaints<'_, E>,
+    program: &mut P,
+) -> Result<u64, Fault>
+    ensures { FollowsFolder
+        (record { begins = P.begins; patience = P.waits; takes = P.takes; passes = P.passes })
+        program.old result program.new }
+{
+    let reports = FolderReports::start_file(rt, folder, file, pace, complaints)?;
+    follow(rt, reports, program)
+}
+
 /// Watches each of the folders, as [`FolderReports::start_all`], and goes on as [`follow_folder`].
 pub fn follow_folders<R: DebouncerRuntime + AllocGlobal, P: TakesReports, E: Write + Drop>(
     rt: R,

@@ -13,6 +13,6 @@ mod follow;
 mod whole_program;
 
 pub use folder_reports::FolderReports;
-pub use follow::{follow_folder, follow_folders};
+pub use follow::{follow_file, follow_folder, follow_folders};
 pub use report_loop::{BatchTaker, Rest, TakesBatches, TakesReports};
 pub use whole_program::run_program;

@@ -7,12 +7,12 @@ pub returns : goal.returns
 returns g c = record {
   read = on_ok c.read_if_missed.result (λ last. (
     c.in_ok-missed.missed,
-    c.follow_folder.new.program.reloader,
-    g.O.Write.contents c.follow_folder.new.program.out,
+    c.follow_file.new.program.reloader,
+    g.O.Write.contents c.follow_file.new.program.out,
     follower_followed folder_source tt (λ p. p.file) (λ p. p.reloader) (λ p. g.O.Write.contents p.out)
-        c.args.follower.now c.follow_folder.new.program c.in_ok-missed.missed
+        c.args.follower.now c.follow_file.new.program c.in_ok-missed.missed
         (well_followed (follower_program (λ p. p.file) (λ p. p.reloader) (λ p. g.O.Write.contents p.out))
-        c.args.follower.now c.follow_folder.new.program c.in_ok-missed.missed c.in_ok-missed.ensures),
+        c.args.follower.now c.follow_file.new.program c.in_ok-missed.missed c.in_ok-missed.ensures),
     last,
   )) c.read_if_missed.ensures.read;
 }

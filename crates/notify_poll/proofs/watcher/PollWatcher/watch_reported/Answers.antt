@@ -6,5 +6,5 @@ use Rattle.notify_poll.proofs.watcher.PollWatcher.watch_reported.Goals as goal
 
 pub returns : goal.returns
 returns g c =
-    let err : IfErr c.watch_reported.result IsWatchError = search rules in
-    watched_next (c.args.path.now, c.args.mode) _ _ c.watch_reported.result c.watch_reported.ensures.ok err
+    let err : IfErr c.watch_reported-done.result IsWatchError = search rules in
+    watched_next (c.args.path.now, c.args.mode) _ _ c.watch_reported-done.result c.watch_reported-done.ensures.ok err
