@@ -89,7 +89,7 @@ for name in change_journal build_trigger document_index folder_mirror; do
 done
 
 # A file that is reached by links, as a cluster lays out configurations: a new folder is written beside the old one,
-# and a link to it is moved over the link to that.
+# and a link to it is moved over the link to that. The new file may have the old one's length and time.
 name=config_reloader program=$top/crates/config_reloader/out/config_reloader
 # moves N: the link leads to the folder of this number.
 moves() {
@@ -119,8 +119,8 @@ for place in conf/c.toml ln/c.toml c.toml; do
     well=no
     first='loaded\n  port = 80\n' second='loaded\n  port = 81\n' third='loaded\n  port = 8080\n'
     gone='kept\n  No such file or directory (os error 2)\n'
-    answered "$first" && writes 2 'port = 81' && moves 2 && answered "$first$second" && moves 1 &&
-        answered "$first$second$first" && writes 1 'port = 8080' && answered "$first$second$first$third" &&
+    answered "$first" && writes 2 'port = 81' && touch -r conf/v1/c.toml conf/v2/c.toml && moves 2 &&
+        answered "$first$second" && moves 1 && answered "$first$second$first" && writes 1 'port = 8080' && answered "$first$second$first$third" &&
         rm conf/..data && answered "$first$second$first$third$gone" && moves 2 &&
         answered "$first$second$first$third$gone$second" && well=yes
     kill $running

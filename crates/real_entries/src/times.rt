@@ -83,7 +83,8 @@ fn modified_of(metadata: &Metadata) -> Option<u64> {
     nanos_of(metadata.modified().ok()?)
 }
 
-fn now_of(clock: &impl Clock) -> Option<u64> {
+/// Returns the moment, in nanoseconds since 1970. It is `None` if the clock can't be read, or stands elsewhere.
+pub fn now_of(clock: &impl Clock) -> Option<u64> {
     nanos_of(SystemTime::now(clock).ok()?)
 }
 

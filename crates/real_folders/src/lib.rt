@@ -3,3 +3,4 @@
 
 pub mod noting;
 pub mod real;
+mod targets;

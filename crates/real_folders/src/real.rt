@@ -5,6 +5,7 @@ ghost use Rattle.folder_listing.specs.declared.entry.EntryKind.TheVariants.{Fold
 ghost use Rattle.notify_paths.specs.Errors.{out_of_memory};
 ghost use Rattle.poll_rounds.specs.Folders.{IsRefusal};
 
+use crate::targets::{Targets, later};
 use folder_listing::entry::Found;
 use notify_paths::error::{Error, ErrorKind};
 use notify_paths::path::PathBuf;
@@ -30,6 +31,8 @@ pub struct RealFolders<R: Drop, A: Allocator = Global> {
     times: Option<ModifiedTimes>,
     /// Where a link is followed.
     followed: Vec<PathBuf<A>, A>,
+    /// What stood there at the last look.
+    targets: Targets<A>,
 }
 
 impl<R: Drop, A: Allocator + Copy> RealFolders<R, A> {
@@ -46,6 +49,7 @@ impl<R: Drop, A: Allocator + Copy> RealFolders<R, A> {
             left_out: 0,
             times: None,
             followed: Vec::new(alloc),
+            targets: Targets::new(alloc),
         }
     }
 
@@ -64,11 +68,13 @@ impl<R: Drop, A: Allocator + Copy> RealFolders<R, A> {
             left_out: 0,
             times: Some(ModifiedTimes::new()),
             followed: Vec::new(alloc),
+            targets: Targets::new(alloc),
         }
     }
 
     /// Follows a link at each of these paths from now on, and at no other, and gives those of before in exchange. A link
-    /// that leads nowhere, or to itself, counts as missing then.
+    /// that leads nowhere, or to itself, counts as missing then. A file that came in the place of another one, as since
+    /// a link leads elsewhere, counts as modified when the look at such a path finds it, unless it was later.
     pub fn follow(&mut self, paths: &mut Vec<PathBuf<A>, A>)
         ensures taken { paths.new ≡ self.old.followed }
         ensures left { self.new ≡ record self.old { followed = paths.old } }
@@ -126,6 +132,7 @@ impl<R: Files + Clock + Drop, A: Allocator + Copy> Folders<A> for RealFolders<R,
     {
         let follows = self.follows(path);
         match self.metadata_at(path.as_str(), follows) {
+            Ok(metadata) if follows => self.found_anew(path, &metadata),
             Ok(metadata) => Ok(Some(found_of(&self.rt, &metadata, &mut self.times))),
             Err(error) if is_missing(path.as_str(), &error) => Ok(None),
             Err(error) => Err(self.refusal(&error)),
@@ -153,6 +160,27 @@ impl<R: Files + Clock + Drop, A: Allocator + Copy> Folders<A> for RealFolders<R,
 }
 
 impl<R: Files + Clock + Drop, A: Allocator + Copy> RealFolders<R, A> {
+    /// What stands at a path that is followed.
+    fn found_anew(
+        &mut self,
+        path: &PathBuf<A>,
+        metadata: &Metadata,
+    ) -> Result<Option<Found>, Error<A>>
+        ensures counted { self.new.failures ≡ self.old.failures }
+        ensures err { IfErr result (λ e. e ≡ out_of_memory) }
+        ensures folder { IfOk result (λ r. IfSome r (λ found.
+            is_same_kind Folder found.kind ≡ true → found.modified ≡ None)) }
+    {
+        let found = found_of(&self.rt, metadata, &mut self.times);
+        match self.targets.take(&self.rt, path, metadata) {
+            Ok(since) => Ok(Some(Found {
+                modified: later(found.modified, since),
+                ..found
+            })),
+            Err(_) => Err(Error::out_of_memory(self.alloc)),
+        }
+    }
+
     /// What the system says of the path, once its modified time isn't young any more, as far as it waits.
     fn metadata_at(&mut self, path: &str, follows: bool) -> io::Result<Metadata>
         ensures { self.new.failures ≡ self.old.failures }
