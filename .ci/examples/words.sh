@@ -61,7 +61,7 @@ for name in build_trigger change_journal config_reloader document_index folder_m
         is_refused "${places[@]}" --ticks 1 --ticks 2 && well=yes
     report "$name: words that don't fit" $well
     expect "$name: what stands after hints, and no hints" 2 /dev/null "$name: --hints-zero asks for --hints" \
-        "$program" "${places[@]}" --hints-zero
+        "$program" "${places[@]}" --hints-zero --ticks 1
     if [ $name != document_index ]; then
         begun=${EPOCHREALTIME/[.,]/}
         "$program" "${places[@]}" --seconds 2 >out 2>err
