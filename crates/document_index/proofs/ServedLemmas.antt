@@ -1,20 +1,23 @@
 -- Reports that are taken, and queries that are answered, one after the other. The loops of the program cite these.
 use Rattle.std.proofs.Common.{◌≡◌, ◌∙◌, ap, refl, sym, List, [], ◌∷◌, Bool, true, false, ◌&&◌}
-use Rattle.std.specs.Prelude.{Ok, Err, None, Some, is_some}
+use Rattle.std.specs.Prelude.{ℕ, Option, Result, Ok, Err, None, Some, is_some, IfOk}
 use Rattle.std.specs.List.{list_all}
 use Rattle.std.specs.declared.alloc.Global.{Global}
 use Rattle.notify_watch.specs.Handler.{Outcome}
 use Rattle.word_index.specs.Index.{IndexValue}
 use Rattle.word_index.specs.Kept.{CatchesUp, Readings, TakesEach}
-use Rattle.document_index.specs.Answered.{Answers, AnswersAll, AnswersEach, Query, Served}
+use Rattle.notify_paths.specs.Path.{PathValue}
+use Rattle.std.specs.Io.KnownBytes.{Appends}
+use Rattle.word_index.specs.Answer.{answer_to}
+use Rattle.document_index.specs.Answered.{Answers, AnswersAll, AnswersEach, Begins, Query, Served, Serves}
 
 -- a report that was taken before the others
 pub taken_first : (readings : Readings) (report : Outcome Global) (old between new : IndexValue)
     → TakesEach readings (report ∷ []) old between → CatchesUp readings between new → CatchesUp readings old new
 taken_first readings (Ok batch) old between new taken more =
-    (Ok batch ∷ more.0, more.1.0, more.1.1.0, (taken.0, taken.1.0, rw taken.1.1 at more.1.1.1.0), more.1.1.1.1)
+    (Ok batch ∷ more.0, more.1, more.2, (taken.0, taken.1, rw taken.2 at more.3), more.4)
 taken_first readings (Err errors) old between new taken more =
-    (Err errors ∷ more.0, more.1.0, more.1.1.0, rw taken at more.1.1.1.0, more.1.1.1.1)
+    (Err errors ∷ more.0, more.1, more.2, rw taken at more.3, more.4)
 
 -- the queries that are still answered, and whether all could be read, if those before could
 abbrev pub AnswersMore : Readings → Bool → Bool → Served → Served → Type 0
@@ -26,14 +29,40 @@ and_assoc : (a b c : Bool) → ((a && b) && c) ≡ (a && (b && c))
 and_assoc true b c = refl
 and_assoc false b c = refl
 
--- a query that was answered before the others
-pub answered_first : (readings : Readings) (query : Query) (before all : Bool) (old between new : Served)
-    → Answers readings query old between → AnswersMore readings (before && is_some query) all between new
-    → AnswersMore readings before all old new
-answered_first readings query before all old between new first more =
-    (query ∷ more.0, (between, first, more.1.0), more.1.1 ∙ and_assoc before (is_some query) (list_all is_some more.0))
-
 -- no further query
 pub answered_none : (readings : Readings) (all : Bool) (state : Served) → AnswersMore readings all all state state
 answered_none readings true state = ([], refl, refl)
 answered_none readings false state = ([], refl, refl)
+
+-- a query that was answered before the others
+pub answered_first : (readings : Readings) (query : Query) (before ok now all : Bool) (old between new : Served)
+    → is_some query ≡ ok → Answers readings query old between → now ≡ (before && ok)
+    → AnswersMore readings now all between new → AnswersMore readings before all old new
+answered_first readings query before ok now all old between new same first e more = (
+  query ∷ more.0,
+  (between, first, more.1),
+  more.2 ∙ ap (λ b. b && list_all is_some more.0) (e ∙ ap (λ b. before && b) (sym same))
+      ∙ and_assoc before (is_some query) (list_all is_some more.0),
+)
+
+-- a query that was answered last
+pub answered_last : (readings : Readings) (query : Query) (before ok now : Bool) (old new : Served)
+    → is_some query ≡ ok → Answers readings query old new → now ≡ (before && ok)
+    → AnswersMore readings before now old new
+answered_last readings query before ok now old new same first e =
+    answered_first readings query before ok now now old new new same first e (answered_none readings now new)
+
+-- without a query of the words, those of the input were answered
+pub served_lines : {E : Type 0} (readings : Readings) (folder : PathValue) (query : Option (List ℕ)) (old new : Served)
+    (first : IndexValue) (result : Result Bool E) → query ≡ None → Begins readings folder old.index first
+    → IfOk result (λ all. AnswersAll readings all (record { index = first; out = old.out }) new)
+    → IfOk result (λ all. Serves readings folder query all old new)
+served_lines readings folder query old new first (Ok all) none begun answered = rw none (first, begun, answered)
+served_lines readings folder query old new first (Err e) none begun answered = tt
+
+-- the query of the words was answered
+pub served_word : (readings : Readings) (folder : PathValue) (query : Option (List ℕ)) (word : List ℕ)
+    (old new : Served) (first : IndexValue) → query ≡ Some word → Begins readings folder old.index first → new.index ≡ first
+    → Appends old.out new.out (answer_to first word) → Serves readings folder query true old new
+served_word readings folder query word old new first some begun same written =
+    rw some (first, begun, (same, written, refl))

@@ -6,10 +6,10 @@ ghost use Rattle.batch_plan.specs.Naming.{namings};
 ghost use Rattle.document_index.specs.Read.{IsReadAmong, PutsAt};
 
 use batch_plan::naming::name_listed;
-use notify_debouncer_full::{
-    DebouncedEvent, DebouncerRuntime, Folders, PathBuf, RealFolders, RecursiveMode, list,
-};
+use notify_debouncer_full::{DebouncedEvent, Folders, PathBuf, RealFolders, RecursiveMode, list};
 use std::collections::BTreeMap;
+use std::fs::Files;
+use std::time::Clock;
 use std::{fs, io};
 use watch_program::Fault;
 use word_index::kept::ReadsDocuments;
@@ -23,7 +23,7 @@ pub(crate) struct Documents<R: Drop> {
     pub(crate) folder: PathBuf,
 }
 
-impl<R: DebouncerRuntime + AllocGlobal> Documents<R> {
+impl<R: Files + Clock + AllocGlobal + Copy + Drop> Documents<R> {
     /// Returns the documents below the folder.
     pub(crate) fn new(rt: R, folder: PathBuf) -> Documents<R> {
         Documents { rt, folder }
@@ -102,7 +102,8 @@ impl<R: DebouncerRuntime + AllocGlobal> Documents<R> {
     }
 }
 
-impl<R: DebouncerRuntime + AllocGlobal> ReadsDocuments for Documents<R> {
+// In a method of a trait, a call of what asks for a `DebouncerRuntime` has no proof.
+impl<R: Files + Clock + AllocGlobal + Copy + Drop> ReadsDocuments for Documents<R> {
     // What a file holds is in no contract; but nothing is read at another path.
     ghost reads = { λ documents paths read. IsReadAmong paths read };
 

@@ -79,7 +79,9 @@ impl<R: DebouncerRuntime + AllocGlobal, E: Write + Drop> Indexer<R, E> {
     }
 
     /// Says how many events, errors and batches were lost, if any was.
-    pub(crate) fn say_missed(&mut self, missed: u64) {
+    pub(crate) fn say_missed(&mut self, missed: u64)
+        ensures same { self.new.kept ≡ self.old.kept }
+    {
         write_missed(missed, NAME, &mut self.err);
     }
 }

@@ -1,5 +1,5 @@
 //! Queries and their answers.
-ghost use Rattle.std.specs.Prelude.{◌≡◌, Some, None, is_ok, is_some, IfOk, OnOk};
+ghost use Rattle.std.specs.Prelude.{◌≡◌, ◌&&◌, Some, None, is_ok, is_some, IfOk, OnOk};
 ghost use Rattle.std.specs.Io.KnownBytes.{Appends};
 ghost use Rattle.document_index.specs.Answered.{Answers, AnswersAll, Query};
 ghost use Rattle.document_index.specs.Read.{IsReadAmong};
@@ -103,13 +103,20 @@ impl<R: DebouncerRuntime + AllocGlobal + Input, O: Write + Drop, E: Write + Drop
         let mut all = true;
         for line in rt.lines(rt.alloc()) {
             self.take_line(rt, reports, &line)?;
-            all = all && line.is_ok();
+            all = still_all(all, &line);
             if is_last(&line) {
                 return Ok(all);
             }
         }
         Ok(all)
     }
+}
+
+/// Whether this line could be read too.
+fn still_all(all: bool, line: &io::Result<String>) -> bool
+    ensures { result ≡ (all && is_ok line.now) }
+{
+    all && line.is_ok()
 }
 
 /// Whether no line comes after this one, since the input can't be read any more.
