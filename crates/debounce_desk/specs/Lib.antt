@@ -1,0 +1,6 @@
+pub mod Answers
+pub mod Codes
+pub mod Desk
+pub mod Faults
+pub mod Said
+pub mod Tells
