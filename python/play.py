@@ -165,8 +165,9 @@ def check(program, documents):
         for section in sections:
             name, *blocks = section.split("\n```\n")
             name = name.splitlines()[0]
-            # A fault is no script: .ci/check_program.sh has these.
-            if not blocks or "timeout" not in blocks[0] or "fault:" in section:
+            # A script that is at fault is .ci/check_program.sh's, one whose events are sorted as they stand the
+            # crate's own.
+            if not blocks or "not a command" in section or (len(blocks) > 2 and "prints" not in blocks[1]):
                 continue
             script, wanted = blocks[0] + "\n", blocks[2] + "\n" if len(blocks) > 3 else None
             try:
@@ -176,6 +177,8 @@ def check(program, documents):
                 continue
             others = [wanted] if wanted is not None else []
             others += [by_program(program, script)] if program != "-" else []
+            if not others:
+                continue
             if all(other == got for other in others):
                 same += 1
             else:
