@@ -102,7 +102,7 @@ same_layout() {
 }
 
 if [ "$built" ]; then
-    cp "$built/libdebounce_c.a" "$built/libndf.so" .
+    cp "$built"/lib* .
 else
     check 'the library is built' "$top/scripts/c_library" "$room"
 fi
@@ -131,10 +131,9 @@ if has gcc; then
         '$top/c/test/refusals.c' libdebounce_c.a -o refusals && ./refusals"
     cat said
     check 'random calls, right and wrong' sh -c "gcc -std=gnu11 -O1 $warnings $sanitizers -I'$top/c' \
-        '$top/c/test/random.c' libdebounce_c.a -o random && ./random 1 50000 && ./random 2 50000"
+        '$top/c/test/random.c' libdebounce_c.a -o random && ./random 1 100000 && ./random 2 100000"
     cat said
-    check 'watch.c is built' gcc -std=gnu11 -O2 $warnings $sanitizers -I"$top/c" "$top/c/watch.c" "$top/c/heap.c" \
-        libdebounce_c.a -o watch
+    check 'watch.c is built' gcc -std=gnu11 -O2 $warnings $sanitizers -I"$top/c" "$top/c/watch.c" libndf.a -o watch
     if [ -e watch ]; then
         story ./watch --timeout 40 --until-eof
         check 'watch.c prints what happens' cmp journal <(printf '%s\n' 'Create(Folder)	tree/notes' \
@@ -149,7 +148,7 @@ if has gcc; then
 fi
 if has g++; then
     check 'the class of C++' sh -c "g++ -std=c++17 $warnings $sanitizers -I'$top/c' -c '$top/c/test/wrapper.cpp' -o wrapper.o &&
-        gcc $sanitizers -c '$top/c/heap.c' -o heap.o && g++ $sanitizers wrapper.o heap.o libdebounce_c.a -o wrapper && ./wrapper"
+        g++ $sanitizers wrapper.o libndf.a -o wrapper && ./wrapper"
 fi
 if has python3 && [ -e libndf.so ]; then
     export NDF_SO=$room/libndf.so PYTHONPATH=$top/python PYTHONDONTWRITEBYTECODE=1
@@ -158,6 +157,10 @@ if has python3 && [ -e libndf.so ]; then
     check 'the worked cases through the library' python3 "$top/python/play.py" --cases "$program" \
         "$top/crates/worked_cases/data/CASES.md" "$top/crates/worked_cases/data/STORIES.md"
     cat said
+    if [ "$program" != - ]; then
+        check 'random scripts through the library' python3 "$top/python/play.py" --random "$program" 1 300
+        cat said
+    fi
     check 'the class of Python' python3 "$top/python/test_ndf.py"
     check 'the records lie in Python as in the library' sh -c "python3 '$top/python/layout.py' >layout.python"
     check 'the records of Python are those of the library' same_layout layout.python

@@ -4,7 +4,9 @@ play.py SCRIPT                        prints what comes of the script
 play.py --cases PROGRAM DOCUMENT..    compares each script of the documents with the block below it, and with what
                                       PROGRAM, a built mirror, prints of it (- for none); the last line says how many
                                       are the same. A number above 64 bits, which C can't say, is left out.
+play.py --random PROGRAM SEED COUNT   compares so many random scripts with what PROGRAM prints of them
 """
+import random
 import subprocess
 import sys
 import tempfile
@@ -188,14 +190,57 @@ def check(program, documents):
     return all_same and same > 0
 
 
+PATHS = ["/", "/a", "/a/b", "/a/b/c", "/ab", "/b", "/b/a", "a", "..", ".", '""']
+
+
+def random_event(chance, moment):
+    options = [f"tracker={chance.randrange(3)}"] if chance.random() < 0.5 else []
+    options += ["info=i"] if chance.random() < 0.1 else []
+    options += ["rescan"] if chance.random() < 0.05 else []
+    options += ["exists"] if chance.random() < 0.5 else []
+    renames = ["Modify(Name(Any))", "Modify(Name(To))", "Modify(Name(From))"]
+    kind = chance.choice(renames if chance.random() < 0.4 else ndf.WORDS)
+    paths = [chance.choice(PATHS) for _ in range(chance.choice([0, 1, 1, 1, 1, 1, 2]))]
+    return " ".join(["event", str(moment), kind, ",".join(options) or "-", *paths])
+
+
+def random_script(chance):
+    lines = [f"timeout {chance.randrange(80)}"]
+    lines += [f"counts {2**64 - 1 - chance.randrange(8)} 5"] if chance.random() < 0.1 else []
+    lines += [f"start {chance.choice(PATHS)}" for _ in range(chance.randrange(3))]
+    moment = 0
+    for _ in range(chance.randrange(60)):
+        moment = max(0, moment + chance.randrange(-3, 12))
+        path = chance.choice(PATHS)
+        mode = chance.choice(["Recursive", "NonRecursive"])
+        others = [f"error {chance.choice([*ERRORS])}", "errors", f"root {mode} {path}", f"unroot {path}"]
+        ticks = [f"tick {moment + chance.randrange(100)}"]
+        lines.append(chance.choice([random_event(chance, moment)] * 8 + ticks * 2 + others))
+    return "".join(line + "\n" for line in lines)
+
+
+def check_random(program, seed, count):
+    chance = random.Random(seed)
+    for _ in range(count):
+        script = random_script(chance)
+        got, wanted = play(script), by_program(program, script)
+        if got != wanted:
+            print(f"of the script\n{script}comes through the library\n{got}and not\n{wanted}")
+            return False
+    print(f"{count} random scripts are the same through the library")
+    return True
+
+
 def main(words):
+    if len(words) == 4 and words[0] == "--random":
+        return 0 if check_random(words[1], int(words[2]), int(words[3])) else 1
     if len(words) > 2 and words[0] == "--cases":
         return 0 if check(words[1], words[2:]) else 1
     if len(words) == 1:
         with open(words[0], encoding="utf-8") as file:
             print(play(file.read()), end="")
         return 0
-    print("usage: play.py SCRIPT | --cases PROGRAM DOCUMENT..", file=sys.stderr)
+    print("usage: play.py SCRIPT | --cases PROGRAM DOCUMENT.. | --random PROGRAM SEED COUNT", file=sys.stderr)
     return 2
 
 

@@ -12,8 +12,12 @@ use Rattle.debounce_c.specs.contracts.sealed.parts.Parts as Parts
 use Rattle.debounce_c.specs.contracts.sealed.Sealed as Sealed
 
 abbrev pub E : Bx
-E = record { row = Desk.the_row; laws = desk.the_row_laws; al =
-    record { row = heap.the_row; laws = heap_laws.the_row_laws; g = ghosts; d = dict; drops = impl [] tnil dnil } }
+E = record {
+  row = Desk.the_row;
+  laws = desk.the_row_laws;
+  al =
+      record { row = heap.the_row; laws = heap_laws.the_row_laws; g = ghosts; d = dict; drops = impl [] tnil dnil };
+}
 
 abbrev pub FromParts : Slot 0
 FromParts = plain (λ _. Parts.the_row Desk.the_row heap.the_row ghosts)

@@ -52,8 +52,8 @@ module _ {M : Type 1} {𝓤 : Ura M} (𝓛 : Logic 𝓤) (at_mem : Memory → SP
   -- where there is a desk, what is sealed is a box
   walk : (p : Ptr) (a : Global) (x : Desk.the_row.Denot) (ws : List Val)
       → ent 𝓤 (sep 𝓤 (on_entry 𝓛 F.signature tt tt (Seen p a (Some x) ws).0.3 (Seen p a (Some x) ws).0.4) (emp 𝓤))
-          (WpFn 𝓤 H 𝓣.C 𝓣.Λ code.function (ws ++ []) ((walk_of 𝓛 F.ended stayed (F.clauses 𝓛 at_mem run)).post (Seen
-          p a (Some x) ws)))
+      (WpFn 𝓤 H 𝓣.C 𝓣.Λ code.function (ws ++ []) ((walk_of 𝓛 F.ended stayed (F.clauses 𝓛 at_mem run)).post (Seen
+      p a (Some x) ws)))
   walk p a x vs =
       let z = Seen p a (Some x) vs in let Post = (walk_of 𝓛 F.ended stayed (F.clauses 𝓛 at_mem run)).post z in
       let v : D E = record { ptr = p; alloc = a; value = x } in
@@ -77,7 +77,7 @@ module _ {M : Type 1} {𝓤 : Ura M} (𝓛 : Logic 𝓤) (at_mem : Memory → SP
 
   at_each : (p : Ptr) (a : Global) (o : Option Desk.the_row.Denot) (ws : List Val)
       → ent 𝓤 ((walk_of 𝓛 F.ended stayed (F.clauses 𝓛 at_mem run)).pre (Seen p a o ws)) (WpFn 𝓤 H 𝓣.C 𝓣.Λ
-          code.function (ws ++ []) ((walk_of 𝓛 F.ended stayed (F.clauses 𝓛 at_mem run)).post (Seen p a o ws)))
+      code.function (ws ++ []) ((walk_of 𝓛 F.ended stayed (F.clauses 𝓛 at_mem run)).post (Seen p a o ws)))
   at_each p a None ws = qed 𝓛 (raw (on_entry 𝓛 F.signature tt tt (Seen p a None ws).0.3 (Seen p a None ws).0.4) ∷ raw
       (fact 𝓤 (false ≡ true)) ∷ []) ∵ drop ! $ heard ! _ (λ e. absurd (true≢false (sym e)))
   at_each p a (Some x) ws = qed 𝓛 (raw (on_entry 𝓛 F.signature tt tt (Seen p a (Some x) ws).0.3 (Seen p a (Some x)
@@ -89,8 +89,11 @@ unfolding tables_of
 into_parts_spec 𝓤 𝓛 𝓜 𝓡 wired =
     let 𝓣 : Tables 𝓤 𝓛.H = tables_of 𝓤 𝓛.H 𝓜 (tables 𝓤 𝓛.H 𝓜 𝓡 𝓡.env) in
     entered 𝓤 𝓛.H (triple_of 𝓛 F.signature (F.spec 𝓛 𝓜.mem 𝓡.returns)) 𝓣.C 𝓣.Λ #self code.function (code.unfolded 𝓤
-        𝓛.H 𝓜 𝓡 wired)
-    (walk_Meets 𝓛 F.ended stayed (Goes-dropped 𝓛 0 From yes (λ κs x f.
-        refl), tt) (F.clauses 𝓛 𝓜.mem 𝓡.returns) (WpFn 𝓤 𝓛.H 𝓣.C 𝓣.Λ code.function) (WpFn-mono 𝓤 𝓛.H 𝓛.laws 𝓣
-        code.function)
+    𝓛.H 𝓜 𝓡 wired)
+    (walk_Meets 𝓛 F.ended stayed (
+      Goes-dropped 𝓛 0 From yes (λ κs x f.
+          refl),
+      tt,
+    ) (F.clauses 𝓛 𝓜.mem 𝓡.returns) (WpFn 𝓤 𝓛.H 𝓣.C 𝓣.Λ code.function) (WpFn-mono 𝓤 𝓛.H 𝓛.laws 𝓣
+    code.function)
     (λ z. at_each 𝓛 𝓜.mem 𝓡.returns 𝓣 z.0.3.0.at z.0.3.0.alloc z.0.3.0.desk z.0.4.0))
