@@ -61,10 +61,11 @@ churn() {
     return 0
 }
 
-# follows COMMAND..: a journal of a folder that changes, by which a reader has its paths at the end.
+# follows COMMAND..: a journal of a folder that changes, by which a reader has its paths at the end; three times, or
+# as CHURNS says.
 follows() {
     local turn journal
-    for turn in 1 2 3; do
+    for turn in $(seq "${CHURNS:-3}"); do
         rm -rf tree held && mkdir tree && mkfifo held
         "$@" tree >journal 2>watching <held &
         journal=$!
@@ -133,6 +134,11 @@ if has gcc; then
     check 'random calls, right and wrong' sh -c "gcc -std=gnu11 -O1 $warnings $sanitizers -I'$top/c' \
         '$top/c/test/random.c' libdebounce_c.a -o random && ./random 1 100000 && ./random 2 100000"
     cat said
+    { printf '#include "%s"\n' ndf.h ndf_words.h stdio.h string.h
+      echo 'int main(void) { uint64_t now = 0; const char *path = "/w/a";'
+      sed -n '/^```c$/,/^```$/p' "$top/docs/C.md" | sed '/^```/d'
+      echo '}'; } >page.c
+    check 'the calls on the page' sh -c "gcc -std=c11 $warnings $sanitizers -I'$top/c' page.c libndf.a -o page && ./page"
     check 'watch.c is built' gcc -std=gnu11 -O2 $warnings $sanitizers -I"$top/c" "$top/c/watch.c" libndf.a -o watch
     if [ -e watch ]; then
         story ./watch --timeout 40 --until-eof

@@ -4,15 +4,13 @@ use Rattle.std.specs.Prelude.{◌≡◌, ◌⊎◌, ◌+◌, ⊤, ℕ, Bool, tru
 use Rattle.notify_types.specs.Event.{Timed}
 use Rattle.notify_paths.specs.Errors.{ErrorValue}
 use Rattle.notify_paths.specs.PathText.{parts_of}
-use Rattle.debounce_model.specs.Cache.{no_numbers}
 use Rattle.debounce_model.specs.Calls.{recursive_mode}
-use Rattle.debounce_model.specs.State.{with_state, with_error}
-use Rattle.debounce_model.specs.Step.{IsTaken, IsRooted, IsUnrooted}
 use Rattle.debounce_model.specs.Tick.{is_due}
 use Rattle.debounce_desk.specs.Answers.{Answers}
+use Rattle.debounce_desk.specs.Calls.{Feeds, Makes, Notes, Unwatches, Watches}
 use Rattle.debounce_desk.specs.Codes.{fault_code}
 use Rattle.debounce_desk.specs.Desk.{DeskValue, IsAsked, IsForeseen, IsOpened, IsTicked}
-use Rattle.debounce_desk.specs.Faults.{batch_fault, counts_fault, error_fault, errors_fault, event_fault, event_needs, next_error_fault, next_fault, no_fault, text_fault}
+use Rattle.debounce_desk.specs.Faults.{batch_fault, error_fault, errors_fault, event_fault, event_needs, next_error_fault, next_fault, no_fault, text_fault}
 use Rattle.debounce_desk.specs.Said.{error_of, event_of, mode_of}
 use Rattle.debounce_desk.specs.Tells.{LeavesErrorTold, LeavesTold, Tells, TellsCounts, TellsError, error_texts, texts_of, written}
 use Rattle.debounce_desk.specs.declared.fault.Fault.{Fault}
@@ -32,13 +30,13 @@ IsMade code None timeout taken given old new =
 
 -- the path was watched
 abbrev pub IsWatched : ℕ → List ℕ → Bool → Option DeskValue → Option DeskValue → Type 0
-IsWatched code path recursive = Answers code (λ s. text_fault path) (λ s. true) (λ s t.
-    IsRooted no_numbers s.core (parts_of path) (mode_of recursive) t.core × (t ≡ record s { core = t.core })) (λ f. ⊤)
+IsWatched code path recursive = Answers code (λ s. text_fault path) (λ s. true)
+    (Makes (Watches (parts_of path) (mode_of recursive))) (λ f. ⊤)
 
 -- the path was unwatched
 abbrev pub IsUnwatched : ℕ → List ℕ → Option DeskValue → Option DeskValue → Type 0
-IsUnwatched code path = Answers code (λ s. text_fault path) (λ s. true) (λ s t.
-    IsUnrooted no_numbers s.core (parts_of path) t.core × (t ≡ record s { core = t.core })) (λ f. ⊤)
+IsUnwatched code path = Answers code (λ s. text_fault path) (λ s. true)
+    (Makes (Unwatches (parts_of path))) (λ f. ⊤)
 
 -- the mode of a path was told
 abbrev pub IsModeTold : ℕ → List ℕ → Bool → Bool → Option DeskValue → Option DeskValue → Type 0
@@ -49,14 +47,13 @@ IsModeTold code path before after = Answers code (λ s. text_fault path) (λ s. 
 abbrev pub IsFed : ℕ → Change → Attributes → List ℕ → List ℕ → List ℕ → List ℕ → Option DeskValue → Option DeskValue
     → Type 0
 IsFed code c a first second info source =
-    Answers code (event_fault c a first second info source) (λ s. event_needs c a) (λ s t.
-    IsTaken no_numbers s.core (event_of c a first second info source) c.moment c.exists t.core
-    × (t ≡ record s { core = t.core })) (λ f. ⊤)
+    Answers code (event_fault c a first second info source) (λ s. event_needs c a)
+    (Makes (Feeds (event_of c a first second info source) c.moment c.exists)) (λ f. ⊤)
 
 -- the error was kept
 abbrev pub IsNoted : ℕ → ℕ → Bool → List ℕ → List ℕ → Option DeskValue → Option DeskValue → Type 0
-IsNoted code number has_path text path = Answers code (λ s. error_fault number has_path text path) (λ s. true) (λ s t.
-    t ≡ record s { core = with_state s.core (with_error s.core.state (error_of number has_path text path)) }) (λ f. ⊤)
+IsNoted code number has_path text path = Answers code (λ s. error_fault number has_path text path) (λ s. true)
+    (Makes (Notes (error_of number has_path text path))) (λ f. ⊤)
 
 -- the tick emitted its batch, of so many events
 abbrev pub IsTickAnswered : ℕ → ℕ → ℕ → ℕ → Option DeskValue → Option DeskValue → Type 0

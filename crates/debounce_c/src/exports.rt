@@ -1,6 +1,5 @@
 //! The functions that C calls.
-ghost use Rattle.std.specs.Prelude.{◌≡◌, ◌≢◌, ◌↔◌, [], None, Some, IfSome, slice_get};
-ghost use Rattle.debounce_desk.specs.Codes.{fault_code};
+ghost use Rattle.std.specs.Prelude.{◌≡◌, [], None, Some};
 ghost use Rattle.debounce_c.specs.Exports.{AreCountsTold, IsErrorTold, IsErrorsAnswered, IsFed, IsMade, IsModeTold, IsNoted, IsOutlookAnswered, IsTickAnswered, IsTold, IsUnwatched, IsWatched};
 ghost use Rattle.debounce_desk.specs.Faults.{counts_fault};
 ghost use Rattle.debounce_desk.specs.Said.{no_attributes};

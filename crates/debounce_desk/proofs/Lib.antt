@@ -1,2 +1,3 @@
+mod CallLemmas
 mod OutcomeLemmas
 mod TextLemmas

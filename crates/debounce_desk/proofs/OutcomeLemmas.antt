@@ -1,7 +1,7 @@
 -- What comes of a call whose step is known, and which else lacked memory.
 use Rattle.std.proofs.Common.{◌≡◌, Option, None, true, refl}
 use Rattle.std.specs.Prelude.{⊤, Result, Ok, Err, OnOk, IfErr}
-use Rattle.debounce_desk.specs.Answers.{IsFault, Outcome}
+use Rattle.debounce_desk.specs.Answers.{Outcome}
 use Rattle.debounce_desk.specs.Desk.{DeskValue}
 use Rattle.debounce_desk.specs.declared.fault.Fault.{Fault}
 use Rattle.debounce_desk.specs.declared.fault.Fault.TheVariants.{NoMemory}

@@ -1,5 +1,5 @@
 -- Which call answers which fault, whatever memory there is. Assumes nothing: these are definitions.
-use Rattle.std.specs.Prelude.{ℕ, ◌-◌, ◌^◌, ◌==◌, Bool, not, ◌&&◌, ◌||◌, nat_lt, List, length, Option, None, Some, slice_get, if◌then◌else◌}
+use Rattle.std.specs.Prelude.{ℕ, ◌-◌, ◌^◌, ◌==◌, Bool, not, ◌&&◌, ◌||◌, nat_lt, List, length, Option, None, Some, if◌then◌else◌}
 use Rattle.std.specs.Str.{is_utf8}
 use Rattle.notify_paths.specs.Errors.{ErrorValue}
 use Rattle.notify_types.specs.Event.{Timed}

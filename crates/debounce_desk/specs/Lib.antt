@@ -1,4 +1,5 @@
 pub mod Answers
+pub mod Calls
 pub mod Codes
 pub mod Desk
 pub mod Faults

@@ -1,5 +1,5 @@
 -- What C is told of an event, of an error and of the counts. Assumes nothing: these are definitions.
-use Rattle.std.specs.Prelude.{◌≡◌, ◌+◌, ◌-◌, ◌^◌, ℕ, Bool, List, [], ◌∷◌, ◌++◌, length, drop, min, slice_get, is_some, unwrap_or, IfSome, Option, None, Some}
+use Rattle.std.specs.Prelude.{◌≡◌, ◌+◌, ◌-◌, ◌^◌, ℕ, List, [], ◌∷◌, ◌++◌, length, drop, min, slice_get, is_some, unwrap_or, IfSome, Option, None, Some}
 use Rattle.notify_paths.specs.Errors.{ErrorKindValue, ErrorValue, GenericKind, IoKind, PathNotFoundKind, WatchNotFoundKind, FullKind, MemoryKind}
 use Rattle.notify_paths.specs.Path.{PathValue}
 use Rattle.notify_paths.specs.PathText.{text_of}

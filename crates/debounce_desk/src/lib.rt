@@ -6,6 +6,7 @@
 pub mod calls;
 pub mod desk;
 pub mod fault;
+pub mod laws;
 pub mod numbers;
 pub mod reading;
 pub mod records;

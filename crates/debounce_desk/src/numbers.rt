@@ -1,7 +1,7 @@
 //! The numbers of the kinds, as C names them.
 ghost use Rattle.std.specs.Prelude.{◌≡◌};
 ghost use Rattle.notify_types.specs.KindNumbers.{kind_number};
-ghost use Rattle.debounce_desk.specs.Said.{error_kind_of, kind_of};
+ghost use Rattle.debounce_desk.specs.Said.{kind_of};
 ghost use Rattle.debounce_desk.specs.Tells.{error_number};
 ghost use Rattle.notify_paths.specs.ErrorView.{kind_value};
 
