@@ -4,10 +4,12 @@ use Rattle.std.specs.Prelude.{◌≡◌, ◌⊎◌, ◌+◌, ⊤, ℕ, Bool, tru
 use Rattle.notify_types.specs.Event.{Timed}
 use Rattle.notify_paths.specs.Errors.{ErrorValue}
 use Rattle.notify_paths.specs.PathText.{parts_of}
+use Rattle.debounce_model.specs.Cache.{no_numbers}
 use Rattle.debounce_model.specs.Calls.{recursive_mode}
+use Rattle.debounce_model.specs.Step.{IsTaken}
 use Rattle.debounce_model.specs.Tick.{is_due}
 use Rattle.debounce_desk.specs.Answers.{Answers}
-use Rattle.debounce_desk.specs.Calls.{Feeds, Makes, Notes, Unwatches, Watches}
+use Rattle.debounce_desk.specs.Calls.{Makes, Notes, Unwatches, Watches}
 use Rattle.debounce_desk.specs.Codes.{fault_code}
 use Rattle.debounce_desk.specs.Desk.{DeskValue, IsAsked, IsForeseen, IsOpened, IsTicked}
 use Rattle.debounce_desk.specs.Faults.{batch_fault, error_fault, errors_fault, event_fault, event_needs, next_error_fault, next_fault, no_fault, text_fault}
@@ -43,12 +45,13 @@ abbrev pub IsModeTold : ℕ → List ℕ → Bool → Bool → Option DeskValue 
 IsModeTold code path before after = Answers code (λ s. text_fault path) (λ s. true) (λ s t.
     (mode_of after ≡ recursive_mode s.core.state (parts_of path)) × (t ≡ s)) (λ f. after ≡ before)
 
--- the event was taken
+-- the event was taken: what `Makes` says of one that is fed, written out
 abbrev pub IsFed : ℕ → Change → Attributes → List ℕ → List ℕ → List ℕ → List ℕ → Option DeskValue → Option DeskValue
     → Type 0
 IsFed code c a first second info source =
-    Answers code (event_fault c a first second info source) (λ s. event_needs c a)
-    (Makes (Feeds (event_of c a first second info source) c.moment c.exists)) (λ f. ⊤)
+    Answers code (event_fault c a first second info source) (λ s. event_needs c a) (λ s t.
+    IsTaken no_numbers s.core (event_of c a first second info source) c.moment c.exists t.core
+    × (t ≡ record s { core = t.core })) (λ f. ⊤)
 
 -- the error was kept
 abbrev pub IsNoted : ℕ → ℕ → Bool → List ℕ → List ℕ → Option DeskValue → Option DeskValue → Type 0
