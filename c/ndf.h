@@ -1,0 +1,239 @@
+/* A debouncer of file events, for C and C++: events go in, and batches of few, ordered events come out.
+ *
+ * Each call does what its comment says, which is proved; docs/C.md says what isn't, and what a caller must keep.
+ * A debouncer reads no clock and no disk, and starts no thread: the caller says when an event comes, and asks.
+ *
+ *     ndf_handle h = NDF_NONE;
+ *     ndf_new(&h, 50 * NDF_MILLISECOND);
+ *     ndf_event(&h, &change, path, strlen(path), "", 0);
+ *     ndf_tick(&h, now, &count);
+ *     while (ndf_next(&h, &told, buf, sizeof buf) == NDF_DONE) { .. }
+ *     ndf_free(&h);
+ */
+#ifndef NDF_H
+#define NDF_H
+
+#include <stdbool.h>
+#include <stddef.h>
+#include <stdint.h>
+
+#ifdef __cplusplus
+extern "C" {
+#endif
+
+/* What holds a debouncer, or none: all zeros. Only the calls below change it. It is never copied, only one call
+ * at a time has it, and it stays on the thread that made it. */
+typedef struct ndf_handle {
+    bool full;
+    void *at;
+} ndf_handle;
+
+#define NDF_NONE {false, NULL}
+
+/* Moments and timeouts are nanoseconds since a beginning that the caller chooses. */
+#define NDF_MILLISECOND UINT64_C(1000000)
+
+/* What a call answers. After each code but NDF_DONE the debouncer is as it was, and so is what the call would
+ * have written, but for what NDF_TOO_SHORT says. If several fit, the call's comment says which is answered. */
+enum {
+    NDF_DONE = 0,
+    NDF_EMPTY = 1,          /* the handle holds no debouncer: every call but ndf_new.. and ndf_free answers it then */
+    NDF_NO_MEMORY = 2,      /* an allocation failed */
+    NDF_FULL = 3,           /* 2^64 - 1 events were taken */
+    NDF_NOT_TEXT = 4,       /* a path or another text isn't UTF-8 */
+    NDF_NO_KIND = 5,        /* no kind has this number */
+    NDF_UNREAD = 6,         /* an event, or an error, of the last call for them wasn't read */
+    NDF_AT_END = 7,         /* all was read */
+    NDF_TOO_SHORT = 8,      /* the buffer is shorter than the texts, and the lengths are told */
+    NDF_TOO_MANY_PATHS = 9, /* an event has at most two paths */
+    NDF_BAD_COUNTS = 10     /* more events were emitted than were taken */
+};
+
+/* The kinds of events, by the names of notify's EventKind. */
+enum {
+    NDF_ANY = 0,
+    NDF_ACCESS_ANY = 1,
+    NDF_ACCESS_READ = 2,
+    NDF_OPEN_ANY = 3,
+    NDF_OPEN_EXECUTE = 4,
+    NDF_OPEN_READ = 5,
+    NDF_OPEN_WRITE = 6,
+    NDF_OPEN_OTHER = 7,
+    NDF_CLOSE_ANY = 8,
+    NDF_CLOSE_EXECUTE = 9,
+    NDF_CLOSE_READ = 10,
+    NDF_CLOSE_WRITE = 11,
+    NDF_CLOSE_OTHER = 12,
+    NDF_ACCESS_OTHER = 13,
+    NDF_CREATE_ANY = 14,
+    NDF_CREATE_FILE = 15,
+    NDF_CREATE_FOLDER = 16,
+    NDF_CREATE_OTHER = 17,
+    NDF_MODIFY_ANY = 18,
+    NDF_DATA_ANY = 19,
+    NDF_DATA_SIZE = 20,
+    NDF_DATA_CONTENT = 21,
+    NDF_DATA_OTHER = 22,
+    NDF_METADATA_ANY = 23,
+    NDF_METADATA_ACCESS_TIME = 24,
+    NDF_METADATA_WRITE_TIME = 25,
+    NDF_METADATA_PERMISSIONS = 26,
+    NDF_METADATA_OWNERSHIP = 27,
+    NDF_METADATA_EXTENDED = 28,
+    NDF_METADATA_OTHER = 29,
+    NDF_NAME_ANY = 30,  /* one half of a rename: the second, if the first path exists, else the first */
+    NDF_NAME_TO = 31,   /* the second half: the path is the new one */
+    NDF_NAME_FROM = 32, /* the first half: the path is the old one */
+    NDF_NAME_BOTH = 33, /* as emitted: a joined rename, from the first path to the second; as fed it is ignored */
+    NDF_NAME_OTHER = 34,
+    NDF_MODIFY_OTHER = 35,
+    NDF_REMOVE_ANY = 36,
+    NDF_REMOVE_FILE = 37,
+    NDF_REMOVE_FOLDER = 38,
+    NDF_REMOVE_OTHER = 39,
+    NDF_OTHER = 40
+};
+
+/* The kinds of errors. The last two aren't fed. */
+enum {
+    NDF_ERROR_GENERIC = 0, /* it has a text */
+    NDF_ERROR_IO = 1,
+    NDF_ERROR_PATH_NOT_FOUND = 2,
+    NDF_ERROR_WATCH_NOT_FOUND = 3,
+    NDF_ERROR_FULL = 4,
+    NDF_ERROR_MEMORY = 5
+};
+
+/* An event as it is fed, beside its texts. A bool is 0 or 1. */
+typedef struct ndf_change {
+    uint32_t kind;
+    uint32_t paths;   /* 0, 1 or 2: how many of the paths beside it are meant; only those are looked at */
+    bool rescan;      /* events were lost */
+    bool tracked;     /* the halves of a rename have one tracker, as inotify's cookie */
+    bool exists;      /* whether the first path exists now; it matters to NDF_NAME_ANY alone */
+    uint64_t tracker; /* read if tracked */
+    uint64_t moment;  /* a moment below an earlier one, of an event or a tick, counts as that one */
+} ndf_change;
+
+/* What else may be said of an event. */
+typedef struct ndf_attributes {
+    bool has_info;
+    bool has_source;
+    bool has_process;
+    uint32_t process;
+} ndf_attributes;
+
+/* An event as it is told. Its texts stand in the buffer one after the other, none ended by a zero: the first path
+ * (`first` bytes), the second (`second`), the info and the source. A length is 0 if there is no such text. */
+typedef struct ndf_told {
+    uint32_t kind;
+    uint32_t process; /* 0 if it has none */
+    bool rescan;
+    bool tracked;
+    bool has_info;
+    bool has_source;
+    bool has_process;
+    uint64_t tracker; /* 0 if it has none */
+    uint64_t time;    /* the moment at which it was taken */
+    size_t paths;
+    size_t first;
+    size_t second;
+    size_t info;
+    size_t source;
+} ndf_told;
+
+/* An error as it is told. In the buffer stands the text of a generic one (`text` bytes), then its first path. */
+typedef struct ndf_told_error {
+    uint32_t kind;
+    size_t paths;
+    size_t text;
+    size_t first;
+} ndf_told_error;
+
+typedef struct ndf_totals {
+    uint64_t taken;   /* how many events were taken, */
+    uint64_t given;   /* were emitted, */
+    uint64_t waiting; /* and wait */
+    uint64_t visited; /* how many paths the last tick found due */
+    uint64_t latest;  /* the greatest moment so far */
+    uint64_t timeout;
+    size_t errors;    /* how many errors are kept */
+} ndf_totals;
+
+/* Below, a text is a pointer that is never NULL and a length: pass "" and 0 for none. It is read during the call
+ * alone. A path is UTF-8; only its parts count, so "/a//b/" is "/a/b". The library owns nothing of the caller's,
+ * and the caller nothing of the library's but the handle. */
+
+/* Makes a debouncer that waits for nothing and emits an event once it is as old as the timeout. What the handle
+ * held is freed; on another code it is still held.
+ * NDF_NO_MEMORY. */
+uint32_t ndf_new(ndf_handle *h, uint64_t timeout);
+
+/* The same, with so many events taken and emitted already: it goes on from another debouncer's counts.
+ * NDF_BAD_COUNTS, exactly if given > taken; else NDF_NO_MEMORY. */
+uint32_t ndf_new_with_counts(ndf_handle *h, uint64_t timeout, uint64_t taken, uint64_t given);
+
+/* Frees what the handle holds, with all that waits. The handle is all zeros then; at an empty one nothing happens. */
+void ndf_free(ndf_handle *h);
+
+/* Watches a path from now on, with what is below it if `recursive`. This is for ndf_mode alone: an event is taken
+ * whether or not its path is watched.
+ * NDF_NOT_TEXT, exactly if the path isn't UTF-8; else NDF_NO_MEMORY. */
+uint32_t ndf_watch(ndf_handle *h, const char *path, size_t len, bool recursive);
+
+/* Watches a path no longer, nor any path below it.
+ * NDF_NOT_TEXT, exactly if the path isn't UTF-8; else NDF_NO_MEMORY. */
+uint32_t ndf_unwatch(ndf_handle *h, const char *path, size_t len);
+
+/* Tells the mode of the first watched path at or above this one; without one it isn't recursive.
+ * NDF_NOT_TEXT, exactly if the path isn't UTF-8; else NDF_NO_MEMORY. */
+uint32_t ndf_mode(ndf_handle *h, const char *path, size_t len, bool *recursive);
+
+/* Takes an event. It waits at its first path until it is as old as the timeout, and is dropped, joined or merged
+ * as docs/RULES.md says. After NDF_NO_MEMORY the event is lost: feed it again, or a rescan later.
+ * NDF_NO_KIND, exactly if the kind is above 40; else NDF_TOO_MANY_PATHS, exactly if paths is above 2; else
+ * NDF_NOT_TEXT, exactly if a path that is meant isn't UTF-8; else NDF_FULL, exactly if 2^64 - 1 were taken; else
+ * NDF_NO_MEMORY, only if it has a path. */
+uint32_t ndf_event(ndf_handle *h, const ndf_change *change, const char *first, size_t first_len, const char *second,
+                   size_t second_len);
+
+/* The same, with an info, a source and a process. NDF_NOT_TEXT also if a text that is meant isn't UTF-8;
+ * NDF_NO_MEMORY only if it has a path, an info or a source. */
+uint32_t ndf_event_with(ndf_handle *h, const ndf_change *change, const ndf_attributes *attributes, const char *first,
+                        size_t first_len, const char *second, size_t second_len, const char *info, size_t info_len,
+                        const char *source, size_t source_len);
+
+/* Keeps an error of a watcher until it is asked for. The text is read if the kind is NDF_ERROR_GENERIC.
+ * NDF_NO_KIND, exactly if the kind is above 3; else NDF_NOT_TEXT, exactly if a text that is meant isn't UTF-8;
+ * else NDF_NO_MEMORY. */
+uint32_t ndf_error(ndf_handle *h, uint32_t kind, bool has_path, const char *text, size_t text_len, const char *path,
+                   size_t path_len);
+
+/* Emits what is expired at the moment, or at the latest one so far if that is greater: `count` events are to be
+ * read now. After NDF_NO_MEMORY all waits on, and a later tick emits it.
+ * NDF_UNREAD, exactly if an event of the last batch wasn't read; else NDF_NO_MEMORY, only if something is expired. */
+uint32_t ndf_tick(ndf_handle *h, uint64_t now, size_t *count);
+
+/* What waits is to be read, as if all of it were expired, and waits on: at the end, what was never emitted.
+ * NDF_UNREAD, exactly if an event of the last batch wasn't read; else NDF_NO_MEMORY. */
+uint32_t ndf_outlook(ndf_handle *h, size_t *count);
+
+/* Tells the next event, and writes its texts to the start of the buffer, whose rest stays as it was.
+ * NDF_AT_END, exactly if all were read: `told` stays as it was. NDF_TOO_SHORT, exactly if the buffer is shorter
+ * than the texts together: `told` says how long they are, and the event can be read again. It never lacks memory. */
+uint32_t ndf_next(ndf_handle *h, ndf_told *told, char *buf, size_t room);
+
+/* The errors that were kept are to be read now, `count` of them, and are kept no longer.
+ * NDF_UNREAD, exactly if an error of the call before wasn't read. It never lacks memory. */
+uint32_t ndf_errors(ndf_handle *h, size_t *count);
+
+/* Tells the next error, as ndf_next does of an event, with the same codes. */
+uint32_t ndf_next_error(ndf_handle *h, ndf_told_error *told, char *buf, size_t room);
+
+/* Tells the counts. It never lacks memory. */
+uint32_t ndf_counts(ndf_handle *h, ndf_totals *counts);
+
+#ifdef __cplusplus
+}
+#endif
+#endif

@@ -1,0 +1,255 @@
+/* random SEED CALLS: random calls, right and wrong, in any order, on three handles. Of each the code is foretold from
+ * what was said before; so are the counts, and what a batch may hold. One request for memory in twenty is refused. */
+#include "ndf.h"
+#include "refusing_heap.h"
+
+#include <inttypes.h>
+#include <stdio.h>
+#include <string.h>
+
+#define HANDLES 3
+
+/* What is known of a handle. */
+struct known {
+    ndf_handle h;
+    bool full;
+    uint64_t taken, given, latest, timeout;
+    size_t unread, unread_errors, errors;
+};
+
+static struct known all[HANDLES];
+static uint64_t state;
+static uint64_t calls, refused, done, told_events;
+static uint64_t of_code[11];
+
+static uint64_t next_random(void) {
+    state ^= state << 13;
+    state ^= state >> 7;
+    state ^= state << 17;
+    return state;
+}
+
+static uint64_t below(uint64_t n) { return next_random() % n; }
+
+static bool one_in(uint64_t n) { return below(n) == 0; }
+
+static void fail(const char *what, uint32_t code, uint32_t wanted) {
+    printf("random: %s answers %" PRIu32 ", and not %" PRIu32 ", at call %" PRIu64 "\n", what, code, wanted, calls);
+    exit(1);
+}
+
+static void wrong(const char *what) {
+    printf("random: %s, at call %" PRIu64 "\n", what, calls);
+    exit(1);
+}
+
+/* A text, and whether it is UTF-8. */
+struct text {
+    char bytes[64];
+    size_t len;
+    bool is_text;
+};
+
+static struct text text(void) {
+    static const char *const parts[] = {"/a", "/b", "/c", "/ab", "/a/b", "/", "a", "..", ".", "//a/", "/\xc3\xa9", ""};
+    static const char *const bad[] = {"/\xff", "\xc3", "/a\xed\xa0\x80", "\x80/b", "/\xf5\x80\x80\x80"};
+    struct text t = {.len = 0, .is_text = true};
+    for (uint64_t i = below(4) + (one_in(8) ? 0 : 1); i > 0; i--) {
+        const char *part = parts[below(sizeof parts / sizeof *parts)];
+        memcpy(t.bytes + t.len, part, strlen(part));
+        t.len += strlen(part);
+    }
+    if (one_in(12)) {
+        const char *part = bad[below(sizeof bad / sizeof *bad)];
+        memcpy(t.bytes + t.len, part, strlen(part));
+        t.len += strlen(part);
+        t.is_text = false;
+    }
+    return t;
+}
+
+/* Compares the code with the one that is foretold: a fault, or 0 if there is none, or want of memory, if one was
+ * refused and the call may need some. Returns whether the call did what it says. */
+static bool answered(const char *name, struct known *k, uint32_t code, uint32_t fault, bool needs, long before) {
+    uint32_t wanted = k->full ? fault : NDF_EMPTY;
+    calls++;
+    of_code[code < 11 ? code : 0]++;
+    bool lacks = wanted == NDF_DONE && needs && refusals > before && code == NDF_NO_MEMORY;
+    if (code != wanted && !lacks) fail(name, code, wanted);
+    if (code == NDF_DONE) done++;
+    else refused++;
+    return code == NDF_DONE;
+}
+
+static void check_counts(struct known *k) {
+    ndf_totals t;
+    uint32_t code = ndf_counts(&k->h, &t);
+    if (code != (k->full ? NDF_DONE : NDF_EMPTY)) fail("ndf_counts", code, k->full ? NDF_DONE : NDF_EMPTY);
+    if (!k->full) return;
+    if (t.taken != k->taken || t.given != k->given || t.latest != k->latest || t.timeout != k->timeout ||
+        t.errors != k->errors || t.waiting > t.taken - t.given)
+        wrong("the counts are wrong");
+}
+
+static void make(struct known *k, long before) {
+    uint64_t timeout = below(4) * 25, taken = 0, given = 0;
+    bool with_counts = one_in(2);
+    if (with_counts) {
+        taken = one_in(2) ? UINT64_MAX - below(3) : below(100);
+        given = one_in(4) ? below(UINT64_MAX) : taken / 2;
+    }
+    uint32_t code = with_counts ? ndf_new_with_counts(&k->h, timeout, taken, given) : ndf_new(&k->h, timeout);
+    struct known any = {.full = true};
+    if (answered("ndf_new", &any, code, given > taken ? NDF_BAD_COUNTS : NDF_DONE, true, before)) {
+        ndf_handle h = k->h;
+        *k = (struct known){.h = h, .full = true, .taken = taken, .given = given, .timeout = timeout};
+    }
+}
+
+static uint32_t fault_of(const ndf_change *c, const ndf_attributes *a, const struct text *t, const struct known *k) {
+    if (c->kind > 40) return NDF_NO_KIND;
+    if (c->paths > 2) return NDF_TOO_MANY_PATHS;
+    if ((c->paths > 0 && !t[0].is_text) || (c->paths > 1 && !t[1].is_text) || (a->has_info && !t[2].is_text) ||
+        (a->has_source && !t[3].is_text))
+        return NDF_NOT_TEXT;
+    return k->taken == UINT64_MAX ? NDF_FULL : NDF_DONE;
+}
+
+static void feed(struct known *k, long before) {
+    static const uint32_t renames[] = {NDF_NAME_ANY, NDF_NAME_TO, NDF_NAME_FROM, NDF_NAME_BOTH};
+    ndf_change c = {.kind = (uint32_t)(one_in(20) ? 41 + below(100) : one_in(3) ? renames[below(4)] : below(41)),
+                    .paths = (uint32_t)(one_in(20) ? below(5) : one_in(4) ? 2 : 1),
+                    .rescan = one_in(20),
+                    .tracked = one_in(3),
+                    .exists = one_in(2),
+                    .tracker = below(3),
+                    .moment = one_in(4) ? below(1000) : k->latest + below(20)};
+    ndf_attributes a = {one_in(3), one_in(3), one_in(3), (uint32_t)below(100)};
+    struct text t[4] = {text(), text(), text(), text()};
+    bool with = one_in(3);
+    if (!with) a = (ndf_attributes){false, false, false, 0};
+    uint32_t code = with ? ndf_event_with(&k->h, &c, &a, t[0].bytes, t[0].len, t[1].bytes, t[1].len, t[2].bytes,
+                                          t[2].len, t[3].bytes, t[3].len)
+                         : ndf_event(&k->h, &c, t[0].bytes, t[0].len, t[1].bytes, t[1].len);
+    bool needs = c.paths > 0 || a.has_info || a.has_source;
+    if (answered("ndf_event", k, code, fault_of(&c, &a, t, k), needs, before)) {
+        k->taken++;
+        if (c.moment > k->latest) k->latest = c.moment;
+    }
+}
+
+static void tick(struct known *k, bool is_outlook, long before) {
+    size_t many = 77;
+    uint64_t now = one_in(4) ? below(1000) : k->latest + below(100);
+    uint32_t code = is_outlook ? ndf_outlook(&k->h, &many) : ndf_tick(&k->h, now, &many);
+    uint32_t fault = k->unread > 0 ? NDF_UNREAD : NDF_DONE;
+    if (!answered(is_outlook ? "ndf_outlook" : "ndf_tick", k, code, fault, true, before)) {
+        if (many != 77) wrong("a refused tick has written");
+        return;
+    }
+    k->unread = many;
+    if (is_outlook) return;
+    k->given += many;
+    if (now > k->latest) k->latest = now;
+}
+
+static void read_next(struct known *k, long before) {
+    char buf[512], same[512];
+    memset(buf, 'x', sizeof buf);
+    memset(same, 'x', sizeof same);
+    ndf_told t, silent;
+    memset(&t, 'y', sizeof t);
+    silent = t;
+    size_t room = one_in(2) ? below(12) : sizeof buf;
+    uint32_t code = ndf_next(&k->h, &t, buf, room);
+    size_t total = code <= NDF_DONE || code == NDF_TOO_SHORT ? t.first + t.second + t.info + t.source : 0;
+    uint32_t fault = k->unread == 0 ? NDF_AT_END : total > room ? NDF_TOO_SHORT : NDF_DONE;
+    if (!answered("ndf_next", k, code, fault, false, before)) {
+        if (memcmp(buf, same, sizeof buf)) wrong("a refused ndf_next has written");
+        if (code != NDF_TOO_SHORT && memcmp(&t, &silent, sizeof t)) wrong("a refused ndf_next has told");
+        return;
+    }
+    k->unread--;
+    told_events++;
+    if (memcmp(buf + total, same + total, sizeof buf - total)) wrong("ndf_next has written behind the texts");
+    if (t.kind > 40 || t.paths > 2 || t.time > k->latest || (t.paths < 2 && t.second > 0)) wrong("an event is wrong");
+}
+
+static void note(struct known *k, long before) {
+    uint32_t kind = (uint32_t)below(6);
+    bool has_path = one_in(2);
+    struct text word = text(), path = text();
+    uint32_t code = ndf_error(&k->h, kind, has_path, word.bytes, word.len, path.bytes, path.len);
+    bool are_texts = (kind != NDF_ERROR_GENERIC || word.is_text) && (!has_path || path.is_text);
+    uint32_t fault = kind > 3 ? NDF_NO_KIND : are_texts ? NDF_DONE : NDF_NOT_TEXT;
+    if (answered("ndf_error", k, code, fault, true, before)) k->errors++;
+}
+
+static void ask(struct known *k, long before) {
+    size_t many = 77;
+    uint32_t code = ndf_errors(&k->h, &many);
+    if (answered("ndf_errors", k, code, k->unread_errors > 0 ? NDF_UNREAD : NDF_DONE, false, before)) {
+        if (many != k->errors) wrong("not the errors that were kept");
+        k->unread_errors = many;
+        k->errors = 0;
+    }
+}
+
+static void read_error(struct known *k, long before) {
+    char buf[256];
+    ndf_told_error t = {0};
+    size_t room = one_in(2) ? below(12) : sizeof buf;
+    uint32_t code = ndf_next_error(&k->h, &t, buf, room);
+    uint32_t fault = k->unread_errors == 0 ? NDF_AT_END : t.text + t.first > room ? NDF_TOO_SHORT : NDF_DONE;
+    if (answered("ndf_next_error", k, code, fault, false, before)) k->unread_errors--;
+}
+
+static void watch(struct known *k, long before) {
+    struct text path = text();
+    uint32_t fault = path.is_text ? NDF_DONE : NDF_NOT_TEXT;
+    bool recursive = one_in(2);
+    switch (below(3)) {
+    case 0: answered("ndf_watch", k, ndf_watch(&k->h, path.bytes, path.len, recursive), fault, true, before); break;
+    case 1: answered("ndf_unwatch", k, ndf_unwatch(&k->h, path.bytes, path.len), fault, true, before); break;
+    default: answered("ndf_mode", k, ndf_mode(&k->h, path.bytes, path.len, &recursive), fault, true, before);
+    }
+}
+
+static void call(void) {
+    struct known *k = &all[below(HANDLES)];
+    left = one_in(20) ? (long)below(4) : -1;
+    long before = refusals;
+    switch (below(400)) {
+    case 0:
+        ndf_free(&k->h);
+        calls++;
+        if (k->h.full || k->h.at) wrong("a freed handle isn't empty");
+        *k = (struct known){.h = NDF_NONE};
+        break;
+    case 1 ... 5: make(k, before); break;
+    case 6 ... 180: feed(k, before); break;
+    case 181 ... 230: tick(k, false, before); break;
+    case 231 ... 240: tick(k, true, before); break;
+    case 241 ... 340: read_next(k, before); break;
+    case 341 ... 355: note(k, before); break;
+    case 356 ... 365: ask(k, before); break;
+    case 366 ... 380: read_error(k, before); break;
+    default: watch(k, before);
+    }
+    left = 0;
+    check_counts(k);
+    left = -1;
+}
+
+int main(int argc, char **argv) {
+    state = argc > 1 ? strtoull(argv[1], NULL, 10) * 0x9e3779b97f4a7c15u + 1 : 1;
+    uint64_t most = argc > 2 ? strtoull(argv[2], NULL, 10) : 100000;
+    while (calls < most) call();
+    for (int i = 0; i < HANDLES; i++) ndf_free(&all[i].h);
+    if (live != 0) wrong("memory was leaked");
+    for (uint32_t code = 0; code < 11; code++)
+        if (of_code[code] == 0) wrong("not every code came");
+    printf("%" PRIu64 " random calls, %" PRIu64 " done, %" PRIu64 " refused, %" PRIu64 " events read, nothing leaked\n",
+           calls, done, refused, told_events);
+    return 0;
+}

@@ -1,0 +1,105 @@
+/* A story of each call, again and again, while one request for memory after the other is refused: the call says so,
+ * nothing has changed, it goes well once there is memory, and at the end nothing is left. */
+#include "ndf.h"
+#include "refusing_heap.h"
+
+#include <stdio.h>
+#include <string.h>
+
+static ndf_handle h = NDF_NONE;
+static long calls, refused;
+
+static void fail(const char *what) {
+    printf("refusals: %s, after %ld calls\n", what, calls);
+    exit(1);
+}
+
+static ndf_totals counts(void) {
+    ndf_totals all;
+    memset(&all, 0, sizeof all);
+    long kept = left;
+    left = 0;
+    if (h.full && ndf_counts(&h, &all) != NDF_DONE) fail("the counts lack memory");
+    left = kept;
+    return all;
+}
+
+/* Makes a call; of a refused one the counts are as before, and with memory it goes well. */
+#define CALL(call)                                                                        \
+    do {                                                                                  \
+        ndf_totals before = counts();                                                     \
+        uint32_t code = (call);                                                           \
+        calls++;                                                                          \
+        if (code == NDF_NO_MEMORY) {                                                      \
+            ndf_totals after = counts();                                                  \
+            if (memcmp(&before, &after, sizeof before)) fail("a refused call has changed the counts: " #call); \
+            refused++;                                                                    \
+            left = -1;                                                                    \
+            code = (call);                                                                \
+        }                                                                                 \
+        if (code != NDF_DONE) fail("a code that isn't right: " #call);                    \
+    } while (0)
+
+static void feed(uint32_t kind, uint64_t moment, uint64_t tracker, const char *path) {
+    ndf_change change = {kind, 1, false, tracker > 0, true, tracker, moment};
+    CALL(ndf_event(&h, &change, path, strlen(path), "", 0));
+}
+
+static size_t read_all(size_t many) {
+    char buf[256];
+    ndf_told told;
+    size_t events = 0;
+    while (ndf_next(&h, &told, buf, sizeof buf) == NDF_DONE) events++;
+    if (events != many) fail("not as many events as were told");
+    return events;
+}
+
+static void story(void) {
+    size_t many = 0;
+    bool recursive = false;
+    CALL(ndf_new(&h, 50));
+    CALL(ndf_watch(&h, "/w", 2, true));
+    CALL(ndf_watch(&h, "/v", 2, false));
+    CALL(ndf_mode(&h, "/w/x", 4, &recursive));
+    if (!recursive) fail("a mode that isn't right");
+    feed(NDF_CREATE_FILE, 0, 0, "/w/a");
+    feed(NDF_DATA_ANY, 1, 0, "/w/a");
+    feed(NDF_NAME_FROM, 2, 7, "/w/a");
+    feed(NDF_NAME_TO, 3, 7, "/w/b");
+    feed(NDF_CREATE_FOLDER, 4, 0, "/w/f");
+    feed(NDF_CREATE_FILE, 5, 0, "/w/f/1");
+    feed(NDF_NAME_FROM, 6, 8, "/w/f");
+    feed(NDF_NAME_TO, 7, 8, "/w/g");
+    feed(NDF_REMOVE_FILE, 8, 0, "/w/c");
+    ndf_change change = {NDF_DATA_ANY, 2, false, false, false, 0, 9};
+    ndf_attributes attributes = {true, true, true, 11};
+    CALL(ndf_event_with(&h, &change, &attributes, "/w/d", 4, "/w/e", 4, "info", 4, "source", 6));
+    ndf_change rescan = {NDF_OTHER, 0, true, false, false, 0, 10};
+    CALL(ndf_event(&h, &rescan, "", 0, "", 0));
+    CALL(ndf_error(&h, NDF_ERROR_GENERIC, true, "text", 4, "/w", 2));
+    CALL(ndf_error(&h, NDF_ERROR_WATCH_NOT_FOUND, false, "", 0, "", 0));
+    CALL(ndf_outlook(&h, &many));
+    read_all(many);
+    CALL(ndf_tick(&h, 55, &many));
+    read_all(many);
+    CALL(ndf_tick(&h, 100, &many));
+    read_all(many);
+    CALL(ndf_errors(&h, &many));
+    if (many != 2) fail("not the errors that were fed");
+    CALL(ndf_unwatch(&h, "/w", 2));
+    ndf_free(&h);
+    if (h.full || h.at) fail("the handle isn't empty");
+}
+
+int main(void) {
+    long n = 0, before;
+    do {
+        before = refusals;
+        left = n++;
+        story();
+        left = -1;
+        if (live != 0) fail("memory was leaked");
+    } while (refusals > before);
+    printf("%ld requests refused in turn, %ld calls of %ld refused, nothing leaked\n", n - 1, refused, calls);
+    return refused > 0 ? 0 : 1;
+}

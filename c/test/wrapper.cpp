@@ -1,0 +1,62 @@
+// The class of C++: what is fed comes out, what was moved from is empty, and a fault is thrown.
+#include "ndf.hpp"
+
+#include <cstdio>
+#include <cstdlib>
+#include <type_traits>
+
+static_assert(!std::is_copy_constructible_v<ndf::debouncer> && !std::is_copy_assignable_v<ndf::debouncer>);
+static_assert(std::is_nothrow_move_constructible_v<ndf::debouncer>);
+
+static void check(bool holds, const char *what) {
+    if (holds) return;
+    std::printf("wrapper: %s\n", what);
+    std::exit(1);
+}
+
+int main() {
+    ndf::debouncer first(std::chrono::nanoseconds(50));
+    first.watch("/w", true);
+    check(first.is_recursive("/w/x") && !first.is_recursive("/v"), "the modes");
+    first.unwatch("/w");
+
+    ndf::debouncer second = std::move(first);
+    try {
+        first.watch("/w", true);
+        check(false, "what was moved from has a debouncer");
+    } catch (const ndf::refused &refused) {
+        check(refused.code == NDF_EMPTY, "the code of an empty handle");
+    }
+
+    ndf_change change{NDF_DATA_ANY, 2, false, true, false, 7, 10};
+    ndf_attributes attributes{true, true, true, 11};
+    std::string info(2000, 'i');
+    second.feed(change, attributes, "/w//a/", "/w/b", info, "source");
+    second.feed(ndf_change{NDF_OTHER, 0, true, false, false, 0, 10});
+    check(second.tick(59) == 0 && second.tick(60) == 2, "the counts of two ticks");
+    auto rescan = second.next();
+    check(rescan && rescan->rescan && rescan->paths.empty() && !rescan->tracker, "the rescan event");
+    auto event = second.next();
+    check(event && event->kind == NDF_DATA_ANY && event->time == 10, "the event");
+    check(event->paths == std::vector<std::string>{"/w/a", "/w/b"}, "its paths");
+    check(event->tracker == 7 && event->process == 11 && event->info == info && event->source == "source",
+          "its attributes");
+    check(!second.next(), "a third event");
+
+    second.add_error(NDF_ERROR_GENERIC, "text", "/w");
+    second.add_error(NDF_ERROR_PATH_NOT_FOUND, "");
+    auto errors = second.errors();
+    check(errors.size() == 2 && errors[0].text == "text" && errors[0].path == "/w" && !errors[1].path, "the errors");
+
+    second.feed(ndf_change{NDF_CREATE_FILE, 1, false, false, true, 0, 70}, "/w/c");
+    check(second.outlook() == 1 && second.next() && second.counts().waiting == 1, "the outlook");
+    try {
+        second.feed(ndf_change{NDF_CREATE_FILE, 1, false, false, true, 0, 70}, "/\xff");
+        check(false, "a path that isn't UTF-8");
+    } catch (const ndf::refused &refused) {
+        check(refused.code == NDF_NOT_TEXT, "the code of a path that isn't UTF-8");
+    }
+    second = ndf::debouncer(std::chrono::nanoseconds(0));
+    check(second.counts().waiting == 0, "a debouncer that was moved in");
+    return 0;
+}

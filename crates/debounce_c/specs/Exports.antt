@@ -1,0 +1,105 @@
+-- What each export promises, by the code that it answers, and of the handle before and after.
+-- Assumes nothing: these are definitions.
+use Rattle.std.specs.Prelude.{◌≡◌, ◌⊎◌, ◌+◌, ⊤, ℕ, Bool, true, false, List, length, Option, None, Some, slice_get}
+use Rattle.notify_types.specs.Event.{Timed}
+use Rattle.notify_paths.specs.Errors.{ErrorValue}
+use Rattle.notify_paths.specs.PathText.{parts_of}
+use Rattle.debounce_model.specs.Cache.{no_numbers}
+use Rattle.debounce_model.specs.Calls.{recursive_mode}
+use Rattle.debounce_model.specs.Step.{IsTaken}
+use Rattle.debounce_model.specs.Tick.{is_due}
+use Rattle.debounce_desk.specs.Answers.{Answers}
+use Rattle.debounce_desk.specs.Calls.{Makes, Notes, Unwatches, Watches}
+use Rattle.debounce_desk.specs.Codes.{fault_code}
+use Rattle.debounce_desk.specs.Desk.{DeskValue, IsAsked, IsForeseen, IsOpened, IsTicked}
+use Rattle.debounce_desk.specs.Faults.{batch_fault, error_fault, errors_fault, event_fault, event_needs, next_error_fault, next_fault, no_fault, text_fault}
+use Rattle.debounce_desk.specs.Said.{error_of, event_of, mode_of}
+use Rattle.debounce_desk.specs.Tells.{LeavesErrorTold, LeavesTold, Tells, TellsCounts, TellsError, error_texts, texts_of, written}
+use Rattle.debounce_desk.specs.declared.fault.Fault.{Fault}
+use Rattle.debounce_desk.specs.declared.fault.Fault.TheVariants.{NoMemory}
+use Rattle.debounce_desk.specs.declared.records.Attributes.{Attributes}
+use Rattle.debounce_desk.specs.declared.records.Change.{Change}
+use Rattle.debounce_desk.specs.declared.records.Counts.{Counts}
+use Rattle.debounce_desk.specs.declared.records.Told.{Told}
+use Rattle.debounce_desk.specs.declared.records.ToldError.{ToldError}
+
+-- a new debouncer, whatever was held before; or the fault's code, or NO_MEMORY, and what was held is held
+abbrev pub IsMade : ℕ → Option Fault → ℕ → ℕ → ℕ → Option DeskValue → Option DeskValue → Type 0
+IsMade code (Some f) timeout taken given old new = (code ≡ fault_code f) × (new ≡ old)
+IsMade code None timeout taken given old new =
+    ((t : DeskValue) × (code ≡ 0) × (new ≡ Some t) × IsOpened timeout taken given t)
+    ⊎ ((code ≡ fault_code NoMemory) × (new ≡ old))
+
+-- the path was watched
+abbrev pub IsWatched : ℕ → List ℕ → Bool → Option DeskValue → Option DeskValue → Type 0
+IsWatched code path recursive = Answers code (λ s. text_fault path) (λ s. true)
+    (Makes (Watches (parts_of path) (mode_of recursive))) (λ f. ⊤)
+
+-- the path was unwatched
+abbrev pub IsUnwatched : ℕ → List ℕ → Option DeskValue → Option DeskValue → Type 0
+IsUnwatched code path = Answers code (λ s. text_fault path) (λ s. true)
+    (Makes (Unwatches (parts_of path))) (λ f. ⊤)
+
+-- the mode of a path was told
+abbrev pub IsModeTold : ℕ → List ℕ → Bool → Bool → Option DeskValue → Option DeskValue → Type 0
+IsModeTold code path before after = Answers code (λ s. text_fault path) (λ s. true) (λ s t.
+    (mode_of after ≡ recursive_mode s.core.state (parts_of path)) × (t ≡ s)) (λ f. after ≡ before)
+
+-- the event was taken: what `Makes` says of one that is fed, written out
+abbrev pub IsFed : ℕ → Change → Attributes → List ℕ → List ℕ → List ℕ → List ℕ → Option DeskValue → Option DeskValue
+    → Type 0
+IsFed code c a first second info source =
+    Answers code (event_fault c a first second info source) (λ s. event_needs c a) (λ s t.
+    IsTaken no_numbers s.core (event_of c a first second info source) c.moment c.exists t.core
+    × (t ≡ record s { core = t.core })) (λ f. ⊤)
+
+-- the error was kept
+abbrev pub IsNoted : ℕ → ℕ → Bool → List ℕ → List ℕ → Option DeskValue → Option DeskValue → Type 0
+IsNoted code number has_path text path = Answers code (λ s. error_fault number has_path text path) (λ s. true)
+    (Makes (Notes (error_of number has_path text path))) (λ f. ⊤)
+
+-- the tick emitted its batch, of so many events
+abbrev pub IsTickAnswered : ℕ → ℕ → ℕ → ℕ → Option DeskValue → Option DeskValue → Type 0
+IsTickAnswered code now before after = Answers code batch_fault (λ s. is_due s.core.state now)
+    (λ s t. IsTicked s now after t) (λ f. after ≡ before)
+
+-- the outlook is to be read, of so many events
+abbrev pub IsOutlookAnswered : ℕ → ℕ → ℕ → Option DeskValue → Option DeskValue → Type 0
+IsOutlookAnswered code before after = Answers code batch_fault (λ s. true)
+    (λ s t. IsForeseen s after t) (λ f. after ≡ before)
+
+-- the errors are to be read, so many
+abbrev pub IsErrorsAnswered : ℕ → ℕ → ℕ → Option DeskValue → Option DeskValue → Type 0
+IsErrorsAnswered code before after = Answers code errors_fault (λ s. false)
+    (λ s t. IsAsked s after t) (λ f. after ≡ before)
+
+-- the next event, if a debouncer is held that has one
+abbrev pub next_of : Option DeskValue → Option Timed
+next_of None = None
+next_of (Some s) = slice_get s.batch s.read
+
+-- the next error, if a debouncer is held that has one
+abbrev pub next_error_of : Option DeskValue → Option ErrorValue
+next_error_of None = None
+next_error_of (Some s) = slice_get s.errors s.errors_read
+
+-- the next event was told, and its texts stand in the buffer
+abbrev pub IsTold : ℕ → Told → Told → List ℕ → List ℕ → Option DeskValue → Option DeskValue → Type 0
+IsTold code silent told before after old =
+    Answers code (λ s. next_fault (length before) (slice_get s.batch s.read)) (λ s. false) (λ s t.
+    (x : Timed) × (slice_get s.batch s.read ≡ Some x) × Tells x told × (after ≡ written (texts_of x) before)
+    × (t ≡ record s { read = s.read + 1 }))
+    (λ f. (after ≡ before) × LeavesTold f (next_of old) silent told) old
+
+-- the next error was told, and its texts stand in the buffer
+abbrev pub IsErrorTold : ℕ → ToldError → ToldError → List ℕ → List ℕ → Option DeskValue → Option DeskValue → Type 0
+IsErrorTold code silent told before after old =
+    Answers code (λ s. next_error_fault (length before) (slice_get s.errors s.errors_read)) (λ s. false) (λ s t.
+    (e : ErrorValue) × (slice_get s.errors s.errors_read ≡ Some e) × TellsError e told
+    × (after ≡ written (error_texts e) before) × (t ≡ record s { errors_read = s.errors_read + 1 }))
+    (λ f. (after ≡ before) × LeavesErrorTold f (next_error_of old) silent told) old
+
+-- the counts were told
+abbrev pub AreCountsTold : ℕ → Counts → Counts → Option DeskValue → Option DeskValue → Type 0
+AreCountsTold code before after = Answers code no_fault (λ s. false) (λ s t.
+    TellsCounts s after × (t ≡ s)) (λ f. after ≡ before)

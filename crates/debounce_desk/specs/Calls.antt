@@ -1,0 +1,104 @@
+-- What C's calls make of a debouncer, and what calls that were made in turn are to its core: a run, of which the laws
+-- hold. Assumes nothing: these are definitions.
+use Rattle.std.specs.Prelude.{◌≡◌, ℕ, Bool, true, false, List, [], ◌∷◌, ◌++◌}
+use Rattle.notify_paths.specs.Errors.{ErrorValue}
+use Rattle.notify_paths.specs.Path.{PathValue}
+use Rattle.notify_types.specs.Event.{EventValue}
+use Rattle.notify_types.specs.declared.event.RecursiveMode.{RecursiveMode}
+use Rattle.debounce_model.specs.Cache.{no_numbers}
+use Rattle.debounce_model.specs.Command.{CommandValue, EventCommand, ErrorCommand, RootCommand, UnrootCommand, ErrorsCommand, TickCommand, ReplyValue, TakenReply, NotedReply, RootedReply, UnrootedReply, ErrorsReply, BatchReply}
+use Rattle.debounce_model.specs.Flood.{FloodsNowhere}
+use Rattle.debounce_model.specs.Founded.{IsNoneInvented}
+use Rattle.debounce_model.specs.Kept.{has_rename, is_kept}
+use Rattle.debounce_model.specs.PathsLaw.{LeavesRawPaths}
+use Rattle.debounce_model.specs.Run.{Run}
+use Rattle.debounce_model.specs.Soon.{is_soon}
+use Rattle.debounce_model.specs.State.{with_error, with_state}
+use Rattle.debounce_model.specs.Step.{IsRooted, IsTaken, IsUnrooted}
+use Rattle.debounce_desk.specs.Desk.{DeskValue, IsAsked, IsOpened, IsTicked}
+
+-- a call that did what it says: it fed an event, kept an error, watched or unwatched a path, asked for the errors,
+-- made a tick; or it read what there was, as all others do
+pub data CallValue : Type 0 where
+  Feeds : (event : EventValue) → (now : ℕ) → (exists : Bool) → CallValue
+  Notes : (error : ErrorValue) → CallValue
+  Watches : (path : PathValue) → (mode : RecursiveMode) → CallValue
+  Unwatches : (path : PathValue) → CallValue
+  Asks : CallValue
+  Ticks : (now : ℕ) → CallValue
+  Reads : CallValue
+
+-- what a call makes of a debouncer
+abbrev pub Makes : CallValue → DeskValue → DeskValue → Type 0
+Makes (Feeds event now exists) s t =
+    IsTaken no_numbers s.core event now exists t.core × (t ≡ record s { core = t.core })
+Makes (Notes error) s t = t ≡ record s { core = with_state s.core (with_error s.core.state error) }
+Makes (Watches path mode) s t = IsRooted no_numbers s.core path mode t.core × (t ≡ record s { core = t.core })
+Makes (Unwatches path) s t = IsUnrooted no_numbers s.core path t.core × (t ≡ record s { core = t.core })
+Makes Asks s t = (many : ℕ) × IsAsked s many t
+Makes (Ticks now) s t = (many : ℕ) × IsTicked s now many t
+Makes Reads s t = t.core ≡ s.core
+
+-- the core's command that a call is, if it is one
+abbrev pub command_of : CallValue → List CommandValue
+command_of (Feeds event now exists) = EventCommand event now exists ∷ []
+command_of (Notes error) = ErrorCommand error ∷ []
+command_of (Watches path mode) = RootCommand path mode ∷ []
+command_of (Unwatches path) = UnrootCommand path ∷ []
+command_of Asks = ErrorsCommand ∷ []
+command_of (Ticks now) = TickCommand now ∷ []
+command_of Reads = []
+
+-- the core's reply to it, by what the call left: of a tick the batch that C reads then, of a call for the errors those
+abbrev pub reply_to : CallValue → DeskValue → List ReplyValue
+reply_to (Feeds event now exists) t = TakenReply t.core.answer ∷ []
+reply_to (Notes error) t = NotedReply ∷ []
+reply_to (Watches path mode) t = RootedReply ∷ []
+reply_to (Unwatches path) t = UnrootedReply ∷ []
+reply_to Asks t = ErrorsReply t.errors ∷ []
+reply_to (Ticks now) t = BatchReply t.batch ∷ []
+reply_to Reads t = []
+
+-- the core's commands that calls are
+abbrev pub commands_of : List CallValue → List CommandValue
+commands_of [] = []
+commands_of (call ∷ calls) = command_of call ++ commands_of calls
+
+-- the calls were made in turn, with these replies
+abbrev pub MakesAll : List CallValue → List ReplyValue → DeskValue → DeskValue → Type 0
+MakesAll [] replies s t = (replies ≡ []) × (t ≡ s)
+MakesAll (call ∷ calls) replies s t =
+    (m : DeskValue) × (rest : List ReplyValue)
+    × (replies ≡ reply_to call m ++ rest) × Makes call s m × MakesAll calls rest m t
+
+-- calls that were made in turn are a run of the core
+abbrev pub CallsAreARun : Type 0
+CallsAreARun = (calls : List CallValue) (replies : List ReplyValue) (s t : DeskValue) → MakesAll calls replies s t →
+    Run no_numbers s.core (commands_of calls) replies t.core
+
+-- of all calls of a debouncer, from the one that made it
+abbrev pub OfCalls : (List CommandValue → List ReplyValue → DeskValue → DeskValue → Type 0) → Type 0
+OfCalls Holds = (timeout : ℕ) (calls : List CallValue) (replies : List ReplyValue) (s t : DeskValue) →
+    IsOpened timeout 0 0 s → MakesAll calls replies s t → Holds (commands_of calls) replies s t
+
+-- a reader who plays what C read, and then the outlook, has the raw paths
+abbrev pub CallsGiveRawPaths : Type 0
+CallsGiveRawPaths = OfCalls (λ commands replies s t. LeavesRawPaths commands replies t.core.state)
+
+-- without renames no change is lost
+abbrev pub CallsLoseNoChange : Type 0
+CallsLoseNoChange = OfCalls (λ commands replies s t.
+    has_rename commands replies ≡ false → is_kept commands replies t.core.state ≡ true)
+
+-- no joined rename is invented
+abbrev pub CallsInventNoRename : Type 0
+CallsInventNoRename = OfCalls (λ commands replies s t. IsNoneInvented commands replies t.core.state)
+
+-- no batch is a flood
+abbrev pub CallsFloodNowhere : Type 0
+CallsFloodNowhere = OfCalls (λ commands replies s t. FloodsNowhere commands replies t.core.state)
+
+-- without renames nothing waits too long
+abbrev pub CallsEmitSoon : Type 0
+CallsEmitSoon = OfCalls (λ commands replies s t.
+    has_rename commands replies ≡ false → is_soon s.core.state.timeout s.core.state.latest commands replies ≡ true)

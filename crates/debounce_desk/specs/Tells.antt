@@ -1,0 +1,108 @@
+-- What C is told of an event, of an error and of the counts. Assumes nothing: these are definitions.
+use Rattle.std.specs.Prelude.{◌≡◌, ◌+◌, ◌-◌, ◌^◌, ℕ, List, [], ◌∷◌, ◌++◌, length, drop, min, slice_get, is_some, unwrap_or, IfSome, Option, None, Some}
+use Rattle.notify_paths.specs.Errors.{ErrorKindValue, ErrorValue, GenericKind, IoKind, PathNotFoundKind, WatchNotFoundKind, FullKind, MemoryKind}
+use Rattle.notify_paths.specs.Path.{PathValue}
+use Rattle.notify_paths.specs.PathText.{text_of}
+use Rattle.notify_types.specs.Event.{Timed}
+use Rattle.notify_types.specs.KindNumbers.{kind_number}
+use Rattle.debounce_model.specs.State.{waiting}
+use Rattle.debounce_desk.specs.Desk.{DeskValue}
+use Rattle.debounce_desk.specs.declared.fault.Fault.{Fault}
+use Rattle.debounce_desk.specs.declared.fault.Fault.TheVariants.{TooShort}
+use Rattle.debounce_desk.specs.declared.records.Counts.{Counts}
+use Rattle.debounce_desk.specs.declared.records.Told.{Told}
+use Rattle.debounce_desk.specs.declared.records.ToldError.{ToldError}
+
+-- a number of 64 bits: the number, or the greatest there is
+abbrev pub word : ℕ → ℕ
+word n = min n (2 ^ 64 - 1)
+
+-- the text of a path, if there is one
+abbrev pub path_text : Option PathValue → List ℕ
+path_text None = []
+path_text (Some path) = text_of path
+
+-- the text of the path at this place, or no text
+abbrev pub text_at : List PathValue → ℕ → List ℕ
+text_at paths i = path_text (slice_get paths i)
+
+-- the texts of an event: its first two paths, its info and its source
+abbrev pub texts_of : Timed → List (List ℕ)
+texts_of x =
+    text_at x.event.paths 0
+    ∷ text_at x.event.paths 1
+    ∷ unwrap_or x.event.attrs.info []
+    ∷ unwrap_or x.event.attrs.source []
+    ∷ []
+
+-- how long texts are together
+abbrev pub total : List (List ℕ) → ℕ
+total [] = 0
+total (text ∷ texts) = length text + total texts
+
+-- a buffer with these texts at its start, one after the other
+abbrev pub written : List (List ℕ) → List ℕ → List ℕ
+written [] buf = buf
+written (text ∷ texts) buf = text ++ written texts (drop (length text) buf)
+
+-- the kind's number, the attributes, the time, the number of paths and how long the texts are
+pub record Tells (x : Timed) (t : Told) : Type 0 where
+  pub kind : t.kind ≡ kind_number x.event.kind
+  pub process : t.process ≡ unwrap_or x.event.attrs.process_id 0
+  pub rescan : t.rescan ≡ is_some x.event.attrs.flag
+  pub tracked : t.tracked ≡ is_some x.event.attrs.tracker
+  pub has_info : t.has_info ≡ is_some x.event.attrs.info
+  pub has_source : t.has_source ≡ is_some x.event.attrs.source
+  pub has_process : t.has_process ≡ is_some x.event.attrs.process_id
+  pub tracker : t.tracker ≡ unwrap_or x.event.attrs.tracker 0
+  pub time : t.time ≡ word x.time
+  pub paths : t.paths ≡ length x.event.paths
+  pub first : t.first ≡ length (text_at x.event.paths 0)
+  pub second : t.second ≡ length (text_at x.event.paths 1)
+  pub info : t.info ≡ length (unwrap_or x.event.attrs.info [])
+  pub source : t.source ≡ length (unwrap_or x.event.attrs.source [])
+
+-- what a fault leaves of what is told: the lengths of the event's texts, if they don't fit, and else what was there
+abbrev pub LeavesTold : Fault → Option Timed → Told → Told → Type 0
+LeavesTold TooShort x before after = IfSome x (λ x. Tells x after)
+LeavesTold f x before after = after ≡ before
+
+-- the number of the kind of an error
+abbrev pub error_number : ErrorKindValue → ℕ
+error_number (GenericKind text) = 0
+error_number (IoKind kind) = 1
+error_number PathNotFoundKind = 2
+error_number WatchNotFoundKind = 3
+error_number FullKind = 4
+error_number MemoryKind = 5
+
+-- the text of an error of this kind
+abbrev pub kind_text : ErrorKindValue → List ℕ
+kind_text (GenericKind text) = text
+kind_text kind = []
+
+-- the texts of an error: that of its kind, and its first path
+abbrev pub error_texts : ErrorValue → List (List ℕ)
+error_texts e = kind_text e.kind ∷ text_at e.paths 0 ∷ []
+
+-- the kind's number, the number of paths and how long the texts are
+pub record TellsError (e : ErrorValue) (t : ToldError) : Type 0 where
+  pub kind : t.kind ≡ error_number e.kind
+  pub paths : t.paths ≡ length e.paths
+  pub text : t.text ≡ length (kind_text e.kind)
+  pub first : t.first ≡ length (text_at e.paths 0)
+
+-- what a fault leaves of what is told of an error
+abbrev pub LeavesErrorTold : Fault → Option ErrorValue → ToldError → ToldError → Type 0
+LeavesErrorTold TooShort e before after = IfSome e (λ e. TellsError e after)
+LeavesErrorTold f e before after = after ≡ before
+
+-- the counts of a debouncer
+pub record TellsCounts (s : DeskValue) (t : Counts) : Type 0 where
+  pub taken : t.taken ≡ s.core.state.taken
+  pub given : t.given ≡ s.core.state.given
+  pub waiting : t.waiting ≡ waiting s.core.state
+  pub visited : t.visited ≡ s.core.visited
+  pub latest : t.latest ≡ word s.core.state.latest
+  pub timeout : t.timeout ≡ word s.core.state.timeout
+  pub errors : t.errors ≡ length s.core.state.errors

@@ -1,0 +1,265 @@
+//! The calls on a desk. Each finds first whether it can be done, and then does it.
+ghost use Rattle.std.specs.Prelude.{◌≡◌, ◌+◌, ⊤, Some, true, false, length, slice_get};
+ghost use Rattle.notify_paths.specs.PathText.{parts_of};
+ghost use Rattle.notify_types.specs.Event.{Timed};
+ghost use Rattle.notify_paths.specs.Errors.{ErrorValue};
+ghost use Rattle.debounce_model.specs.Cache.{no_numbers};
+ghost use Rattle.debounce_model.specs.Calls.{recursive_mode};
+ghost use Rattle.debounce_model.specs.State.{with_state, with_error};
+ghost use Rattle.debounce_model.specs.Step.{IsTaken, IsRooted, IsUnrooted};
+ghost use Rattle.debounce_model.specs.Tick.{is_due};
+ghost use Rattle.debounce_desk.specs.Answers.{Outcome};
+ghost use Rattle.debounce_desk.specs.Desk.{IsAsked, IsForeseen, IsTicked};
+ghost use Rattle.debounce_desk.specs.Faults.{batch_fault, error_fault, errors_fault, event_fault, event_needs, next_error_fault, next_fault, text_fault};
+ghost use Rattle.debounce_desk.specs.Said.{error_of, event_of, mode_of};
+ghost use Rattle.debounce_desk.specs.Tells.{LeavesErrorTold, LeavesTold, Tells, TellsError, error_texts, texts_of, written};
+
+use crate::desk::Desk;
+use crate::fault::Fault;
+use crate::reading::{are_texts, error_of, event_of, is_text, is_text_if, mode_of, path_of};
+use crate::records::{Attributes, Change, Told, ToldError};
+use crate::telling::{tell, tell_error};
+use notify_types::event::RecursiveMode;
+use std::alloc::Global;
+
+/// Watches a path.
+pub fn watch(desk: &mut Desk, alloc: Global, bytes: &[u8], recursive: bool) -> Result<(), Fault>
+    ensures { Outcome result (text_fault bytes.now) true (λ t.
+        IsRooted no_numbers desk.old.core (parts_of bytes.now) (mode_of recursive) t.core
+        × (t ≡ record desk.old { core = t.core })) (λ f. ⊤) desk.old desk.new }
+{
+    if !is_text(bytes) {
+        return Err(Fault::NotText);
+    }
+    match path_of(alloc, bytes) {
+        Ok(path) => desk.watch(&path, mode_of(recursive)),
+        Err(fault) => Err(fault),
+    }
+}
+
+/// Watches a path no longer.
+pub fn unwatch(desk: &mut Desk, alloc: Global, bytes: &[u8]) -> Result<(), Fault>
+    ensures { Outcome result (text_fault bytes.now) true (λ t.
+        IsUnrooted no_numbers desk.old.core (parts_of bytes.now) t.core
+        × (t ≡ record desk.old { core = t.core })) (λ f. ⊤) desk.old desk.new }
+{
+    if !is_text(bytes) {
+        return Err(Fault::NotText);
+    }
+    match path_of(alloc, bytes) {
+        Ok(path) => desk.unwatch(&path),
+        Err(fault) => Err(fault),
+    }
+}
+
+/// Tells the mode of a path.
+pub fn tell_mode(
+    desk: &mut Desk,
+    alloc: Global,
+    bytes: &[u8],
+    recursive: &mut bool,
+) -> Result<(), Fault>
+    ensures { Outcome result (text_fault bytes.now) true (λ t.
+        (mode_of recursive.new ≡ recursive_mode desk.old.core.state (parts_of bytes.now))
+        × (t ≡ desk.old)) (λ f. recursive.new ≡ recursive.old) desk.old desk.new }
+{
+    if !is_text(bytes) {
+        return Err(Fault::NotText);
+    }
+    match path_of(alloc, bytes) {
+        Ok(path) => {
+            *recursive = is_recursive(desk.mode(&path));
+            Ok(())
+        }
+        Err(fault) => Err(fault),
+    }
+}
+
+fn is_recursive(mode: RecursiveMode) -> bool
+    ensures { mode_of result ≡ mode }
+{
+    match mode {
+        RecursiveMode::Recursive => true,
+        RecursiveMode::NonRecursive => false,
+    }
+}
+
+/// Why an event can't be taken, whatever memory there is.
+fn event_fault(
+    desk: &Desk,
+    change: &Change,
+    attributes: &Attributes,
+    first: &[u8],
+    second: &[u8],
+    info: &[u8],
+    source: &[u8],
+) -> Option<Fault>
+    ensures { result ≡ event_fault change.now attributes.now first.now second.now info.now
+        source.now desk.now }
+{
+    if change.kind > 40 {
+        return Some(Fault::NoKind);
+    }
+    if change.paths > 2 {
+        return Some(Fault::TooManyPaths);
+    }
+    if !are_texts(change, attributes, first, second, info, source) {
+        return Some(Fault::NotText);
+    }
+    if desk.is_full() {
+        return Some(Fault::Full);
+    }
+    None
+}
+
+/// Takes an event.
+pub fn feed(
+    desk: &mut Desk,
+    alloc: Global,
+    change: &Change,
+    attributes: &Attributes,
+    first: &[u8],
+    second: &[u8],
+    info: &[u8],
+    source: &[u8],
+) -> Result<(), Fault>
+    ensures { Outcome result
+        (event_fault change.now attributes.now first.now second.now info.now source.now desk.old)
+        (event_needs change.now attributes.now) (λ t. IsTaken no_numbers desk.old.core
+        (event_of change.now attributes.now first.now second.now info.now source.now)
+        change.now.moment change.now.exists t.core
+        × (t ≡ record desk.old { core = t.core })) (λ f. ⊤) desk.old desk.new }
+{
+    if let Some(fault) = event_fault(desk, change, attributes, first, second, info, source) {
+        return Err(fault);
+    }
+    match event_of(alloc, change, attributes, first, second, info, source) {
+        Ok(event) => desk.take(event, change.moment as u128, change.exists),
+        Err(fault) => Err(fault),
+    }
+}
+
+/// Why an error can't be kept, whatever memory there is.
+fn error_fault(number: u32, has_path: bool, text: &[u8], path: &[u8]) -> Option<Fault>
+    ensures { result ≡ error_fault number has_path text.now path.now }
+{
+    if number > 3 {
+        return Some(Fault::NoKind);
+    }
+    if !(is_text_if(number == 0, text) && is_text_if(has_path, path)) {
+        return Some(Fault::NotText);
+    }
+    None
+}
+
+/// Keeps an error.
+pub fn note(
+    desk: &mut Desk,
+    alloc: Global,
+    number: u32,
+    has_path: bool,
+    text: &[u8],
+    path: &[u8],
+) -> Result<(), Fault>
+    ensures { Outcome result (error_fault number has_path text.now path.now) true (λ t.
+        t ≡ record desk.old {
+          core = with_state desk.old.core
+              (with_error desk.old.core.state (error_of number has_path text.now path.now));
+        }) (λ f. ⊤) desk.old desk.new }
+{
+    if let Some(fault) = error_fault(number, has_path, text, path) {
+        return Err(fault);
+    }
+    match error_of(alloc, number, has_path, text, path) {
+        Ok(error) => desk.note(error),
+        Err(fault) => Err(fault),
+    }
+}
+
+/// Emits what is expired.
+pub fn tick(desk: &mut Desk, now: u64, count: &mut usize) -> Result<(), Fault>
+    ensures { Outcome result (batch_fault desk.old) (is_due desk.old.core.state now)
+        (λ t. IsTicked desk.old now count.new t) (λ f. count.new ≡ count.old) desk.old desk.new }
+{
+    if desk.is_unread() {
+        return Err(Fault::Unread);
+    }
+    match desk.tick(now as u128) {
+        Ok(emitted) => {
+            *count = emitted;
+            Ok(())
+        }
+        Err(fault) => Err(fault),
+    }
+}
+
+/// What waits is to be read.
+pub fn outlook(desk: &mut Desk, count: &mut usize) -> Result<(), Fault>
+    ensures { Outcome result (batch_fault desk.old) true
+        (λ t. IsForeseen desk.old count.new t) (λ f. count.new ≡ count.old) desk.old desk.new }
+{
+    if desk.is_unread() {
+        return Err(Fault::Unread);
+    }
+    match desk.outlook() {
+        Ok(waiting) => {
+            *count = waiting;
+            Ok(())
+        }
+        Err(fault) => Err(fault),
+    }
+}
+
+/// The errors that were kept are to be read.
+pub fn errors(desk: &mut Desk, count: &mut usize) -> Result<(), Fault>
+    ensures { Outcome result (errors_fault desk.old) false
+        (λ t. IsAsked desk.old count.new t) (λ f. count.new ≡ count.old) desk.old desk.new }
+{
+    if desk.has_unread_error() {
+        return Err(Fault::Unread);
+    }
+    *count = desk.ask();
+    Ok(())
+}
+
+/// Tells the next event.
+pub fn next(desk: &mut Desk, told: &mut Told, buf: &mut [u8]) -> Result<(), Fault>
+    ensures { Outcome result
+        (next_fault (length buf.old) (slice_get desk.old.batch desk.old.read)) false (λ t.
+        (x : Timed) × (slice_get desk.old.batch desk.old.read ≡ Some x) × Tells x told.new
+        × (buf.new ≡ written (texts_of x) buf.old)
+        × (t ≡ record desk.old { read = desk.old.read + 1 }))
+        (λ f. (buf.new ≡ buf.old)
+        × LeavesTold f (slice_get desk.old.batch desk.old.read) told.old told.new)
+        desk.old desk.new }
+{
+    let Some(event) = desk.next() else {
+        return Err(Fault::AtEnd);
+    };
+    if !tell(event, told, buf) {
+        return Err(Fault::TooShort);
+    }
+    desk.advance();
+    Ok(())
+}
+
+/// Tells the next error.
+pub fn next_error(desk: &mut Desk, told: &mut ToldError, buf: &mut [u8]) -> Result<(), Fault>
+    ensures { Outcome result
+        (next_error_fault (length buf.old) (slice_get desk.old.errors desk.old.errors_read)) false
+        (λ t. (e : ErrorValue) × (slice_get desk.old.errors desk.old.errors_read ≡ Some e)
+        × TellsError e told.new × (buf.new ≡ written (error_texts e) buf.old)
+        × (t ≡ record desk.old { errors_read = desk.old.errors_read + 1 }))
+        (λ f. (buf.new ≡ buf.old)
+        × LeavesErrorTold f (slice_get desk.old.errors desk.old.errors_read) told.old told.new)
+        desk.old desk.new }
+{
+    let Some(error) = desk.next_error() else {
+        return Err(Fault::AtEnd);
+    };
+    if !tell_error(error, told, buf) {
+        return Err(Fault::TooShort);
+    }
+    desk.advance_error();
+    Ok(())
+}

@@ -1,0 +1,82 @@
+//! The records that pass between C and the library. Their fields lie as c/ndf.h declares them.
+
+/// An event as C says it, beside its texts.
+#[repr(C)]
+#[derive(Clone, Copy)]
+pub struct Change {
+    /// The number of its kind.
+    pub kind: u32,
+    /// How many paths it has: none, one or two.
+    pub paths: u32,
+    /// Whether events were lost.
+    pub rescan: bool,
+    /// Whether it has a tracker.
+    pub tracked: bool,
+    /// Whether its first path exists.
+    pub exists: bool,
+    pub tracker: u64,
+    /// When it comes, in nanoseconds.
+    pub moment: u64,
+}
+
+/// What else C says of an event, beside its texts.
+#[repr(C)]
+#[derive(Clone, Copy)]
+pub struct Attributes {
+    pub has_info: bool,
+    pub has_source: bool,
+    pub has_process: bool,
+    pub process: u32,
+}
+
+/// An event as C is told it, beside its texts.
+#[repr(C)]
+#[derive(Clone, Copy)]
+pub struct Told {
+    pub kind: u32,
+    pub process: u32,
+    pub rescan: bool,
+    pub tracked: bool,
+    pub has_info: bool,
+    pub has_source: bool,
+    pub has_process: bool,
+    pub tracker: u64,
+    /// When it was taken, in nanoseconds.
+    pub time: u64,
+    /// How many paths it has.
+    pub paths: usize,
+    /// How many bytes its first path has, its second, its info and its source.
+    pub first: usize,
+    pub second: usize,
+    pub info: usize,
+    pub source: usize,
+}
+
+/// An error as C is told it, beside its texts.
+#[repr(C)]
+#[derive(Clone, Copy)]
+pub struct ToldError {
+    pub kind: u32,
+    /// How many paths it has.
+    pub paths: usize,
+    /// How many bytes its text has, and its first path.
+    pub text: usize,
+    pub first: usize,
+}
+
+/// What a debouncer has counted.
+#[repr(C)]
+#[derive(Clone, Copy)]
+pub struct Counts {
+    /// How many events were taken, were emitted, and wait.
+    pub taken: u64,
+    pub given: u64,
+    pub waiting: u64,
+    /// How many queues the last tick found due.
+    pub visited: u64,
+    /// The greatest moment so far, and the timeout, in nanoseconds.
+    pub latest: u64,
+    pub timeout: u64,
+    /// How many errors are kept.
+    pub errors: usize,
+}

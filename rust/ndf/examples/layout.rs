@@ -1,0 +1,26 @@
+//! The sizes of the records, and where their fields lie, as c/test/layout.c prints them.
+use ndf::raw::{Attributes, Change, Counts, Handle, Told, ToldError};
+use std::mem::{offset_of, size_of, size_of_val};
+
+macro_rules! layout {
+    ($record:ident, $value:expr, $($field:ident)*) => {
+        let value = $value;
+        println!("{} {}", stringify!($record), size_of::<$record>());
+        $(println!(
+            "{}.{} {} {}",
+            stringify!($record),
+            stringify!($field),
+            offset_of!($record, $field),
+            size_of_val(&value.$field)
+        );)*
+    };
+}
+
+fn main() {
+    layout!(Handle, Handle { full: false, at: std::ptr::null_mut() }, full at);
+    layout!(Change, Change::default(), kind paths rescan tracked exists tracker moment);
+    layout!(Attributes, Attributes::default(), has_info has_source has_process process);
+    layout!(Told, Told::default(), kind process rescan tracked has_info has_source has_process tracker time paths first second info source);
+    layout!(ToldError, ToldError::default(), kind paths text first);
+    layout!(Counts, Counts::default(), taken given waiting visited latest timeout errors);
+}

@@ -1,0 +1,216 @@
+//! The core: the handle stays in one struct, and each call has it alone.
+use crate::event::{Error, ErrorKind, Event, EventAttributes, EventKind, Flag, RecursiveMode, Result};
+use crate::raw::{self, Change, Counts, Handle, Told, ToldError};
+use std::path::{Path, PathBuf};
+
+/// A debouncer without clock and threads. It stays on the thread that made it: it is neither `Send` nor `Sync`, as
+/// its pointer says. Moments are nanoseconds since a beginning that the caller chooses.
+pub struct Core {
+    handle: Handle,
+    room: Vec<u8>,
+}
+
+/// An event of a batch, with the moment at which it was taken.
+#[derive(Clone, Debug, PartialEq, Eq)]
+pub struct Emitted {
+    pub event: Event,
+    pub time: u64,
+}
+
+fn done(code: u32) -> Result<()> {
+    Err(Error::new(match code {
+        raw::DONE => return Ok(()),
+        raw::NO_MEMORY => ErrorKind::Memory,
+        raw::FULL => ErrorKind::Full,
+        raw::NOT_TEXT => ErrorKind::NotText,
+        _ => ErrorKind::Generic(format!("the library answers {code}")),
+    }))
+}
+
+/// The text of a path. One that isn't UTF-8 is handed on as it is, for the library to refuse.
+fn bytes_of(path: &Path) -> &[u8] {
+    path.as_os_str().as_encoded_bytes()
+}
+
+impl Core {
+    /// Returns a debouncer that waits for nothing, and emits an event once it is as old as the timeout.
+    pub fn new(timeout: u64) -> Result<Core> {
+        let mut handle = Handle { full: false, at: std::ptr::null_mut() };
+        // SAFETY: the handle is the empty one. Here and below it is changed by these calls alone, no pointer is
+        // null, each slice is one of Rust's, and what is written doesn't overlap what is read.
+        done(unsafe { raw::ndf_new(&mut handle, timeout) })?;
+        Ok(Core { handle, room: vec![0; 512] })
+    }
+
+    /// Watches a path from now on; an event is taken whether or not its path is watched.
+    pub fn watch(&mut self, path: &Path, mode: RecursiveMode) -> Result<()> {
+        let text = bytes_of(path);
+        let recursive = mode == RecursiveMode::Recursive;
+        done(unsafe { raw::ndf_watch(&mut self.handle, text.as_ptr(), text.len(), recursive) })
+    }
+
+    pub fn unwatch(&mut self, path: &Path) -> Result<()> {
+        let text = bytes_of(path);
+        done(unsafe { raw::ndf_unwatch(&mut self.handle, text.as_ptr(), text.len()) })
+    }
+
+    /// The mode in which a path is watched.
+    pub fn recursive_mode(&mut self, path: &Path) -> Result<RecursiveMode> {
+        let text = bytes_of(path);
+        let mut recursive = false;
+        done(unsafe { raw::ndf_mode(&mut self.handle, text.as_ptr(), text.len(), &mut recursive) })?;
+        Ok(if recursive { RecursiveMode::Recursive } else { RecursiveMode::NonRecursive })
+    }
+
+    /// Takes an event. `exists` says whether its first path exists, which matters to `Modify(Name(Any))` alone.
+    pub fn add_event(&mut self, event: &Event, moment: u64, exists: bool) -> Result<()> {
+        let [first, second] = match event.paths.as_slice() {
+            [] => [&[][..]; 2],
+            [path] => [bytes_of(path), &[][..]],
+            [path, other] => [bytes_of(path), bytes_of(other)],
+            _ => return Err(Error::new(ErrorKind::TooManyPaths)),
+        };
+        let attrs = &event.attrs;
+        let change = Change {
+            kind: event.kind.number(),
+            paths: event.paths.len() as u32,
+            rescan: attrs.flag.is_some(),
+            tracked: attrs.tracker.is_some(),
+            exists,
+            tracker: attrs.tracker.unwrap_or(0) as u64,
+            moment,
+        };
+        let attributes = raw::Attributes {
+            has_info: attrs.info.is_some(),
+            has_source: attrs.source.is_some(),
+            has_process: attrs.process_id.is_some(),
+            process: attrs.process_id.unwrap_or(0),
+        };
+        let info = attrs.info.as_deref().unwrap_or("");
+        let source = attrs.source.as_deref().unwrap_or("");
+        done(unsafe {
+            raw::ndf_event_with(
+                &mut self.handle,
+                &change,
+                &attributes,
+                first.as_ptr(),
+                first.len(),
+                second.as_ptr(),
+                second.len(),
+                info.as_ptr(),
+                info.len(),
+                source.as_ptr(),
+                source.len(),
+            )
+        })
+    }
+
+    /// Emits what is expired.
+    pub fn tick(&mut self, now: u64) -> Result<Vec<Emitted>> {
+        let mut count = 0;
+        done(unsafe { raw::ndf_tick(&mut self.handle, now, &mut count) })?;
+        Ok(self.read(count))
+    }
+
+    /// Returns what waits, as if all of it were expired; it waits on.
+    pub fn outlook(&mut self) -> Result<Vec<Emitted>> {
+        let mut count = 0;
+        done(unsafe { raw::ndf_outlook(&mut self.handle, &mut count) })?;
+        Ok(self.read(count))
+    }
+
+    /// Keeps an error until it is asked for. Of its paths the first is kept, of an `Io` that it was one.
+    pub fn add_error(&mut self, error: &Error) -> Result<()> {
+        let (kind, text) = match &error.kind {
+            ErrorKind::Generic(text) => (0, text.as_str()),
+            ErrorKind::Io(_) => (1, ""),
+            ErrorKind::PathNotFound => (2, ""),
+            ErrorKind::WatchNotFound => (3, ""),
+            _ => (0, ""),
+        };
+        let path = error.paths.first().map_or(&[][..], |path| bytes_of(path));
+        let has_path = !error.paths.is_empty();
+        done(unsafe {
+            raw::ndf_error(&mut self.handle, kind, has_path, text.as_ptr(), text.len(), path.as_ptr(), path.len())
+        })
+    }
+
+    /// Hands out the errors that were kept.
+    pub fn errors(&mut self) -> Result<Vec<Error>> {
+        let mut count = 0;
+        done(unsafe { raw::ndf_errors(&mut self.handle, &mut count) })?;
+        let mut errors = Vec::with_capacity(count);
+        let mut told = ToldError::default();
+        loop {
+            let room = &mut self.room;
+            match unsafe { raw::ndf_next_error(&mut self.handle, &mut told, room.as_mut_ptr(), room.len()) } {
+                raw::DONE => errors.push(self.error_of(&told)),
+                raw::TOO_SHORT => self.room.resize(told.text + told.first, 0),
+                _ => return Ok(errors),
+            }
+        }
+    }
+
+    /// Returns how many events were taken, were emitted and wait, and what else is counted.
+    pub fn counts(&mut self) -> Result<Counts> {
+        let mut counts = Counts::default();
+        done(unsafe { raw::ndf_counts(&mut self.handle, &mut counts) })?;
+        Ok(counts)
+    }
+
+    /// Reads the batch to its end, so that none is left for the next tick to find unread.
+    fn read(&mut self, count: usize) -> Vec<Emitted> {
+        let mut batch = Vec::with_capacity(count);
+        let mut told = Told::default();
+        loop {
+            let room = &mut self.room;
+            match unsafe { raw::ndf_next(&mut self.handle, &mut told, room.as_mut_ptr(), room.len()) } {
+                raw::DONE => batch.push(self.event_of(&told)),
+                raw::TOO_SHORT => self.room.resize(told.first + told.second + told.info + told.source, 0),
+                _ => return batch,
+            }
+        }
+    }
+
+    fn event_of(&self, told: &Told) -> Emitted {
+        let mut from = 0;
+        let mut text = |len: usize| {
+            from += len;
+            String::from_utf8_lossy(&self.room[from - len..from]).into_owned()
+        };
+        let mut paths = vec![PathBuf::from(text(told.first)), PathBuf::from(text(told.second))];
+        paths.truncate(told.paths);
+        let attrs = EventAttributes {
+            tracker: told.tracked.then_some(told.tracker as usize),
+            flag: told.rescan.then_some(Flag::Rescan),
+            info: Some(text(told.info)).filter(|_| told.has_info),
+            source: Some(text(told.source)).filter(|_| told.has_source),
+            process_id: told.has_process.then_some(told.process),
+        };
+        Emitted { event: Event { kind: EventKind::of_number(told.kind), paths, attrs }, time: told.time }
+    }
+
+    fn error_of(&self, told: &ToldError) -> Error {
+        let text = String::from_utf8_lossy(&self.room[..told.text]).into_owned();
+        let path = String::from_utf8_lossy(&self.room[told.text..told.text + told.first]).into_owned();
+        let error = Error::new(match told.kind {
+            1 => ErrorKind::Io(std::io::Error::other("a watcher's error")),
+            2 => ErrorKind::PathNotFound,
+            3 => ErrorKind::WatchNotFound,
+            4 => ErrorKind::Full,
+            5 => ErrorKind::Memory,
+            _ => ErrorKind::Generic(text),
+        });
+        if told.paths > 0 {
+            error.add_path(path)
+        } else {
+            error
+        }
+    }
+}
+
+impl Drop for Core {
+    fn drop(&mut self) {
+        unsafe { raw::ndf_free(&mut self.handle) }
+    }
+}

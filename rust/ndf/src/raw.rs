@@ -1,0 +1,112 @@
+//! The calls of `c/ndf.h`, as they are.
+use std::ffi::c_void;
+
+#[repr(C)]
+pub struct Handle {
+    pub full: bool,
+    pub at: *mut c_void,
+}
+
+#[repr(C)]
+#[derive(Clone, Copy, Default)]
+pub struct Change {
+    pub kind: u32,
+    pub paths: u32,
+    pub rescan: bool,
+    pub tracked: bool,
+    pub exists: bool,
+    pub tracker: u64,
+    pub moment: u64,
+}
+
+#[repr(C)]
+#[derive(Clone, Copy, Default)]
+pub struct Attributes {
+    pub has_info: bool,
+    pub has_source: bool,
+    pub has_process: bool,
+    pub process: u32,
+}
+
+#[repr(C)]
+#[derive(Clone, Copy, Default)]
+pub struct Told {
+    pub kind: u32,
+    pub process: u32,
+    pub rescan: bool,
+    pub tracked: bool,
+    pub has_info: bool,
+    pub has_source: bool,
+    pub has_process: bool,
+    pub tracker: u64,
+    pub time: u64,
+    pub paths: usize,
+    pub first: usize,
+    pub second: usize,
+    pub info: usize,
+    pub source: usize,
+}
+
+#[repr(C)]
+#[derive(Clone, Copy, Default)]
+pub struct ToldError {
+    pub kind: u32,
+    pub paths: usize,
+    pub text: usize,
+    pub first: usize,
+}
+
+#[repr(C)]
+#[derive(Clone, Copy, Default, Debug)]
+pub struct Counts {
+    pub taken: u64,
+    pub given: u64,
+    pub waiting: u64,
+    pub visited: u64,
+    pub latest: u64,
+    pub timeout: u64,
+    pub errors: usize,
+}
+
+pub const DONE: u32 = 0;
+pub const NO_MEMORY: u32 = 2;
+pub const FULL: u32 = 3;
+pub const NOT_TEXT: u32 = 4;
+pub const AT_END: u32 = 7;
+pub const TOO_SHORT: u32 = 8;
+
+extern "C" {
+    pub fn ndf_new(h: *mut Handle, timeout: u64) -> u32;
+    pub fn ndf_free(h: *mut Handle);
+    pub fn ndf_watch(h: *mut Handle, path: *const u8, len: usize, recursive: bool) -> u32;
+    pub fn ndf_unwatch(h: *mut Handle, path: *const u8, len: usize) -> u32;
+    pub fn ndf_mode(h: *mut Handle, path: *const u8, len: usize, recursive: *mut bool) -> u32;
+    pub fn ndf_event_with(
+        h: *mut Handle,
+        change: *const Change,
+        attributes: *const Attributes,
+        first: *const u8,
+        first_len: usize,
+        second: *const u8,
+        second_len: usize,
+        info: *const u8,
+        info_len: usize,
+        source: *const u8,
+        source_len: usize,
+    ) -> u32;
+    pub fn ndf_error(
+        h: *mut Handle,
+        kind: u32,
+        has_path: bool,
+        text: *const u8,
+        text_len: usize,
+        path: *const u8,
+        path_len: usize,
+    ) -> u32;
+    pub fn ndf_tick(h: *mut Handle, now: u64, count: *mut usize) -> u32;
+    pub fn ndf_outlook(h: *mut Handle, count: *mut usize) -> u32;
+    pub fn ndf_next(h: *mut Handle, told: *mut Told, buf: *mut u8, room: usize) -> u32;
+    pub fn ndf_errors(h: *mut Handle, count: *mut usize) -> u32;
+    pub fn ndf_next_error(h: *mut Handle, told: *mut ToldError, buf: *mut u8, room: usize) -> u32;
+    pub fn ndf_counts(h: *mut Handle, counts: *mut Counts) -> u32;
+}

@@ -1,0 +1,61 @@
+//! What is fed to a core comes out, and what it refuses is an error.
+use ndf::{
+    Core, CreateKind, DataChange, Error, ErrorKind, Event, EventKind, Flag, ModifyKind, RecursiveMode, RenameMode,
+};
+use std::path::Path;
+
+const WRITTEN: EventKind = EventKind::Modify(ModifyKind::Data(DataChange::Any));
+
+#[test]
+fn an_event_comes_out_with_all_it_has() {
+    let mut core = Core::new(50).unwrap();
+    let mut event = Event::new(WRITTEN).add_path("/w/a").add_path("/w/b").set_tracker(7);
+    event.attrs.info = Some("i".repeat(2000));
+    event.attrs.source = Some("source".to_string());
+    event.attrs.process_id = Some(11);
+    core.add_event(&event, 10, true).unwrap();
+    core.add_event(&Event::new(EventKind::Other).set_flag(Flag::Rescan), 10, false).unwrap();
+    assert!(core.tick(59).unwrap().is_empty());
+    let batch = core.tick(60).unwrap();
+    assert!(batch[0].event.need_rescan());
+    assert_eq!((&batch[1].event, batch[1].time), (&event, 10));
+    assert_eq!(core.counts().unwrap().given, 2);
+}
+
+#[test]
+fn halves_are_joined_and_what_waits_is_seen() {
+    let mut core = Core::new(50).unwrap();
+    let half = |mode, path: &str| Event::new(EventKind::Modify(ModifyKind::Name(mode))).add_path(path).set_tracker(1);
+    core.add_event(&half(RenameMode::From, "/w/a"), 0, false).unwrap();
+    core.add_event(&half(RenameMode::To, "/w/b"), 1, true).unwrap();
+    let waiting = core.outlook().unwrap();
+    assert_eq!(waiting.len(), 1);
+    assert_eq!(waiting[0].event.kind, EventKind::Modify(ModifyKind::Name(RenameMode::Both)));
+    assert_eq!(core.counts().unwrap().waiting, 1);
+}
+
+#[test]
+fn roots_have_modes_and_errors_wait() {
+    let mut core = Core::new(50).unwrap();
+    core.watch(Path::new("/w"), RecursiveMode::Recursive).unwrap();
+    assert_eq!(core.recursive_mode(Path::new("/w/x")).unwrap(), RecursiveMode::Recursive);
+    core.unwatch(Path::new("/w")).unwrap();
+    assert_eq!(core.recursive_mode(Path::new("/w/x")).unwrap(), RecursiveMode::NonRecursive);
+    core.add_error(&Error::generic("text").add_path("/w")).unwrap();
+    let errors = core.errors().unwrap();
+    assert_eq!(errors.len(), 1);
+    assert_eq!(errors[0].to_string(), "text /w");
+    assert!(core.errors().unwrap().is_empty());
+}
+
+#[cfg(unix)]
+#[test]
+fn a_path_that_is_not_a_text_is_refused() {
+    use std::ffi::OsStr;
+    use std::os::unix::ffi::OsStrExt;
+    let mut core = Core::new(50).unwrap();
+    let event = Event::new(EventKind::Create(CreateKind::File)).add_path(OsStr::from_bytes(b"/\xff"));
+    assert!(matches!(core.add_event(&event, 0, true), Err(Error { kind: ErrorKind::NotText, .. })));
+    let three = Event::new(WRITTEN).add_path("a").add_path("b").add_path("c");
+    assert!(matches!(core.add_event(&three, 0, true), Err(Error { kind: ErrorKind::TooManyPaths, .. })));
+}
