@@ -1,8 +1,9 @@
-//! How long a thread pauses.
+//! How long a thread pauses, and a clock that can't be read.
+use notify_debouncer_full::{Error, ErrorKind, now};
 use notify_watch::sleep::sleep_unless;
 use std::io;
 use std::sync::atomic::{AtomicBool, AtomicU64, Ordering};
-use std::time::{Clock, Duration};
+use std::time::{Clock, Duration, Instant};
 
 /// A clock that adds up how long it was to sleep, and sets a flag in its last sleep.
 #[derive(Drop)]
@@ -82,4 +83,25 @@ fn a_pause_that_is_ended_is_no_whole_one(rt: HostRuntime) {
         assert!(rt; !clock.pause(pause), "{last}");
         assert_eq!(rt; clock.sleeps.load(Ordering::SeqCst), last);
     }
+}
+
+/// A clock that can't be read.
+struct Unreadable;
+
+impl Clock for Unreadable {
+    fn monotonic(&self) -> io::Result<Duration> {
+        Err(io::Error::from(io::ErrorKind::Unsupported))
+    }
+
+    fn since_1970(&self) -> io::Result<Duration> {
+        Err(io::Error::from(io::ErrorKind::Unsupported))
+    }
+}
+
+#[test]
+fn a_clock_that_cannot_be_read_is_a_failed_device(rt: HostRuntime) {
+    let start = Instant::now(&rt).expect(&rt, "a clock");
+    let moment = now(&Unreadable, rt.alloc(), start);
+    let failed = ErrorKind::Io(io::ErrorKind::Unsupported);
+    assert!(rt; moment == Err(Error::new(rt.alloc(), failed)));
 }

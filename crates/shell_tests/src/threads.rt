@@ -1,14 +1,12 @@
 //! Scripts in threads.
-use crate::build::{CREATED, Host, TURNS, commands, new_heap, sleep_a_turn, sleep_turns};
-use crate::running::wait_for;
-use crate::watching::Full;
+use crate::build::{CREATED, Host, TURNS, commands, new_heap, sleep_a_turn, sleep_turns, wait_for};
 use crate::words::{push_batch, word_of};
 use mirror_threads::threads_run;
 use notify_debouncer_full::{Entry, Error, ErrorKind, Meet, NoMeet, Reply, run_threads};
 use refusing_allocator::{Heap, RefusingHeap, TestHeap};
 use std::alloc::AllocError;
 use std::io;
-use std::io::Read;
+use std::io::{Read, Write};
 use std::process::Abort;
 use std::sync::Wait;
 use std::sync::atomic::{AtomicBool, AtomicU64, Ordering};
@@ -247,13 +245,27 @@ fn refuse_prints<R: Host, A: TestHeap>(rt: &R) {
     assert!(rt; 5 < refused && refused < 299, "{refused}");
 }
 
-/// A device that gives and takes nothing.
+/// A device that gives nothing.
 #[derive(Drop)]
 struct Broken;
 
 impl Read for Broken {
     fn read(&mut self, _buf: &mut [u8]) -> io::Result<usize> {
         Err(io::Error::from(io::ErrorKind::ConnectionReset))
+    }
+}
+
+/// A device that takes nothing.
+#[derive(Drop)]
+struct Full;
+
+impl Write for Full {
+    fn write(&mut self, _buf: &[u8]) -> io::Result<usize> {
+        Err(io::Error::from(io::ErrorKind::StorageFull))
+    }
+
+    fn flush(&mut self) -> io::Result<()> {
+        Ok(())
     }
 }
 

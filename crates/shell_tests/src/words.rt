@@ -4,7 +4,7 @@ use notify_debouncer_full::{DebouncedEvent, Error, ErrorKind, Event};
 use std::alloc::{AllocError, Allocator};
 
 /// Appends ` KIND PATH`.
-pub fn push_event<A: Allocator>(text: &mut String, event: &Event<A>) -> Result<(), AllocError> {
+fn push_event<A: Allocator>(text: &mut String, event: &Event<A>) -> Result<(), AllocError> {
     let place = match event.first_path() {
         Some(path) => path.as_str(),
         None => "",
