@@ -63,6 +63,7 @@ served_lines readings folder query old new first (Err e) none begun answered = t
 -- the query of the words was answered
 pub served_word : (readings : Readings) (folder : PathValue) (query : Option (List ℕ)) (word : List ℕ)
     (old new : Served) (first : IndexValue) → query ≡ Some word
-    → Begins readings folder old.index first → new.index ≡ first → Appends old.out new.out (answer_to first word) → Serves readings folder query true old new
+    → Begins readings folder old.index first → new.index ≡ first → Appends old.out new.out (answer_to first word)
+    → Serves readings folder query true old new
 served_word readings folder query word old new first some begun same written =
     rw some (first, begun, (same, written, refl))
