@@ -58,7 +58,7 @@ pub(crate) fn patterns_of<'a>(
 
 /// The pattern of this option, if it has a text.
 fn pattern<'a>(option: &'a str, text: Option<&'a str>) -> Option<Pattern<'a, 'a>>
-    ensures text { option_map (λ p. p.text.now) result ≡ option_map (λ t. t.now) text }
+    ensures text { option_map (λ p. p.text.now) result ≡ option_map (λ t. t.now) text.entry }
     ensures named { IfSome result (λ p. p.option.now ≡ option.now) }
 {
     match text {
