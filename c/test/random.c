@@ -171,7 +171,7 @@ static void read_next(struct known *k, long before) {
     }
     k->unread--;
     told_events++;
-    if (memcmp(buf + total, same + total, sizeof buf - total)) wrong("ndf_next has written behind the texts");
+    if (memcmp(buf + total, same + total, sizeof buf - total)) wrong("ndf_next has written past the texts");
     if (t.kind > 40 || t.paths > 2 || t.time > k->latest || (t.paths < 2 && t.second > 0)) wrong("an event is wrong");
 }
 
