@@ -157,20 +157,25 @@ kept() {
     [ "$(cat to/a to/sub/b)" = $'one\ntwo' ] && ! grep -q '^remove' out
 }
 
-# closed FOLDER MODE STATUS: a folder is closed, and is open again at the end if the status is to be 0.
+# closed FOLDER MODE STATUS: a folder is closed, and is open again at the end if the status is to be 0. What changes
+# beside it is copied, and so is what changes in it once it is open.
 closed() {
     mkdir -p from/sub && echo one >from/a && echo two >from/sub/b && mkfifo input || return 1
     ./folder_mirror from to --timeout 50 --interval 10 --until-eof <input >out 2>err &
     exec 5>input
     waits grep -q from/sub/b out && chmod "$2" "$1" &&
-        waits grep -qxF "folder_mirror: cannot look into $1: Permission denied (os error 13)" err && sleep 2 &&
+        waits grep -qxF "folder_mirror: cannot look at $1: permission denied" err && sleep 2 &&
         kept || return 1
+    if [ "$1" != from ]; then
+        echo four >from/d && waits test -e to/d || return 1
+    fi
     if [ "$3" = 0 ]; then
-        chmod 755 "$1" && echo three >from/c && waits test -e to/c && sleep 1.5 || return 1
+        chmod 755 "$1" && echo three >"$1/c" && waits test -e "to${1#from}/c" && sleep 1.5 || return 1
     fi
     exec 5>&-
     wait $!
-    [ $? = "$3" ] && chmod 755 "$1" && kept && [ "$(grep -c 'cannot look into' err)" = 1 ]
+    [ $? = "$3" ] && chmod 755 "$1" && kept && [ "$(grep -cF "cannot look at $1:" err)" = 1 ] &&
+        ! grep -q 'cannot look into' err
 }
 
 # What can't be removed to make room leaves nothing that was begun.
@@ -183,7 +188,8 @@ stuck() {
 mkdir room && cp folder_mirror room && cd room && "$@"
 STORIES
 mkdir -m 777 open && cp "$mirror" closed.sh open && chmod 755 open/folder_mirror && cd open || exit 1
-for story in 'closed from/sub 000 1' 'closed from 000 1' 'closed from 300 0' 'closed from/sub 300 1' stuck; do
+for story in 'closed from/sub 000 1' 'closed from 000 1' 'closed from 300 0' 'closed from/sub 300 1' \
+    'closed from/sub 000 0' stuck; do
     # shellcheck disable=SC2086
     report "folder_mirror: $story" "$(as_user bash closed.sh $story && echo yes)"
     chmod -R u+rwx room

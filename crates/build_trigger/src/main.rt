@@ -2,11 +2,17 @@
 //! `while read`. docs/examples/build_trigger.md is its page.
 #![tactic(auto)]
 
-ghost use Rattle.std.specs.Prelude.{◌≡◌, [], codes, option_map, IfSome, OnOk};
-ghost use Rattle.clap.specs.Words.{first_value, found_of};
+ghost use Rattle.std.specs.Prelude.{◌≡◌, ◌*◌, ◌^◌, ℕ, [], None, codes, map, option_map, IfErr, IfOk, IfSome, OnOk};
+ghost use Rattle.std.specs.Duration.{as_nanos};
+ghost use Rattle.clap.specs.Words.{first_value, found_of, one_text};
 ghost use Rattle.journal_lines.specs.KeptView.{filter_rule};
+ghost use Rattle.notify_paths.specs.PathText.{parts_of};
+ghost use Rattle.trigger_lines.specs.Line.{only_of};
 ghost use Rattle.trigger_lines.specs.Printed.{PrintsAll};
 ghost use Rattle.watch_loop.specs.FollowsFolder.{folder_source};
+ghost use Rattle.watch_pace.specs.Words.{Gives};
+ghost use Rattle.watch_program.specs.Words.{places_in};
+ghost use Rattle.watch_program.specs.declared.fault.Fault.TheVariants.{Memory};
 
 use clap::{ArgMatches, Command};
 use journal_lines::{PathFilter, Pattern, Patterns};
@@ -17,8 +23,8 @@ use std::process::ExitCode;
 use trigger_lines::{Bursts, Trigger, only_folder};
 use watch_loop::follow_folders;
 use watch_program::{
-    Complaints, Fault, PlaceWord, command_of_places, folders_of, milliseconds_of, number, option,
-    pace_of, places_of, run_with_words, with_until_eof, write_missed,
+    ClosedPaths, Complaints, Fault, PlaceWord, command_of_places, folders_of, milliseconds_of,
+    number, option, pace_of, places_of, run_with_words, with_until_eof, write_missed,
 };
 
 /// The program's name.
@@ -59,9 +65,44 @@ fn ignored<'a>(matches: &ArgMatches<'a>) -> Option<Pattern<'a, 'a>>
 }
 
 /// The folder as which the lines write `.`.
-fn folder_of_lines(alloc: Global, matches: &ArgMatches<'_>) -> Result<PathBuf, Fault> {
+fn folder_of_lines(alloc: Global, matches: &ArgMatches<'_>) -> Result<PathBuf, Fault>
+    ensures ok { IfOk result (λ path. path ≡ only_of (map parts_of (places_in matches.now))) }
+    ensures err { IfErr result (λ e. e ≡ Memory) }
+{
     let folders = folders_of(alloc, matches)?;
     Ok(only_folder(alloc, folders.as_slice())?)
+}
+
+/// The bursts that the words ask for: of events that pass the filter, and in lines that write `.` as this folder.
+fn bursts_of<'n, 'p, O: Write + Drop, E: Write + Drop>(
+    alloc: Global,
+    matches: &ArgMatches<'n>,
+    folder: &'p PathBuf,
+    filter: PathFilter<'p>,
+    out: O,
+    err: E,
+) -> Result<Bursts<'n, 'p, O, E>, Fault>
+    ensures places { IfOk result (λ b. map (λ place. place.now) b.places.items
+        ≡ places_in matches.now) }
+    ensures given { IfOk result (λ b. (b.folder.now ≡ folder.now)
+        × (filter_rule b.filter ≡ filter_rule filter) × (b.trigger ≡ []) × (b.out ≡ out)) }
+    ensures none { IfOk result (λ b. one_text (found_of matches.now) (codes "quiet") ≡ None
+        → as_nanos b.quiet ≡ 500 * 10 ^ 6) }
+    ensures number { IfOk result (λ b. (n : ℕ) → Gives matches.now (codes "quiet") n
+        → as_nanos b.quiet ≡ n * 10 ^ 6) }
+    ensures err { IfErr result (λ e. e ≡ Memory) }
+{
+    Ok(Bursts {
+        alloc,
+        name: NAME,
+        places: places_of(alloc, matches)?,
+        folder,
+        quiet: milliseconds_of(matches, "quiet", QUIET),
+        filter,
+        trigger: Trigger::new(alloc),
+        out,
+        err,
+    })
 }
 
 /// Watches the folders that the words name, and prints a line for each burst.
@@ -98,24 +139,15 @@ fn run<R: DebouncerRuntime + AllocGlobal, O: Write + Drop, E: Write + Drop>(
         Err(fault) => return Err(fault.say(NAME, &mut err)),
     };
     let filter: PathFilter<'_> = patterns.filter(alloc)?;
-    let mut bursts = Bursts {
-        alloc,
-        name: NAME,
-        places: places_of(alloc, matches)?,
-        folder: &folder,
-        quiet: milliseconds_of(matches, "quiet", QUIET),
-        filter,
-        trigger: Trigger::new(alloc),
-        out,
-        err,
-    };
+    let mut bursts = bursts_of(alloc, matches, &folder, filter, out, err)?;
     watch(rt, matches, complaints, &mut bursts)
 }
 
 fn main(rt: HostRuntime) -> ExitCode {
+    let closed = ClosedPaths::new();
     let status = run_with_words(&rt, NAME, command_line, &mut rt.stderr(), |matches| {
-        let complaints = Complaints::new(NAME, rt.stderr());
-        run(rt, matches, rt.stdout(), rt.stderr(), complaints)
+        let complaints = Complaints::new(NAME, rt.stderr()).counting(&closed);
+        closed.end(run(rt, matches, rt.stdout(), rt.stderr(), complaints))
     });
     ExitCode::from(status)
 }

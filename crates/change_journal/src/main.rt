@@ -16,7 +16,7 @@ use std::io::Write;
 use std::process::ExitCode;
 use watch_loop::follow_folders;
 use watch_program::{
-    Complaints, Fault, folders_of, pace_of, places_of, run_with_words, write_missed,
+    ClosedPaths, Complaints, Fault, folders_of, pace_of, places_of, run_with_words, write_missed,
 };
 use words::{NAME, command_line, form_of, patterns_of};
 
@@ -66,9 +66,10 @@ fn watch<R: DebouncerRuntime + AllocGlobal, O: Write + Drop, E: Write + Drop>(
 }
 
 fn main(rt: HostRuntime) -> ExitCode {
+    let closed = ClosedPaths::new();
     let status = run_with_words(&rt, NAME, command_line, &mut rt.stderr(), |matches| {
-        let complaints = Complaints::new(NAME, rt.stderr());
-        run(rt, matches, rt.stdout(), rt.stderr(), complaints)
+        let complaints = Complaints::new(NAME, rt.stderr()).counting(&closed);
+        closed.end(run(rt, matches, rt.stdout(), rt.stderr(), complaints))
     });
     ExitCode::from(status)
 }

@@ -14,8 +14,8 @@ use std::io::Write;
 use std::process::ExitCode;
 use watch_loop::follow_file;
 use watch_program::{
-    Complaints, Fault, Pace, PlaceWord, command, pace_of, place_of, run_with_words, with_until_eof,
-    write_missed,
+    ClosedPaths, Complaints, Fault, Pace, PlaceWord, command, pace_of, place_of, run_with_words,
+    with_until_eof, write_missed,
 };
 
 /// The program's name.
@@ -73,9 +73,10 @@ fn run<R: DebouncerRuntime + AllocGlobal, O: Write + Drop, E: Write + Drop>(
 }
 
 fn main(rt: HostRuntime) -> ExitCode {
+    let closed = ClosedPaths::new();
     let status = run_with_words(&rt, NAME, command_line, &mut rt.stderr(), |matches| {
-        let complaints = Complaints::new(NAME, rt.stderr());
-        run(rt, matches, rt.stdout(), rt.stderr(), complaints)
+        let complaints = Complaints::new(NAME, rt.stderr()).counting(&closed);
+        closed.end(run(rt, matches, rt.stdout(), rt.stderr(), complaints))
     });
     ExitCode::from(status)
 }

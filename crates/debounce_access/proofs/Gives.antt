@@ -13,7 +13,7 @@ use Rattle.told_lock.proofs.Moves.{begins_self, begins_trans}
 use Rattle.debounce_access.specs.declared.locked.Locked.{Locked}
 use Rattle.debounce_access.specs.Adds.{Adds, AddsFed, BatchMakes, CommandMakes, Does, FedMakes, GainsTick, AddsTick, Makes, TickMakes}
 use Rattle.debounce_access.specs.Happened.{HappenedValue, History, Missed, accepted, entries_of, is_emitting, journal_of}
-use Rattle.debounce_access.specs.Stands.{GoesOn, IsLeft, IsTold, Lasts, LeadsTo, Reach, Stands}
+use Rattle.debounce_access.specs.Stands.{GoesOn, IsTold, Lasts, LeadsTo, Reach, Stands}
 use Rattle.debounce_access.specs.Taken.{TakesAll, all_out}
 use Rattle.debounce_access.proofs.Steps.{picked_append, parted_stands}
 
@@ -117,20 +117,12 @@ module _ {C A : Type 0} where
   )
 
   -- the way that alone takes entries out knows at which history they were
-  pub left_by : (u v : Hand HappenedValue) (x : Locked C A) → u.keeps ≡ true → Took StandsIn is_emitting u x v
-      → IsLeft u.seen (entries_of u.taken) x.book.value x.missed
-  left_by u v x keeps took = (
-    v.seen,
-    took.goes_on,
-    subst (λ (l : History). LeadsTo x.book.value x.missed (entries_of l)
-        v.seen) (took.taken keeps) took.stands.0,
-  )
-
   pub told_by : (u v : Hand HappenedValue) (x : Locked C A) (seen : History) → u.keeps ≡ true
       → Took StandsIn is_emitting u x v → Begins seen v.seen → picked is_emitting seen ≡ picked is_emitting v.seen
-      → IsTold seen (entries_of u.taken) x.book.value x.missed
+      → IsTold u.seen seen (entries_of u.taken) x.book.value x.missed
   told_by u v x seen keeps took begins told = (
     v.seen,
+    took.goes_on,
     begins,
     subst (λ (l : History). LeadsTo x.book.value x.missed
         (entries_of l) v.seen) (took.taken keeps) took.stands.0,

@@ -11,13 +11,14 @@ use Rattle.notify_types.specs.declared.event.RecursiveMode.{RecursiveMode}
 use Rattle.debounce_model.specs.Cache.{Rules}
 use Rattle.debounce_model.specs.Command.{CommandValue, EventCommand, ErrorCommand, RootCommand, UnrootCommand, ErrorsCommand, TickCommand, ReplyValue, TakenReply, NotedReply, RootedReply, UnrootedReply, ErrorsReply, BatchReply}
 use Rattle.debounce_model.specs.State.{State}
+use Rattle.debounce_model.specs.Tick.{IsOutlook}
 use Rattle.debounce_book.specs.Book.{Kept, kept_entries, written, parted, with_entry, entry_of, fed_command, fed_reply, IsDone, IsNotDone, IsUnwritten, Ticks, GivesErrors, TicksBoth}
 use Rattle.debounce_book.specs.Journal.{EntryValue, Accepts, IsLegal}
 use Rattle.debounce_book.proofs.Replay.{IsLegal-append, state-refused, Accepts-step, timeout-accepts}
 use Rattle.told_lock.specs.History.{Begins, picked}
 use Rattle.debounce_access.specs.Adds.{CommandMakes, FedMakes, BatchMakes, ErrorsMake, TickMakes}
 use Rattle.debounce_access.specs.Happened.{HappenedValue, History, Missed, accepted, asks, entry_in, entries_of, missed_in, is_emitting, is_nil, is_journaled, journal_of}
-use Rattle.debounce_access.specs.Stands.{BeginsAs, GivesJournal, IsRest, LeadsTo, Stands}
+use Rattle.debounce_access.specs.Stands.{BeginsAs, IsRest, LeadsTo, Stands, ToldJournal}
 use Rattle.debounce_access.specs.Taken.{all_out}
 
 abbrev Entries : Type 0
@@ -312,14 +313,24 @@ module _ {C : Type 0} where
       )
 
   -- the timeout and the journal, if nothing was taken out of it
-  pub gives_journal : {A : Type 0} (book : Kept C) (count : ℕ) (seen out log : History)
-      (res : Result (ℕ × Vec EntryValue A) ErrorValue) → Begins seen log → Stands book count out log → out ≡ []
+  pub gives_journal : {A : Type 0} (book : Kept C) (count : ℕ) (seen told out log : History)
+      (res : Result (ℕ × Vec EntryValue A) ErrorValue) → Begins seen log → Begins told log
+      → picked is_emitting told ≡ picked is_emitting log → Stands book count out log → out ≡ []
       → IfOk res (λ r. (r.0 ≡ book.core.state.timeout) × (r.1.items ≡ unwrap_or book.journal []))
-      → IfOk res (λ r. GivesJournal seen r.0 r.1.items)
-  gives_journal book count seen out log (Ok r) begins (led, whole) first ok = (
+      → IfOk res (λ r. ToldJournal seen told r.0 r.1.items)
+  gives_journal book count seen told out log (Ok r) begins begun same (led, whole) first ok = (
     log,
     begins,
+    begun,
     subst (λ (x : ℕ × Bool). BeginsAs x.0 x.1 log) (λ i. (sym ok.0 i, journaled_as _ _ log led.opened i)) led.opened,
     ok.1 ∙ kept_journal book.core.state.timeout book.journal book.part out log (whole first) first led.opened led.rest,
+    same,
   )
-  gives_journal book count seen out log (Err e) begins stands first ok = tt
+  gives_journal book count seen told out log (Err e) begins begun same stands first ok = tt
+
+-- the state that an outlook shows is one to which the history leads
+pub shows_state : {A : Type 0} (res : Result (Vec Timed A) ErrorValue) (s : State) (log : History)
+    → IfOk res (λ b. IsOutlook s b.items) → IsLegal (entries_of log) s
+    → IfOk res (λ b. (t : State) × IsOutlook t b.items × IsLegal (entries_of log) t)
+shows_state (Ok b) s log shown legal = (s, shown, legal)
+shows_state (Err e) s log shown legal = tt

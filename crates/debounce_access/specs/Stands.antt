@@ -29,15 +29,12 @@ pub record LeadsTo {C : Type 0} (book : Kept C) (count : ℕ) (parts : List Entr
 abbrev pub Stands : {C : Type 0} → Kept C → ℕ → History → History → Type 0
 Stands book count out log = LeadsTo book count (entries_of out) log × (out ≡ [] → book.part ≡ None)
 
--- what is left at the end: a history that goes on from what was seen leads to it
-abbrev pub IsLeft : {C : Type 0} → History → List EntryValue → Kept C → ℕ → Type 0
-IsLeft seen parts book count = (log : History) × Begins seen log × LeadsTo book count parts log
-
--- .. and nothing else was emitted than this has seen
-abbrev pub IsTold : {C : Type 0} → History → List EntryValue → Kept C → ℕ → Type 0
-IsTold seen parts book count =
-    (log : History) × Begins seen log × LeadsTo book count parts log
-    × (picked is_emitting seen ≡ picked is_emitting log)
+-- at the end one history goes on from what was seen and from what was told, it leads to the book and to the count, and
+-- nothing else was emitted in it than was told
+abbrev pub IsTold : {C : Type 0} → History → History → List EntryValue → Kept C → ℕ → Type 0
+IsTold seen told parts book count =
+    (log : History) × Begins seen log × Begins told log × LeadsTo book count parts log
+    × (picked is_emitting told ≡ picked is_emitting log)
 
 -- the history of a book that was just opened
 abbrev pub opening : {C : Type 0} → Kept C → History
@@ -90,28 +87,32 @@ StaysButTells old new =
     (new.lock ≡ old.lock) × (new.seen ≡ old.seen) × (new.out ≡ old.out) × (new.keeps ≡ old.keeps)
 
 -- what a debouncer that runs shows: its watcher, of which lock it is, the history as far as it has seen it, the parts
--- of the journal that were taken out, and whether none was
-pub record Running (T : Type 0) : Type 0 where
+-- of the journal that were taken out, and whether none was; and what was there of its handler at the start
+pub record Running (T L : Type 0) : Type 0 where
   pub watcher : T
   pub lock : TableId
   pub seen : History
   pub parts : List EntryValue
   pub is_whole : Bool
+  pub began : L
 
 -- it runs on in the same history, and nothing was taken out of its journal
-pub record RunsOn {T : Type 0} (old new : Running T) : Type 0 where
+pub record RunsOn {T L : Type 0} (old new : Running T L) : Type 0 where
   pub lock : new.lock ≡ old.lock
   pub parts : new.parts ≡ old.parts
   pub is_whole : new.is_whole ≡ old.is_whole
+  pub began : new.began ≡ old.began
   pub seen : Begins old.seen new.seen
 
 -- it has just been started with this timeout, and with a journal or without
-pub record IsStarted {T : Type 0} (started : Running T) (timeout : ℕ) (journaled : Bool) : Type 0 where
+pub record IsStarted {T L : Type 0} (started : Running T L) (timeout : ℕ) (journaled : Bool) : Type 0 where
   pub seen : started.seen ≡ Opened timeout journaled ∷ []
   pub parts : started.parts ≡ []
   pub is_whole : started.is_whole ≡ true
 
--- these are the timeout and the journal of a history that goes on from what was seen
-abbrev pub GivesJournal : History → ℕ → List EntryValue → Type 0
-GivesJournal seen timeout journal =
-    (log : History) × Begins seen log × BeginsAs timeout (is_journaled log) log × (journal ≡ journal_of log)
+-- these are the timeout and the journal of a history that goes on from what was seen and from what was told, and
+-- nothing else was emitted in it than was told
+abbrev pub ToldJournal : History → History → ℕ → List EntryValue → Type 0
+ToldJournal seen told timeout journal =
+    (log : History) × Begins seen log × Begins told log × BeginsAs timeout (is_journaled log) log
+    × (journal ≡ journal_of log) × (picked is_emitting told ≡ picked is_emitting log)

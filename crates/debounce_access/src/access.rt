@@ -10,7 +10,7 @@ ghost use Rattle.debounce_book.specs.Journal.{IsJournal, IsLegal, IsPart};
 ghost use Rattle.debounce_book.specs.JournalLaws.{LosesNoChange, GivesRawPaths, InventsNoRename};
 ghost use Rattle.debounce_access.specs.Adds.{Adds, AddsFed, AddsTick, CommandMakes, GainsTick};
 ghost use Rattle.debounce_access.specs.Happened.{Missed, accepted, entries_of, is_emitting, journal_of};
-ghost use Rattle.debounce_access.specs.Stands.{GivesJournal, GoesOn, IsLeft, IsTold, Lasts, Stands, StaysButTells, opening, seen_by, tells_of};
+ghost use Rattle.debounce_access.specs.Stands.{GoesOn, IsTold, Lasts, Stands, StaysButTells, ToldJournal, opening, seen_by, tells_of};
 
 use crate::locked::{BookLock, BookPass, Goes, Locked, TakesOut};
 use crate::made::Made;
@@ -223,7 +223,9 @@ impl<C: FileIdCache<A> + Drop, A: Allocator + Copy> Access<C, A> {
 impl<C: Drop, A: Allocator + Copy> Access<C, A> {
     /// Returns what waits, in the order of a batch.
     pub fn outlook<R: Wait>(&mut self, rt: &R) -> Result<Vec<DebouncedEvent<A>, A>, Error<A>>
-        ensures outlook { IfOk result (λ batch. (s : State) × IsOutlook s batch.items) }
+        ensures lasts { Lasts self.old self.new }
+        ensures outlook { IfOk result (λ batch. (s : State) × IsOutlook s batch.items
+            × IsLegal (entries_of self.new.seen) s) }
         ensures err { IfErr result (λ e. e ≡ out_of_memory) }
     {
         let Access { lock, pass } = self;
@@ -251,10 +253,16 @@ impl<C: Drop, A: Allocator + Copy> Access<C, A> {
     }
 
     /// Returns the timeout and a copy of the journal, if one is kept and nothing was taken out of it; else no
-    /// entries.
-    pub fn journal<R: Wait>(&mut self, rt: &R) -> Result<(Moment, Vec<Entry<A>, A>), Error<A>>
+    /// entries. `teller` is the worker's pass, by which all was emitted that was.
+    pub fn journal<R: Wait>(
+        &mut self,
+        rt: &R,
+        teller: BookPass<C, A>,
+    ) -> Result<(Moment, Vec<Entry<A>, A>), Error<A>>
+        requires lock { (teller.table_id ≡ self.old.lock) × (teller.me.1 ≡ []) }
+        requires tells { tells_of teller ≡ true }
         ensures left { self.old.keeps ≡ true → self.old.out ≡ [] →
-            IfOk result (λ r. GivesJournal self.old.seen r.0 r.1.items) }
+            IfOk result (λ r. ToldJournal self.old.seen (seen_by teller) r.0 r.1.items) }
         ensures legal { IfOk result (λ r. IsJournal r.0 r.1.items) }
         ensures kept { IfOk result (λ r. LosesNoChange r.0 r.1.items) }
         ensures raw { IfOk result (λ r. GivesRawPaths r.0 r.1.items) }
@@ -263,6 +271,7 @@ impl<C: Drop, A: Allocator + Copy> Access<C, A> {
     {
         let Access { lock, pass } = self;
         let (guard, held) = lock.take(rt, pass);
+        lock.compare(pass, teller);
         let journal = held.book.journal();
         lock.give::<Unchanged>(guard, pass, held);
         journal
@@ -274,8 +283,7 @@ impl<C: Drop, A: Allocator + Copy> Access<C, A> {
         requires keeps { self.keeps ≡ true }
         requires lock { (teller.table_id ≡ self.lock) × (teller.me.1 ≡ []) }
         requires tells { tells_of teller ≡ true }
-        ensures left { IsLeft self.seen (entries_of self.out) result.0 result.1 }
-        ensures told { IsTold (seen_by teller) (entries_of self.out) result.0 result.1 }
+        ensures told { IsTold self.seen (seen_by teller) (entries_of self.out) result.0 result.1 }
     {
         let Access { lock, mut pass } = self;
         let lock = wait_for_last(rt, lock);

@@ -11,17 +11,20 @@ ghost use Rattle.debounce_book.specs.JournalLaws.{LosesNoChange, GivesRawPaths, 
 ghost use Rattle.told_lock.specs.History.{Begins, picked};
 ghost use Rattle.debounce_access.specs.Adds.{Adds};
 ghost use Rattle.debounce_access.specs.Happened.{Opened, accepted, entries_of, is_emitting, journal_of};
-ghost use Rattle.debounce_access.specs.Stands.{GivesJournal, IsLeft, IsStarted, RunsOn, StaysButTells};
+ghost use Rattle.debounce_access.specs.Stands.{IsStarted, RunsOn, StaysButTells};
 ghost use Rattle.debounce_turns.specs.Clock.{IsIo};
+ghost use Rattle.debounce_turns.specs.Handed.{LeavesAll};
 ghost use Rattle.debounce_turns.specs.Watched.{AsksFirst, ListsFirst};
+ghost use Rattle.debounce_turns.specs.Ended.{EndsJournal, IsEnded};
 ghost use Rattle.debounce_shell.specs.Start.{IsStartError, IsStopped, IsTooSlow, too_slow, tick_nanos};
 
-use crate::worker::{Pace, Worker, start_worker};
-use debounce_access::access::Access;
+use crate::worker::{Worker, start_worker};
 use debounce_book::book::Book;
 use debounce_book::entry::Entry;
 use debounce_turns::clock::start_of;
 use debounce_turns::feed::{Feed, Receipt};
+use debounce_turns::left::{Ending, Forgotten, Leaves, Returned};
+use debounce_turns::life::Pace;
 use debounce_turns::shared::Shared;
 use file_id_cache::cache::FileIdCache;
 use notify_paths::error::{Error, ErrorKind};
@@ -34,8 +37,9 @@ use notify_watch::watcher::{ListingWatcher, Watcher, start_task};
 use std::alloc::{Allocator, Global};
 use std::fs::Files;
 use std::marker::Model;
+use std::snapshot::Snapshot;
+use std::sync::Wait;
 use std::sync::atomic::Ordering;
-use std::sync::{Mutex, Wait};
 use std::thread::Threads;
 use std::time::{Clock, Duration, Instant};
 
@@ -43,25 +47,31 @@ use std::time::{Clock, Duration, Instant};
 /// `C` is the cache of file numbers, and `R` the runtime.
 ///
 /// Clauses see its watcher, the history of its book as far as it has seen it, and the parts of the
-/// journal that were taken out.
+/// journal that were taken out. `L` is what is left of the handler at the end; of [`Forgotten`] clauses
+/// see nothing.
 ///
 /// Dropping it asks its thread to end, and does not wait for it. What still waits then is dropped.
-pub struct Debouncer<T: Drop, C: Drop, R: Threads + Wait + Drop, A: Allocator = Global> {
+pub struct Debouncer<
+    T: Drop,
+    C: Drop,
+    R: Threads + Wait + Drop,
+    A: Allocator = Global,
+    L: Leaves = Forgotten,
+> {
     watcher: T,
     shared: Shared<C, R, A>,
-    /// For whoever asks without a `&mut`.
-    spare: Mutex<Access<C, A>>,
-    worker: Worker<C, A>,
+    worker: Worker<C, L, A>,
     /// The moment from which it counts.
     start: Instant,
 }
 
-impl<T: Drop, C: Drop, R: Threads + Wait + Drop, A: Allocator> Model for Debouncer<T, C, R, A> {
+impl<T: Drop, C: Drop, R: Threads + Wait + Drop, A: Allocator, L: Leaves> Model
+    for Debouncer<T, C, R, A, L> {
     ghost use Rattle.std.specs.Prelude.{◌≡◌, true};
     ghost use Rattle.debounce_access.specs.Happened.{entries_of, is_nil};
     ghost use Rattle.debounce_access.specs.Stands.{Running};
 
-    ghost Value = { Running T };
+    ghost Value = { Running T L };
 
     ghost view = { λ d. record {
       watcher = d.watcher;
@@ -69,19 +79,20 @@ impl<T: Drop, C: Drop, R: Threads + Wait + Drop, A: Allocator> Model for Debounc
       seen = d.shared.owner.seen;
       parts = entries_of d.shared.owner.out;
       is_whole = is_nil d.shared.owner.out;
+      began = d.worker.promise.began.value;
     } };
 
     ghost invariant = { λ d. (d.shared.owner.keeps ≡ true)
         × (d.worker.promise.access.value.lock ≡ d.shared.owner.lock) };
 }
 
-impl<T: Drop, C: Drop, R: Threads + Wait + Drop, A: Allocator> Drop for Debouncer<T, C, R, A> {
+impl<T: Drop, C: Drop, R: Threads + Wait + Drop, A: Allocator, L: Leaves> Drop
+    for Debouncer<T, C, R, A, L> {
     fn drop(self) {
         self.shared.set_stop();
         let Self {
             watcher: _,
             shared: _,
-            spare: _,
             worker: _,
             start: _,
         } = self;
@@ -124,7 +135,9 @@ pub fn new_debouncer_opt<
         return Err(Error::new(alloc, ErrorKind::Generic(String::new(alloc))));
     };
     let book = Book::new(alloc, file_id_cache, timeout.as_nanos());
-    start(Shared::new(rt, alloc, book)?, tick, event_handler, config)
+    let shared = Shared::new(rt, alloc, book)?;
+    let began = Snapshot::of(&Forgotten);
+    start::<F, Forgotten, Forgotten, T, C, R, A>(shared, tick, event_handler, began, config)
 }
 
 /// Starts a debouncer that keeps a journal of the commands that it accepts, for
@@ -155,7 +168,43 @@ pub fn new_journaled_debouncer<
         return Err(Error::new(alloc, ErrorKind::Generic(String::new(alloc))));
     };
     let book = Book::journaled(alloc, file_id_cache, timeout.as_nanos());
-    start(Shared::new(rt, alloc, book)?, tick, event_handler, config)
+    let shared = Shared::new(rt, alloc, book)?;
+    let began = Snapshot::of(&Forgotten);
+    start::<F, Forgotten, Forgotten, T, C, R, A>(shared, tick, event_handler, began, config)
+}
+
+/// Starts a debouncer as [`new_debouncer_opt`], whose handler comes back by [`Debouncer::finish_left`], for
+/// whoever proves what it was called with.
+pub fn new_told_debouncer<
+    F: DebounceEventHandler<DebounceEventResult<A>> + Leaves,
+    T: Watcher<Feed<C, R, A>, R, A>,
+    C: FileIdCache<A> + Drop + Send + 'static,
+    R: Threads + Wait + Clock + Files + Copy + Send + Sync + 'static,
+    A: Allocator + Copy + Send + Sync + 'static,
+>(
+    rt: R,
+    alloc: A,
+    timeout: Duration,
+    tick_rate: Option<Duration>,
+    event_handler: F,
+    file_id_cache: C,
+    config: Config,
+) -> Result<Debouncer<T, C, R, A, F>, Error<A>>
+    requires ready { F.ready event_handler }
+    requires leaves { LeavesAll F.handles (λ h l. l ≡ h) F.tells event_handler event_handler }
+    requires takes { (feed : _) → T.takes feed }
+    ensures rate { IsTooSlow timeout tick_rate → IsErrOf result too_slow }
+    ensures opened { IfOk result (λ d. IsStarted d (as_nanos timeout) false) }
+    ensures began { IfOk result (λ d. d.began ≡ event_handler) }
+    ensures err { IfErr result (IsStartError T.refuses timeout tick_rate) }
+{
+    let Some(tick) = tick_of(timeout, tick_rate) else {
+        return Err(Error::new(alloc, ErrorKind::Generic(String::new(alloc))));
+    };
+    let book = Book::new(alloc, file_id_cache, timeout.as_nanos());
+    let shared = Shared::new(rt, alloc, book)?;
+    let began = Snapshot::of(&event_handler);
+    start::<F, Returned, F, T, C, R, A>(shared, tick, event_handler, began, config)
 }
 
 /// How long the worker sleeps before each turn: the tick rate, if it isn't above the timeout, and
@@ -176,6 +225,8 @@ fn tick_of(timeout: Duration, tick_rate: Option<Duration>) -> Option<Duration>
 /// Starts the worker and then the watcher. All memory of the debouncer's own is taken before.
 fn start<
     F: DebounceEventHandler<DebounceEventResult<A>>,
+    E: Ending<F, L> + Send + 'static,
+    L: Leaves,
     T: Watcher<Feed<C, R, A>, R, A>,
     C: FileIdCache<A> + Drop + Send + 'static,
     R: Threads + Wait + Clock + Files + Copy + Send + Sync + 'static,
@@ -184,27 +235,28 @@ fn start<
     mut shared: Shared<C, R, A>,
     tick: Duration,
     handler: F,
+    began: Snapshot<L>,
     config: Config,
-) -> Result<Debouncer<T, C, R, A>, Error<A>>
+) -> Result<Debouncer<T, C, R, A, L>, Error<A>>
     requires ready { F.ready handler }
+    requires leaves { LeavesAll F.handles E.ends L.tells handler began.value }
     requires takes { (feed : _) → T.takes feed }
     requires rights { (shared.owner.keeps ≡ true) × (shared.owner.tells ≡ true) }
     requires fresh { (picked is_emitting shared.owner.seen ≡ []) × (shared.owner.out ≡ []) }
     ensures opened { IfOk result (λ d.
-        (d.seen ≡ shared.owner.seen) × (d.parts ≡ []) × (d.is_whole ≡ true)) }
+        (d.seen ≡ shared.owner.seen) × (d.parts ≡ []) × (d.is_whole ≡ true)
+        × (d.began ≡ began.value)) }
     ensures err { IfErr result (IsStopped T.refuses) }
 {
     let Fed {
         feed,
-        spare,
         worker,
         start,
-    } = start_fed(&mut shared, tick, handler)?;
+    } = start_fed::<F, E, L, C, R, A>(&mut shared, tick, handler, began)?;
     match start_watcher(shared.rt, shared.alloc, feed, config) {
         Ok(watcher) => Ok(Debouncer {
             watcher,
             shared,
-            spare: Mutex::new(spare),
             worker,
             start,
         }),
@@ -216,34 +268,42 @@ fn start<
 }
 
 /// A debouncer but for its watcher.
-struct Fed<C: Drop, R: Wait + Drop, A: Allocator> {
+struct Fed<C: Drop, R: Wait + Drop, L: Leaves, A: Allocator> {
     feed: Feed<C, R, A>,
-    spare: Access<C, A>,
-    worker: Worker<C, A>,
+    worker: Worker<C, L, A>,
     start: Instant,
 }
 
 /// Starts the worker, and makes the feed, which counts from the same start.
 fn start_fed<
     F: DebounceEventHandler<DebounceEventResult<A>>,
+    E: Ending<F, L> + Send + 'static,
+    L: Leaves,
     C: FileIdCache<A> + Drop + Send + 'static,
     R: Threads + Wait + Clock + Copy + Send + Sync + 'static,
     A: Allocator + Copy + Send + Sync + 'static,
->(shared: &mut Shared<C, R, A>, tick: Duration, handler: F) -> Result<Fed<C, R, A>, Error<A>>
+>(
+    shared: &mut Shared<C, R, A>,
+    tick: Duration,
+    handler: F,
+    began: Snapshot<L>,
+) -> Result<Fed<C, R, L, A>, Error<A>>
     requires ready { F.ready handler }
+    requires leaves { LeavesAll F.handles E.ends L.tells handler began.value }
     requires tells { shared.old.owner.tells ≡ true }
     requires fresh { picked is_emitting shared.old.owner.seen ≡ [] }
     ensures same { StaysButTells shared.old.owner shared.new.owner }
-    ensures ok { IfOk result (λ f. f.worker.promise.access.value.lock ≡ shared.old.owner.lock) }
+    ensures ok { IfOk result (λ f.
+        (f.worker.promise.access.value.lock ≡ shared.old.owner.lock)
+        × (f.worker.promise.began.value ≡ began.value)) }
     ensures err { IfErr result (λ e. (e ≡ out_of_memory) ⊎ IsIo e) }
 {
     let start = start_of(&shared.rt, shared.alloc)?;
     let feed = shared.feed(start)?;
-    let spare = shared.another()?;
-    let worker = start_worker(shared, handler, Pace { start, tick })?;
+    let pace = Pace { start, tick };
+    let worker = start_worker::<F, E, L, C, R, A>(shared, handler, began, pace)?;
     Ok(Fed {
         feed,
-        spare,
         worker,
         start,
     })
@@ -269,7 +329,8 @@ impl<
     C: FileIdCache<A> + Drop + Send + 'static,
     R: Threads + Wait + Clock + Files + Copy + Send + Sync + 'static,
     A: Allocator + Copy + Send + Sync + 'static,
-> Debouncer<T, C, R, A> {
+    L: Leaves,
+> Debouncer<T, C, R, A, L> {
     /// Watches a path from now on; in the mode `Recursive` also what is below it.
     ///
     /// The watcher comes first: if it refuses, its error is passed on, and the roots are as they were.
@@ -340,7 +401,21 @@ impl<
     ///
     /// It waits until each [`Feed`] was dropped: for ever, if a watcher keeps one after its own drop.
     pub fn finish(self) -> (Book<C, A>, u64)
-        ensures left { IsLeft self.seen self.parts result.0 result.1 }
+        ensures ended { (left : L)
+            × IsEnded (L.tells self.began) left self.seen self.parts result.0 result.1 }
+        ensures legal { IfSome result.0.journal (λ es. IsLegal es result.0.core.state) }
+        ensures part { IfSome result.0.part (λ es. IsPart es result.0.core.state) }
+    {
+        let (book, missed, left) = self.finish_left();
+        drop(left);
+        (book, missed)
+    }
+
+    /// Stops as `finish` does, and returns what is left of the handler too, which was called with just what
+    /// was emitted.
+    pub fn finish_left(self) -> (Book<C, A>, u64, L)
+        ensures ended { IsEnded (L.tells self.began) result.2 self.seen self.parts result.0
+            result.1 }
         ensures legal { IfSome result.0.journal (λ es. IsLegal es result.0.core.state) }
         ensures part { IfSome result.0.part (λ es. IsPart es result.0.core.state) }
     {
@@ -348,32 +423,23 @@ impl<
         let Self {
             mut watcher,
             shared,
-            spare,
             worker,
             start: _,
         } = self;
         watcher.look_last();
         drop(watcher);
-        drop(spare);
-        let teller = worker.join(&shared.rt);
-        let Shared {
-            rt,
-            alloc: _,
-            owner,
-            signals: _,
-        } = shared;
-        let (book, missed) = owner.close(&rt, teller);
-        // This call shows the proof that the journal is legal, or the part of it.
-        let _ = book.is_journaled();
-        (book, missed)
+        let (teller, left) = worker.join(&shared.rt);
+        let (book, missed) = shared.into_book(teller);
+        (book, missed, left)
     }
 }
 
-impl<T: Drop, C: Drop, R: Threads + Wait + Clock + Drop, A: Allocator + Copy> Debouncer<
+impl<T: Drop, C: Drop, R: Threads + Wait + Clock + Drop, A: Allocator + Copy, L: Leaves> Debouncer<
     T,
     C,
     R,
     A,
+    L,
 > {
     /// Returns how many events and errors of the watcher were refused, and so are never emitted.
     /// After 2^64 - 1 it begins again at 0.
@@ -399,12 +465,14 @@ impl<T: Drop, C: Drop, R: Threads + Wait + Clock + Drop, A: Allocator + Copy> De
 
     /// Returns what waits, in the order of a batch: the batch that would be emitted if all of it were as
     /// old as the timeout. It goes on waiting.
-    pub fn outlook(&self) -> Result<Vec<DebouncedEvent<A>, A>, Error<A>>
-        ensures outlook { IfOk result (λ batch. (s : State) × IsOutlook s batch.items) }
+    pub fn outlook(&mut self) -> Result<Vec<DebouncedEvent<A>, A>, Error<A>>
+        ensures watcher { self.new.watcher ≡ self.old.watcher }
+        ensures seen { RunsOn self.old self.new }
+        ensures outlook { IfOk result (λ batch. (s : State) × IsOutlook s batch.items
+            × IsLegal (entries_of self.new.seen) s) }
         ensures err { IfErr result (λ e. e ≡ out_of_memory) }
     {
-        let mut spare = self.spare.lock(&self.shared.rt);
-        spare.outlook(&self.shared.rt)
+        self.shared.owner.outlook(&self.shared.rt)
     }
 
     /// Takes out the entries of the journal so far, while the debouncer runs: all of them, or those since
@@ -456,7 +524,6 @@ impl<T: Drop, C: Drop, R: Threads + Wait + Clock + Drop, A: Allocator + Copy> De
         let Self {
             watcher: _,
             shared,
-            spare: _,
             worker,
             start: _,
         } = self;
@@ -473,8 +540,8 @@ impl<T: Drop, C: Drop, R: Threads + Wait + Clock + Drop, A: Allocator + Copy> De
     /// none is kept, or a part of it was taken out. If memory for a copy of the journal is refused, the
     /// thread has ended too.
     pub fn stop_journal(self) -> Result<(Moment, Vec<Entry<A>, A>), Error<A>>
-        ensures left { self.is_whole ≡ true →
-            IfOk result (λ r. GivesJournal self.seen r.0 r.1.items) }
+        ensures ended { self.is_whole ≡ true → IfOk result (λ r. (left : L)
+            × EndsJournal (L.tells self.began) left self.seen r.0 r.1.items) }
         ensures legal { IfOk result (λ r. IsJournal r.0 r.1.items) }
         ensures kept { IfOk result (λ r. LosesNoChange r.0 r.1.items) }
         ensures raw { IfOk result (λ r. GivesRawPaths r.0 r.1.items) }
@@ -485,12 +552,12 @@ impl<T: Drop, C: Drop, R: Threads + Wait + Clock + Drop, A: Allocator + Copy> De
         let Self {
             watcher: _,
             shared,
-            spare: _,
             worker,
             start: _,
         } = self;
-        worker.join(&shared.rt);
-        shared.into_journal()
+        let (teller, left) = worker.join(&shared.rt);
+        drop(left);
+        shared.into_journal(teller)
     }
 }
 
@@ -499,7 +566,8 @@ impl<
     C: FileIdCache<A> + Drop + Send + 'static,
     R: Threads + Wait + Clock + Files + Copy + Send + Sync + 'static,
     A: Allocator + Copy + Send + Sync + 'static,
-> Debouncer<T, C, R, A> {
+    L: Leaves,
+> Debouncer<T, C, R, A, L> {
     /// Watches a path as `watch` does, and returns what stands there. The batches tell how this changes, if
     /// nothing at, below or above the path was watched since the debouncer was started; for roots that
     /// overlap, or come and go, a watcher with `Config::with_initial_events` reports from nothing on.

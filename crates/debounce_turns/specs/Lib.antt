@@ -1,3 +1,5 @@
 pub mod Clock
+pub mod Ended
+pub mod Handed
 pub mod Turn
 pub mod Watched

@@ -1,16 +1,17 @@
 //! What the threads of a debouncer share.
-ghost use Rattle.std.specs.Prelude.{◌≡◌, [], true, IfErr, IfOk, OnOk};
+ghost use Rattle.std.specs.Prelude.{◌≡◌, [], true, IfErr, IfOk, IfSome, OnOk};
 ghost use Rattle.notify_paths.specs.Errors.{out_of_memory};
 ghost use Rattle.debounce_model.specs.Command.{RootCommand, RootedReply};
-ghost use Rattle.debounce_book.specs.Journal.{IsJournal};
+ghost use Rattle.debounce_book.specs.Journal.{IsJournal, IsLegal, IsPart};
 ghost use Rattle.debounce_book.specs.JournalLaws.{LosesNoChange, GivesRawPaths, InventsNoRename};
 ghost use Rattle.debounce_access.specs.Adds.{Adds};
-ghost use Rattle.debounce_access.specs.Happened.{accepted};
-ghost use Rattle.debounce_access.specs.Stands.{GivesJournal, Lasts, Stands, StaysButTells, opening};
+ghost use Rattle.debounce_access.specs.Happened.{accepted, entries_of};
+ghost use Rattle.debounce_access.specs.Stands.{IsTold, Lasts, Stands, StaysButTells, ToldJournal, opening, seen_by, tells_of};
 ghost use Rattle.debounce_turns.specs.Watched.{AsksFirst};
 
 use crate::feed::Feed;
 use debounce_access::access::Access;
+use debounce_access::locked::BookPass;
 use debounce_book::book::Book;
 use debounce_book::entry::Entry;
 use file_id_cache::cache::FileIdCache;
@@ -22,6 +23,7 @@ use notify_watch::watcher::Watcher;
 use std::alloc::Allocator;
 use std::sync::atomic::{AtomicBool, AtomicU64, Ordering};
 use std::sync::{Arc, Wait};
+use std::time::Clock;
 
 /// A debouncer's own way to its book, and the signals that it shares with its worker and its feed.
 #[derive(Drop)]
@@ -144,16 +146,46 @@ impl<C: FileIdCache<A> + Drop, R: Wait + Drop, A: Allocator + Copy> Shared<C, R,
 
 impl<C: Drop, R: Wait + Drop, A: Allocator + Copy> Shared<C, R, A> {
     /// Returns the timeout and a copy of the journal at the end, if one is kept and nothing was taken out of it;
-    /// else no entries.
-    pub fn into_journal(mut self) -> Result<(Moment, Vec<Entry<A>, A>), Error<A>>
+    /// else no entries. `teller` is the worker's pass, by which all was emitted that was.
+    pub fn into_journal(
+        mut self,
+        teller: BookPass<C, A>,
+    ) -> Result<(Moment, Vec<Entry<A>, A>), Error<A>>
+        requires lock { (teller.table_id ≡ self.owner.lock) × (teller.me.1 ≡ []) }
+        requires tells { tells_of teller ≡ true }
         ensures left { self.owner.keeps ≡ true → self.owner.out ≡ [] →
-            IfOk result (λ r. GivesJournal self.owner.seen r.0 r.1.items) }
+            IfOk result (λ r. ToldJournal self.owner.seen (seen_by teller) r.0 r.1.items) }
         ensures legal { IfOk result (λ r. IsJournal r.0 r.1.items) }
         ensures kept { IfOk result (λ r. LosesNoChange r.0 r.1.items) }
         ensures raw { IfOk result (λ r. GivesRawPaths r.0 r.1.items) }
         ensures founded { IfOk result (λ r. InventsNoRename r.0 r.1.items) }
         ensures err { IfErr result (λ e. e ≡ out_of_memory) }
     {
-        self.owner.journal(&self.rt)
+        self.owner.journal(&self.rt, teller)
+    }
+}
+
+impl<C: FileIdCache<A> + Drop, R: Wait + Clock + Drop, A: Allocator + Copy> Shared<C, R, A> {
+    /// Waits until no other reaches the book, and returns it with the count of what was missed. `teller` is the
+    /// worker's pass, by which all was emitted that was.
+    pub fn into_book(self, teller: BookPass<C, A>) -> (Book<C, A>, u64)
+        requires keeps { self.owner.keeps ≡ true }
+        requires lock { (teller.table_id ≡ self.owner.lock) × (teller.me.1 ≡ []) }
+        requires tells { tells_of teller ≡ true }
+        ensures told { IsTold self.owner.seen (seen_by teller) (entries_of self.owner.out) result.0
+            result.1 }
+        ensures legal { IfSome result.0.journal (λ es. IsLegal es result.0.core.state) }
+        ensures part { IfSome result.0.part (λ es. IsPart es result.0.core.state) }
+    {
+        let Shared {
+            rt,
+            alloc: _,
+            owner,
+            signals: _,
+        } = self;
+        let (book, missed) = owner.close(&rt, teller);
+        // This call shows the proof that the journal is legal, or the part of it.
+        let _ = book.is_journaled();
+        (book, missed)
     }
 }

@@ -3,6 +3,7 @@ use crate::build::{check_numbers, check_text, path};
 use crate::cache::add_batch;
 use crate::trees::{Notes, listing, tree};
 use calls_by_hand::follower::Follower;
+use fake_folders::closed::ClosedFolders;
 use folder_listing::compare::compare;
 use notify_debouncer_full::{Listing, PathBuf, Polled, RecursiveMode};
 use std::process::Abort;
@@ -229,6 +230,45 @@ look /d/h /d/e/g /d/e/x: Create(Folder) /d/e, Create(File) /d/e/g, Create(File) 
 round Create(File) /d/f",
 ];
 
+/// The same with `shut`, some folders that are closed in a round that keeps what was shown of them, and what it reports;
+/// `peek`, a folder that is closed, and some paths that one look is at.
+const STORIES_OF_CLOSED: [&str; 4] = [
+    // What lies in a closed folder stays, whatever becomes of it meanwhile. The rest is reported, and so is what has
+    // changed once it is open.
+    "now / folder, /c file 1, /d folder, /d/e folder, /d/e/f file 1
+show /
+round Create(Folder) /, Create(File) /c, Create(Folder) /d, Create(Folder) /d/e, Create(File) /d/e/f
+now / folder, /c file 2, /d folder, /g file 1
+shut /d: Create(File) /g, Modify(Data(Any)) /c
+shut /d: nothing
+round Remove(Folder) /d/e",
+    // The root itself is closed, and then it isn't.
+    "now / folder, /d folder, /d/f file 1
+show /d
+round Create(Folder) /, Create(Folder) /d, Create(File) /d/f
+now / folder, /d folder, /d/g file 1
+shut /d: nothing
+round Remove(File) /d/f, Create(File) /d/g",
+    // A closed folder that is new is shown, and nothing in it; one that goes is reported.
+    "now / folder, /d folder
+show /
+round Create(Folder) /, Create(Folder) /d
+now / folder, /d folder, /e folder, /e/f file 1
+shut /e: Create(Folder) /e
+shut /e: nothing
+round Create(File) /e/f
+now / folder, /d folder
+shut /e: Remove(Folder) /e",
+    // A look keeps as a round does.
+    "now / folder, /c file 1, /d folder, /d/f file 1
+show /
+round Create(Folder) /, Create(File) /c, Create(Folder) /d, Create(File) /d/f
+now / folder, /c file 2, /d folder
+peek /d /d/f /c: Modify(Data(Any)) /c
+peek /d /d: nothing
+look /d/f: Remove(File) /d/f",
+];
+
 /// Checks what was reported.
 fn check_notes(rt: &(impl Abort + AllocGlobal), notes: &mut Notes, text: &str, wanted: &str) {
     let wanted = if wanted == "nothing" { "" } else { wanted };
@@ -264,6 +304,31 @@ fn check_look(rt: &(impl Abort + AllocGlobal), polled: &mut Polled, text: &str, 
     check_notes(rt, &mut notes, text, wanted);
 }
 
+/// Makes a round in which some folders are closed, and checks what it reports.
+fn check_shut(rt: &(impl Abort + AllocGlobal), polled: &mut Polled, text: &str, line: &str) {
+    let (places, wanted) = line.split_once(": ").expect(rt, line);
+    let shut = paths_of(rt, places);
+    let mut notes = Notes::new(rt);
+    let mut folders = ClosedFolders::new(rt.alloc(), tree(rt, rt.alloc(), text), shut);
+    polled.kept_round(&mut folders, &mut notes);
+    check_notes(rt, &mut notes, line, wanted);
+}
+
+/// Looks at some paths while a folder is closed, and checks what this reports.
+fn check_peek(rt: &(impl Abort + AllocGlobal), polled: &mut Polled, text: &str, line: &str) {
+    let (places, wanted) = line.split_once(": ").expect(rt, line);
+    let (place, named) = places.split_once(' ').expect(rt, line);
+    let paths = paths_of(rt, named);
+    let mut notes = Notes::new(rt);
+    let mut folders = ClosedFolders::new(
+        rt.alloc(),
+        tree(rt, rt.alloc(), text),
+        paths_of(rt, place),
+    );
+    polled.kept_look(&mut folders, &mut notes, paths.as_slice());
+    check_notes(rt, &mut notes, line, wanted);
+}
+
 /// The mode that a word of a scene asks for.
 fn mode_of(word: &str) -> RecursiveMode {
     match word {
@@ -285,6 +350,12 @@ fn carry_out(
     }
     if word == "look" {
         return check_look(rt, polled, text, rest);
+    }
+    if word == "shut" {
+        return check_shut(rt, polled, text, rest);
+    }
+    if word == "peek" {
+        return check_peek(rt, polled, text, rest);
     }
     let place = path(rt, rt.alloc(), rest);
     let mut folders = tree(rt, rt.alloc(), text);
@@ -333,4 +404,9 @@ fn roots_are_reported_from_nothing(rt: HostRuntime) {
 #[test]
 fn looks_see_what_is_named(rt: HostRuntime) {
     play(&rt, &LOOKS);
+}
+
+#[test]
+fn what_is_closed_is_kept(rt: HostRuntime) {
+    play(&rt, &STORIES_OF_CLOSED);
 }

@@ -21,7 +21,8 @@ use std::io::Write;
 use std::process::ExitCode;
 use watch_loop::FolderReports;
 use watch_program::{
-    Complaints, Fault, PlaceWord, command, folder_of, hints_of, option, pace_of, run_with_words,
+    ClosedPaths, Complaints, Fault, PlaceWord, command, folder_of, hints_of, option, pace_of,
+    run_with_words,
 };
 
 /// The program's name.
@@ -110,9 +111,10 @@ fn run<R: DebouncerRuntime + AllocGlobal + Input, O: Write + Drop, E: Write + Dr
 }
 
 fn main(rt: HostRuntime) -> ExitCode {
+    let closed = ClosedPaths::new();
     let status = run_with_words(&rt, NAME, command_line, &mut rt.stderr(), |matches| {
-        let complaints = Complaints::new(NAME, rt.stderr());
-        run(rt, matches, rt.stdout(), rt.stderr(), complaints)
+        let complaints = Complaints::new(NAME, rt.stderr()).counting(&closed);
+        closed.end(run(rt, matches, rt.stdout(), rt.stderr(), complaints))
     });
     ExitCode::from(status)
 }

@@ -1,7 +1,7 @@
 -- The names in a folder, found by a walk over the entries of a tree.
-use Rattle.std.proofs.Common.{◌≡◌, ℕ, Bool, true, false, ◌&&◌, ◌||◌, List, [], ◌∷◌, ◌++◌, map, drop, length, refl, ap, sym, subst, ◌∙◌, Some, None, true≢false}
+use Rattle.std.proofs.Common.{◌≡◌, ℕ, Bool, true, false, ◌||◌, List, [], ◌∷◌, ◌++◌, drop, length, refl, ap, sym, ◌∙◌, Some, None, true≢false}
 use Rattle.std.specs.Prelude.{Option, if◌then◌else◌}
-use Rattle.std.specs.declared.cmp.Ordering.TheVariants.{Less, Equal, Greater}
+use Rattle.std.specs.declared.cmp.Ordering.TheVariants.{Equal}
 use Rattle.std.specs.Ordering.{is_eq}
 use Rattle.std.specs.List.{list_any}
 use Rattle.std.specs.Map.{keys_of}
@@ -10,13 +10,12 @@ use Rattle.std.specs.Str.{bytes_eq}
 use Rattle.std.proofs.lemmas.Cmp.{tied_itself}
 use Rattle.std.proofs.lemmas.List.Folds.{list_any-append}
 use Rattle.std.proofs.lemmas.Slice.Eq.{bytes_eq-Decides}
-use Rattle.notify_paths.specs.Path.{PathValue, PartValue, RootPart, CurPart, ParentPart, NamePart, part_cmp, part_bytes, path_cmp, is_prefix}
+use Rattle.notify_paths.specs.Path.{PathValue, RootPart, CurPart, ParentPart, NamePart, part_cmp, part_bytes, path_cmp, is_prefix}
 use Rattle.notify_paths.specs.PathLaws.{part_cmp_total, path_eq_decides, path_matches_eq}
 use Rattle.debounce_model.specs.Play.{has_path}
 use Rattle.folder_listing.specs.declared.entry.Found.{Found}
 use Rattle.folder_listing.specs.Listing.{ListingValue, has_entry}
 use Rattle.folder_listing.proofs.BehindLemmas.{at-same, prefix-append, prefix-rest}
-use Rattle.poll_rounds.specs.Folders.{AreNames}
 use Rattle.fake_folders.specs.Tree.{only_name, name_in}
 
 -- the name is this one, if it is one

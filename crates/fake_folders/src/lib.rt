@@ -1,4 +1,4 @@
-//! Folders for tests: a tree in memory, and folders of which one call fails.
+//! Folders for tests: a tree in memory, folders of which one call fails, and folders of which some are closed.
 //!
 //! ```text
 //! let Some(folders) = TreeFolders::new(rt.alloc(), tree) else { .. };
@@ -7,5 +7,6 @@
 //! ```
 #![tactic(auto)]
 
+pub mod closed;
 pub mod failing;
 pub mod tree;

@@ -2,19 +2,9 @@
 //! docs/examples/folder_mirror.md is its page.
 #![tactic(auto)]
 
-mod apart;
-mod complaints;
-mod copied;
-mod copy;
-mod looks;
-mod mirror;
-mod waiting;
-mod writing;
-
-use apart::check_apart;
 use clap::{ArgMatches, Command};
-use copy::{FolderCopy, Leave};
-use mirror::Mirror;
+use mirror_files::{FolderCopy, RealDisk, check_apart};
+use mirror_state::{Leave, Mirror, NAME};
 use notify_debouncer_full::{DebouncerRuntime, PathBuf, RecursiveMode};
 use std::alloc::{AllocError, Global};
 use std::fs;
@@ -23,12 +13,9 @@ use std::io::Write;
 use std::process::ExitCode;
 use watch_loop::follow_folder;
 use watch_program::{
-    Complaints, Fault, Pace, PlaceWord, command, flag, folder_of, pace_of, place_arg, place_of,
-    run_with_words, with_until_eof,
+    ClosedPaths, Complaints, Fault, Pace, PlaceWord, command, flag, folder_of, pace_of, place_arg,
+    place_of, run_with_words, with_until_eof,
 };
-
-/// The program's name.
-const NAME: &str = "folder_mirror";
 
 /// The folder that is copied.
 const FROM: PlaceWord<'static> = PlaceWord {
@@ -66,7 +53,7 @@ fn copy_of<R: DebouncerRuntime + AllocGlobal, E: Write>(
     rt: R,
     matches: &ArgMatches<'_>,
     err: &mut E,
-) -> Result<FolderCopy<R>, Fault> {
+) -> Result<FolderCopy<RealDisk<R>>, Fault> {
     let (from, to) = (place_of(matches), matches.get_str("to").unwrap_or(""));
     let leave = leave_of(matches);
     check_apart(&rt, from, to)?;
@@ -78,7 +65,7 @@ fn copy_of<R: DebouncerRuntime + AllocGlobal, E: Write>(
     }
     let from = folder_of(rt.alloc(), matches)?;
     match PathBuf::parse(rt.alloc(), to) {
-        Ok(to) => FolderCopy::new(rt, from, to, leave),
+        Ok(to) => FolderCopy::new(RealDisk::new(rt), from, to, leave),
         Err(_) => Err(Fault::Memory),
     }
 }
@@ -108,7 +95,7 @@ fn make_folder<R: Files, E: Write>(rt: &R, folder: &str, err: &mut E) -> Result<
 /// Watches FROM from nothing on: what is there is reported first, and so TO becomes a copy, and stays one.
 fn keep<R: DebouncerRuntime + AllocGlobal, O: Write + Drop, E: Write + Drop>(
     rt: R,
-    mirror: &mut Mirror<R, O, E>,
+    mirror: &mut Mirror<FolderCopy<RealDisk<R>>, O, E>,
     pace: Pace<'_>,
     complaints: Complaints<'_, E>,
 ) -> Result<(), Fault> {
@@ -131,14 +118,15 @@ fn run<R: DebouncerRuntime + AllocGlobal, O: Write + Drop, E: Write + Drop>(
     complaints: Complaints<'_, E>,
 ) -> Result<(), Fault> {
     let copy = copy_of(rt, matches, &mut err)?;
-    let mut mirror = Mirror::new(rt, copy, out, err);
+    let mut mirror = Mirror::new(rt.alloc(), copy, leave_of(matches), out, err);
     keep(rt, &mut mirror, pace_of(matches), complaints)
 }
 
 fn main(rt: HostRuntime) -> ExitCode {
+    let closed = ClosedPaths::new();
     let status = run_with_words(&rt, NAME, command_line, &mut rt.stderr(), |matches| {
-        let complaints = Complaints::new(NAME, rt.stderr());
-        run(rt, matches, rt.stdout(), rt.stderr(), complaints)
+        let complaints = Complaints::new(NAME, rt.stderr()).counting(&closed);
+        closed.end(run(rt, matches, rt.stdout(), rt.stderr(), complaints))
     });
     ExitCode::from(status)
 }

@@ -1,5 +1,6 @@
 //! The end of standard input, which ends a program that asks for it.
-ghost use Rattle.std.specs.Prelude.{◌≡◌, IfErr};
+ghost use Rattle.std.specs.Prelude.{◌≡◌, ◌^◌, min, false, true, is_some, IfErr, IfNone, IfSome, IsSome};
+ghost use Rattle.std.specs.Duration.{as_nanos};
 ghost use Rattle.watch_program.specs.declared.fault.Fault.TheVariants.{Memory};
 
 use std::alloc::Global;
@@ -57,7 +58,14 @@ impl InputEnd {
     }
 
     /// How long to wait at once, of so long: only a moment, if the input may end meanwhile.
-    pub(crate) fn nap(&self, left: Option<Duration>) -> Option<Duration> {
+    pub(crate) fn nap(&self, left: Option<Duration>) -> Option<Duration>
+        ensures whole { is_some self.now.ended ≡ false → result ≡ left }
+        ensures some { is_some self.now.ended ≡ true → IsSome result }
+        ensures endless { is_some self.now.ended ≡ true → IfNone left
+            (IfSome result (λ nap. as_nanos nap ≡ 10 ^ 8)) }
+        ensures cut { is_some self.now.ended ≡ true → IfSome left (λ left.
+            IfSome result (λ nap. as_nanos nap ≡ min (as_nanos left) (10 ^ 8))) }
+    {
         match (&self.ended, left) {
             (None, left) => left,
             (Some(_), None) => Some(Duration::from_millis(NAP)),

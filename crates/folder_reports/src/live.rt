@@ -10,7 +10,7 @@ use crate::input_end::InputEnd;
 use crate::rest::rest_of;
 use crate::waiting::Waiting;
 use notify_debouncer_full::{
-    Config, DebouncerRuntime, PathBuf, RecommendedReports, RecursiveMode, Reports,
+    ClosedCount, Config, DebouncerRuntime, PathBuf, RecommendedReports, RecursiveMode, Reports,
 };
 use report_loop::Rest;
 use std::time::{Clock, Duration, Instant};
@@ -37,7 +37,8 @@ impl<R: DebouncerRuntime + AllocGlobal> Live<R> {
         let config = Config::default()
             .with_poll_interval(pace.interval)
             .with_initial_events(pace.initial)
-            .with_root_links(true);
+            .with_root_links(true)
+            .with_closed_kept(true);
         let end = end_of(&rt, pace.life);
         let input = InputEnd::new(rt.alloc(), pace.until_eof)?;
         let tick = tick_of(pace.timeout);
@@ -122,6 +123,16 @@ impl<R: DebouncerRuntime + AllocGlobal> Live<R> {
     /// How many names of the folders are left out, since they aren't UTF-8.
     pub(crate) fn names_left_out(&self) -> u64 {
         self.reports.debouncer().watcher().names_left_out()
+    }
+
+    /// Returns what tells how many paths can't be looked at, also after the end.
+    pub(crate) fn closed(&self) -> Result<ClosedCount, Fault>
+        ensures err { IfErr result (λ e. e ≡ Memory) }
+    {
+        match self.reports.debouncer().watcher().closed_count() {
+            Ok(closed) => Ok(closed),
+            Err(_) => Err(Fault::Memory),
+        }
     }
 
     /// Stops the watcher and the debouncer, waits until both have ended, and returns what was not given

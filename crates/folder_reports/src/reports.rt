@@ -116,12 +116,16 @@ impl<'n, R: DebouncerRuntime + AllocGlobal, E: Write + Drop> FolderReports<'n, R
     }
 
     /// Stops the watcher and the debouncer, waits until both have ended, and returns what was not given
-    /// yet. Nothing is lost but what is counted as missed.
+    /// yet. Nothing is lost but what is counted as missed. How many paths the last look couldn't look at is noted
+    /// (`Complaints::counting`).
     pub fn finish(mut self) -> Result<Rest, Fault>
         ensures ok { IfOk result (λ rest. IsLeft rest.reports.items) }
         ensures err { IfErr result (λ e. e ≡ Memory) }
     {
         self.say_left_out();
-        self.live.finish()
+        let closed = self.live.closed()?;
+        let rest = self.live.finish();
+        self.complaints.note_closed(closed.get());
+        rest
     }
 }

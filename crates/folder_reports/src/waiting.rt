@@ -1,6 +1,7 @@
 //! The wait for what is reported, until a program's life is over.
-ghost use Rattle.std.specs.Prelude.{◌≡◌, ◌≢◌, None, IfSome, IsSome};
+ghost use Rattle.std.specs.Prelude.{◌≡◌, ◌≢◌, ◌≤◌, ◌<◌, ◌+◌, ◌-◌, None, IfSome, IsSome};
 ghost use Rattle.std.specs.Duration.{as_nanos};
+ghost use Rattle.std.specs.Time.{instant_nanos};
 ghost use Rattle.report_loop.specs.declared.source.Given.TheVariants.{Nothing};
 
 use crate::input_end::InputEnd;
@@ -71,10 +72,7 @@ impl<'a, R: Wait + Clock> Waiting<'a, R> {
             if report.is_some() || left == Some(nap) {
                 return report;
             }
-            left = match left {
-                Some(left) => Some(left.saturating_sub(nap)),
-                None => None,
-            };
+            left = left_after(left, nap);
         }
         None
     }
@@ -115,10 +113,31 @@ impl<R: Wait + Clock> GivesReports for Waiting<'_, R> {
     }
 }
 
+/// What is left of a wait after a nap. A wait without an end has none after it either.
+fn left_after(left: Option<Duration>, nap: Duration) -> Option<Duration>
+    ensures endless { left ≡ None → result ≡ None }
+    ensures some { IsSome left → IsSome result }
+    ensures left { IfSome left (λ before. IfSome result (λ after.
+        as_nanos after ≡ as_nanos before - as_nanos nap)) }
+{
+    Some(left?.saturating_sub(nap))
+}
+
 /// How long it is to the end. `None` says that it has come, or that the clock can't be read.
 fn left<R: Clock>(rt: &R, end: Instant) -> Option<Duration>
-    ensures { IfSome result (λ left. as_nanos left ≢ 0) }
+    ensures some { IfSome result (λ left. as_nanos left ≢ 0) }
 {
-    let left = end.checked_duration_since(Instant::now(rt).ok()?)?;
+    left_from(Instant::now(rt).ok()?, end)
+}
+
+/// How long it is from now to the end. `None` says that it has come.
+fn left_from(now: Instant, end: Instant) -> Option<Duration>
+    ensures over { instant_nanos end ≤ instant_nanos now → result ≡ None }
+    ensures some { IfSome result (λ left. as_nanos left ≢ 0) }
+    ensures goes_on { instant_nanos now < instant_nanos end → IsSome result }
+    ensures left { IfSome result (λ left.
+        as_nanos left + instant_nanos now ≡ instant_nanos end) }
+{
+    let left = end.checked_duration_since(now)?;
     if left.is_zero() { None } else { Some(left) }
 }

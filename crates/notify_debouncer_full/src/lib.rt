@@ -25,6 +25,7 @@ mod recommended;
 mod reports;
 mod runtime;
 
+pub use batch_moves::{Move, Moves};
 pub use debounce_book::book::{Book, command_step};
 pub use debounce_book::entry::Entry;
 pub use debounce_book::steps::{Ticked, feed_step, root_step, tick_step, unroot_step};
@@ -32,12 +33,15 @@ pub use debounce_core::data::DebounceDataInner;
 pub use debounce_core::laws::laws_of_runs;
 pub use debounce_model::command::{Command, Reply};
 pub use debounce_model::file_id::FileId;
-pub use debounce_shell::debouncer::{Debouncer, new_debouncer_opt, new_journaled_debouncer};
+pub use debounce_shell::debouncer::{
+    Debouncer, new_debouncer_opt, new_journaled_debouncer, new_told_debouncer,
+};
 pub use debounce_shell::send_to::{SendTo, Unsent};
 pub use debounce_threads::meet::{Meet, NoMeet};
 pub use debounce_threads::run::run_threads;
 pub use debounce_turns::clock::now;
 pub use debounce_turns::feed::{Feed, Receipt};
+pub use debounce_turns::left::{Forgotten, Leaves};
 pub use debounce_turns::turn::{Gate, feed_one, turn};
 pub use event_order::order::sort_events;
 pub use event_queues::queue::Queue;
@@ -52,7 +56,7 @@ pub use notify_paths::error::{Error, ErrorKind};
 pub use notify_paths::part::{FoldersAbove, Part, Parts};
 pub use notify_paths::path::PathBuf;
 pub use notify_poll::hints::Hints;
-pub use notify_poll::watcher::{PollTask, PollWatcher};
+pub use notify_poll::watcher::{ClosedCount, PollTask, PollWatcher};
 pub use notify_types::event::{DebouncedEvent, Event, EventAttributes, Flag, RecursiveMode};
 pub use notify_types::kind::{
     AccessKind, AccessMode, CreateKind, DataChange, EventKind, MetadataKind, ModifyKind,

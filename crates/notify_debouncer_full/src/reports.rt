@@ -1,9 +1,16 @@
 //! What a running debouncer reports, one report after the other.
-ghost use Rattle.std.specs.Prelude.{◌≡◌, ◌↔◌, true, IfErr, IfOk, IfSome, IsErrOf};
+ghost use Rattle.std.specs.Prelude.{◌≡◌, ◌↔◌, true, false, IfErr, IfOk, IfSome, IsErrOf, OnOk};
+ghost use Rattle.std.specs.Duration.{as_nanos};
 ghost use Rattle.notify_paths.specs.Errors.{out_of_memory};
+ghost use Rattle.debounce_model.specs.Command.{RootCommand, UnrootCommand, RootedReply, UnrootedReply};
 ghost use Rattle.debounce_model.specs.State.{State};
 ghost use Rattle.debounce_model.specs.Tick.{IsOutlook};
 ghost use Rattle.debounce_book.specs.Journal.{IsLegal};
+ghost use Rattle.debounce_access.specs.Adds.{Adds};
+ghost use Rattle.debounce_access.specs.Happened.{accepted, entries_of};
+ghost use Rattle.debounce_access.specs.Stands.{IsStarted, RunsOn};
+ghost use Rattle.debounce_turns.specs.Ended.{IsEnded};
+ghost use Rattle.debounce_turns.specs.declared.left.Forgotten.{Forgotten};
 ghost use Rattle.debounce_shell.specs.Start.{IsStartError, IsTooSlow, too_slow};
 ghost use Rattle.debounce_turns.specs.Watched.{AsksFirst, ListsFirst};
 
@@ -81,6 +88,7 @@ impl<
     ) -> Result<Reports<T, R, A>, Error<A>>
         requires takes { (feed : _) → T.takes feed }
         ensures rate { IsTooSlow timeout tick_rate → IsErrOf result too_slow }
+        ensures opened { IfOk result (λ r. IsStarted r.debouncer (as_nanos timeout) false) }
         ensures err { IfErr result (IsStartError T.refuses timeout tick_rate) }
     {
         if is_too_slow(timeout, tick_rate) {
@@ -101,18 +109,24 @@ impl<
     /// Watches a path from now on; in the mode `Recursive` also what is below it. It is as
     /// `Debouncer::watch`.
     pub fn watch(&mut self, path: &PathBuf<A>, mode: RecursiveMode) -> Result<(), Error<A>>
-        ensures { AsksFirst (λ answer.
+        ensures asked { AsksFirst (λ answer.
             T.watches self.old.debouncer.watcher path.now mode answer
             self.new.debouncer.watcher) result }
+        ensures seen { RunsOn self.old.debouncer self.new.debouncer }
+        ensures ok { OnOk result (Adds self.old.debouncer.seen
+            (accepted (RootCommand path.now mode) RootedReply) self.new.debouncer.seen) }
     {
         self.debouncer.watch(path, mode)
     }
 
     /// Watches a path no longer. It is as `Debouncer::unwatch`.
     pub fn unwatch(&mut self, path: &PathBuf<A>) -> Result<(), Error<A>>
-        ensures { AsksFirst (λ answer.
+        ensures asked { AsksFirst (λ answer.
             T.unwatches self.old.debouncer.watcher path.now answer self.new.debouncer.watcher)
             result }
+        ensures seen { RunsOn self.old.debouncer self.new.debouncer }
+        ensures ok { OnOk result (Adds self.old.debouncer.seen
+            (accepted (UnrootCommand path.now) UnrootedReply) self.new.debouncer.seen) }
     {
         self.debouncer.unwatch(path)
     }
@@ -121,6 +135,8 @@ impl<
     /// returns all that was not asked for: first what is in the channel, and then what was never
     /// emitted. Nothing is lost but what was counted as missed or unsent.
     pub fn finish(self) -> LastReports<A>
+        ensures ended { (left : Forgotten) × IsEnded (λ _ _. Unit {0}) left self.debouncer.seen
+            self.debouncer.parts result.book result.missed }
         ensures legal { IfSome result.book.journal (λ es. IsLegal es result.book.core.state) }
     {
         let Reports {
@@ -151,9 +167,12 @@ impl<
         path: &PathBuf<A>,
         mode: RecursiveMode,
     ) -> Result<T::Listing, Error<A>>
-        ensures { ListsFirst (λ answer.
+        ensures asked { ListsFirst (λ answer.
             T.lists self.old.debouncer.watcher path.now mode answer self.new.debouncer.watcher)
             result }
+        ensures seen { RunsOn self.old.debouncer self.new.debouncer }
+        ensures ok { OnOk result (Adds self.old.debouncer.seen
+            (accepted (RootCommand path.now mode) RootedReply) self.new.debouncer.seen) }
     {
         self.debouncer.watch_listed(path, mode)
     }
@@ -181,8 +200,11 @@ impl<T: Drop, R: DebouncerRuntime, A: DebouncerAllocator> Reports<T, R, A> {
 
     /// Returns what waits to be emitted, as `Debouncer::outlook`. What was emitted and waits in the
     /// channel isn't among it.
-    pub fn outlook(&self) -> Result<Vec<DebouncedEvent<A>, A>, Error<A>>
-        ensures outlook { IfOk result (λ batch. (s : State) × IsOutlook s batch.items) }
+    pub fn outlook(&mut self) -> Result<Vec<DebouncedEvent<A>, A>, Error<A>>
+        ensures seen { RunsOn self.old.debouncer self.new.debouncer }
+        ensures watcher { self.new.debouncer.watcher ≡ self.old.debouncer.watcher }
+        ensures outlook { IfOk result (λ batch. (s : State) × IsOutlook s batch.items
+            × IsLegal (entries_of self.new.debouncer.seen) s) }
         ensures err { IfErr result (λ e. e ≡ out_of_memory) }
     {
         self.debouncer.outlook()

@@ -11,19 +11,21 @@ pub struct Config {
     modified_times: bool,
     initial_events: bool,
     root_links: bool,
+    closed_kept: bool,
 }
 
 impl Default for Config {
     ghost is_default = { IsDefaultConfig };
 
     /// Returns the settings of most programs: a poll each second, by lengths and modified times, no event of what
-    /// stands at a path when it is watched, and no link followed.
+    /// stands at a path when it is watched, no link followed, and what permission closes counts as missing.
     fn default() -> Config {
         Config {
             poll_interval: Duration::from_secs(1),
             modified_times: true,
             initial_events: false,
             root_links: false,
+            closed_kept: false,
         }
     }
 }
@@ -102,6 +104,26 @@ impl Config {
         ensures { result ≡ self.now.root_links }
     {
         self.root_links
+    }
+
+    /// Sets whether a polling watcher keeps what it has shown of a path at which its look fails, as since permission
+    /// closes the path: then nothing at that path or below it is reported until a look goes well again, and the rest is
+    /// reported as always. The round says which path and why by an error with this path, once, and again if the cause
+    /// changes. Without it, what permission closes counts as missing, and another failure of a look fails the round.
+    pub fn with_closed_kept(self, kept: bool) -> Config
+        ensures { result ≡ record self { closed_kept = kept } }
+    {
+        Config {
+            closed_kept: kept,
+            ..self
+        }
+    }
+
+    /// Returns whether a polling watcher keeps what it has shown of a path at which its look fails.
+    pub fn closed_kept(&self) -> bool
+        ensures { result ≡ self.now.closed_kept }
+    {
+        self.closed_kept
     }
 }
 

@@ -71,7 +71,7 @@ fn play(rt: &impl Eprint, paths: &mut PathSet, report: &DebounceEventResult) -> 
 }
 
 fn comes(
-    reports: &RecommendedReports<impl DebouncerRuntime>,
+    reports: &mut RecommendedReports<impl DebouncerRuntime>,
     paths: &PathSet,
     stop: &PathBuf,
 ) -> Result<bool> {

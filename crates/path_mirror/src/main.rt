@@ -44,7 +44,7 @@ fn follow(
 }
 
 fn comes(
-    reports: &RecommendedReports<impl DebouncerRuntime>,
+    reports: &mut RecommendedReports<impl DebouncerRuntime>,
     paths: &PathSet,
     stop: &PathBuf,
 ) -> Result<bool> {
@@ -54,7 +54,7 @@ fn comes(
 
 fn mirror(
     rt: &(impl Print + Eprint),
-    reports: &RecommendedReports<impl DebouncerRuntime>,
+    reports: &mut RecommendedReports<impl DebouncerRuntime>,
     paths: &mut PathSet,
     stop: &PathBuf,
 ) -> Result<()> {
@@ -104,7 +104,7 @@ fn watch<R: DebouncerRuntime + AllocGlobal + Print + Eprint>(
     )?;
     reports.watch(folder, RecursiveMode::Recursive)?;
     let mut paths = PathSet::new(rt.alloc());
-    mirror(&rt, &reports, &mut paths, &stop_in(&rt, folder)?)?;
+    mirror(&rt, &mut reports, &mut paths, &stop_in(&rt, folder)?)?;
     end(&rt, &mut paths, &reports.finish())
 }
 

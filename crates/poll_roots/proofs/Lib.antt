@@ -1,1 +1,2 @@
 pub mod PolledLemmas
+pub mod SaidLemmas

@@ -1,1 +1,2 @@
 pub mod Polled
+pub mod Said

@@ -2,4 +2,5 @@
 #![tactic(auto)]
 
 pub mod polled;
+mod said;
 pub mod watched;

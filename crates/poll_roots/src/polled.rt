@@ -6,6 +6,7 @@ ghost use Rattle.notify_types.specs.declared.event.RecursiveMode.TheVariants.{No
 ghost use Rattle.folder_listing.specs.Changes.{changes};
 ghost use Rattle.folder_listing.specs.Listing.{IsListing, ListingValue, has_entry, is_nonempty};
 ghost use Rattle.folder_listing.specs.Near.{seen};
+ghost use Rattle.poll_rounds.specs.Closed.{LookKeeps, RoundKeeps};
 ghost use Rattle.poll_rounds.specs.Folders.{IsTree, shown};
 ghost use Rattle.poll_rounds.specs.Parts.{LooksEach};
 ghost use Rattle.poll_rounds.specs.Reports.{Reports};
@@ -17,6 +18,7 @@ use notify_paths::error::{Error, ErrorKind};
 use notify_paths::path::PathBuf;
 use notify_types::event::{Event, RecursiveMode};
 use notify_watch::handler::EventHandler;
+use poll_rounds::closed::{NotesClosed, kept_look, kept_round};
 use poll_rounds::folders::Folders;
 use poll_rounds::list::list_root;
 use poll_rounds::look::look_round;
@@ -204,6 +206,73 @@ impl<A: Allocator + Copy> Polled<A> {
         ensures counted { D.failed folders.old ≤ D.failed folders.new }
     {
         look_round(
+            self.alloc,
+            folders,
+            self.roots.as_slice(),
+            &mut self.last,
+            paths,
+            handler,
+        )
+    }
+}
+
+/// The same steps, which keep what can't be looked at.
+impl<A: Allocator + Copy> Polled<A> {
+    /// Makes one round over the watched paths, as [`kept_round`].
+    pub fn kept_round<D: NotesClosed<A>, H: EventHandler<Result<Event<A>, Error<A>>>>(
+        &mut self,
+        folders: &mut D,
+        handler: &mut H,
+    ) -> bool
+        requires { H.ready handler.old }
+        ensures again { H.ready handler.new }
+        ensures roots { self.new.roots ≡ self.old.roots }
+        ensures given { result ≡ true →
+            HandsEach H.handles (changes self.old.last self.new.last) handler.old handler.new }
+        ensures kept { result ≡ true →
+            RoundKeeps (D.told folders.old) self.old.roots (D.closed folders.new) self.old.last
+            self.new.last }
+        ensures unchanged { result ≡ false → self.new.last ≡ self.old.last }
+        ensures refused { result ≡ false →
+            HandsRefusal H.handles (D.failed folders.old) (D.failed folders.new) handler.old
+            handler.new }
+        ensures reports { Reports H.handles self.old.last self.new.last handler.old handler.new }
+        ensures same { D.told folders.new ≡ D.told folders.old }
+        ensures counted { D.failed folders.old ≤ D.failed folders.new }
+    {
+        kept_round(
+            self.alloc,
+            folders,
+            self.roots.as_slice(),
+            &mut self.last,
+            handler,
+        )
+    }
+
+    /// Looks at these paths alone, and below them, as [`kept_look`].
+    pub fn kept_look<D: NotesClosed<A>, H: EventHandler<Result<Event<A>, Error<A>>>>(
+        &mut self,
+        folders: &mut D,
+        handler: &mut H,
+        paths: &[PathBuf<A>],
+    ) -> bool
+        requires { H.ready handler.old }
+        ensures again { H.ready handler.new }
+        ensures roots { self.new.roots ≡ self.old.roots }
+        ensures given { result ≡ true →
+            HandsEach H.handles (changes self.old.last self.new.last) handler.old handler.new }
+        ensures kept { result ≡ true →
+            LookKeeps (D.told folders.old) self.old.roots paths.now (D.closed folders.new)
+            self.old.last self.new.last }
+        ensures unchanged { result ≡ false → self.new.last ≡ self.old.last }
+        ensures refused { result ≡ false →
+            HandsRefusal H.handles (D.failed folders.old) (D.failed folders.new) handler.old
+            handler.new }
+        ensures reports { Reports H.handles self.old.last self.new.last handler.old handler.new }
+        ensures same { D.told folders.new ≡ D.told folders.old }
+        ensures counted { D.failed folders.old ≤ D.failed folders.new }
+    {
+        kept_look(
             self.alloc,
             folders,
             self.roots.as_slice(),

@@ -1,12 +1,17 @@
 //! What a polling watcher keeps under its lock.
 ghost use Rattle.std.specs.Prelude.{◌≡◌, ◌+◌, ◌-◌, ◌^◌, min, None, false, true, IfErr};
 ghost use Rattle.notify_paths.specs.Errors.{out_of_memory};
+ghost use Rattle.poll_rounds.specs.Closed.{IsKept};
+ghost use Rattle.poll_rounds.specs.Reports.{Reports};
+ghost use Rattle.poll_roots.specs.Said.{ReportsAndSays, SaysEach, unsaid};
 
 use crate::polled::Polled;
+use crate::said::say_each;
 use notify_paths::error::Error;
 use notify_paths::path::PathBuf;
 use notify_types::event::Event;
 use notify_watch::handler::EventHandler;
+use poll_rounds::closed::{Closed, NotesClosed};
 use real_folders::noting::NotingFolders;
 use real_folders::real::RealFolders;
 use std::alloc::Allocator;
@@ -24,6 +29,8 @@ pub struct Watched<A: Allocator> {
     pub failed_path: Option<PathBuf<A>>,
     /// How many names the last round that went well left out, with those of paths that were watched since.
     pub left_out: u64,
+    /// Which paths the last round that went well couldn't look at, and why, if folders note it.
+    pub closed: Vec<Closed<A>, A>,
 }
 
 impl<A: Allocator + Copy> Watched<A> {
@@ -34,6 +41,7 @@ impl<A: Allocator + Copy> Watched<A> {
             followed: Vec::new(alloc),
             failed_path: None,
             left_out: 0,
+            closed: Vec::new(alloc),
         }
     }
 
@@ -66,7 +74,8 @@ impl<A: Allocator + Copy> Watched<A> {
         }
     }
 
-    /// Makes one round, and keeps where it failed, or how many names it left out.
+    /// Makes one round, and keeps where it failed, or how many names it left out and which paths it couldn't look at.
+    /// What was shown of these is kept, and each is said once, and again if the cause changed or it was open meanwhile.
     pub fn round<
         F: EventHandler<Result<Event<A>, Error<A>>>,
         R: Files + Clock + Alloc + Clone + Drop,
@@ -76,18 +85,43 @@ impl<A: Allocator + Copy> Watched<A> {
         ensures cleared { result ≡ true → self.new.failed_path ≡ None }
         ensures left_out { result ≡ true →
             self.new.left_out ≡ folders.new.inner.left_out - folders.old.inner.left_out }
-        ensures same { result ≡ false → self.new.left_out ≡ self.old.left_out }
+        ensures same { result ≡ false → (self.new.left_out ≡ self.old.left_out)
+            × (self.new.closed ≡ self.old.closed) }
+        ensures said { result ≡ true →
+            ReportsAndSays F.handles self.old.polled.last self.new.polled.last
+            (unsaid self.old.closed.items self.new.closed.items) handler.old handler.new }
+        ensures reports { result ≡ false →
+            Reports F.handles self.old.polled.last self.new.polled.last handler.old handler.new }
     {
         let before = folders.inner().left_out();
         folders.follow(&mut self.followed);
-        let went_well = self.polled.round(folders, handler);
+        let went_well = self.polled.kept_round(folders, handler);
         folders.follow(&mut self.followed);
         let failed_path = folders.take_failed_path();
         if went_well {
             self.left_out = folders.inner().left_out().saturating_sub(before);
+            self.say_closed(folders, handler);
         }
         self.failed_path = if went_well { None } else { failed_path };
         went_well
+    }
+
+    /// Says which paths the round couldn't look at, unless that was said, and keeps them.
+    fn say_closed<F: EventHandler<Result<Event<A>, Error<A>>>, R: Files + Clock + Drop>(
+        &mut self,
+        folders: &mut NotingFolders<RealFolders<R, A>, A>,
+        handler: &mut F,
+    )
+        requires { F.ready handler.old }
+        ensures again { F.ready handler.new }
+        ensures closed { self.new ≡ record self.old { closed = folders.old.inner.closed } }
+        ensures said { SaysEach F.handles
+            (unsaid self.old.closed.items folders.old.inner.closed.items) handler.old handler.new }
+        ensures same { folders.new.inner.left_out ≡ folders.old.inner.left_out }
+    {
+        let alloc = *self.closed.allocator();
+        say_each(alloc, self.closed.as_slice(), folders.closed(), handler);
+        folders.exchange_closed(&mut self.closed);
     }
 
     /// A path is watched from now on, whose first listing left out so many names.
@@ -97,7 +131,8 @@ impl<A: Allocator + Copy> Watched<A> {
         self.left_out = self.left_out.saturating_add(names);
     }
 
-    /// Looks at these paths. Where a look fails isn't kept: a round follows it.
+    /// Looks at these paths, and keeps what was shown of those at which that can't be done. Where a look fails, and what
+    /// is kept, isn't noted here: a round follows it.
     pub fn look_at<
         F: EventHandler<Result<Event<A>, Error<A>>>,
         R: Files + Clock + Alloc + Clone + Drop,
@@ -108,10 +143,12 @@ impl<A: Allocator + Copy> Watched<A> {
         paths: &[PathBuf<A>],
     ) -> bool
         requires { F.ready handler.old }
-        ensures { F.ready handler.new }
+        ensures again { F.ready handler.new }
+        ensures reports { Reports F.handles self.old.polled.last self.new.polled.last handler.old
+            handler.new }
     {
         folders.follow(&mut self.followed);
-        let went_well = self.polled.look_at(folders, handler, paths);
+        let went_well = self.polled.kept_look(folders, handler, paths);
         folders.follow(&mut self.followed);
         folders.take_failed_path();
         went_well

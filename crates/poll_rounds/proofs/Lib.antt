@@ -6,5 +6,6 @@ pub mod RoundLemmas
 pub mod FirstLemmas
 pub mod PartLemmas
 pub mod BesideLemmas
+pub mod ClosedLemmas
 pub mod NewsLemmas
 pub mod LaterLemmas

@@ -1,4 +1,5 @@
 pub mod Beside
+pub mod Closed
 pub mod Folders
 pub mod Parts
 pub mod Reports

@@ -2,6 +2,7 @@
 #![tactic(auto)]
 
 mod beside;
+pub mod closed;
 pub mod entries;
 pub mod folders;
 mod later;

@@ -64,7 +64,7 @@ fn look_in_each<A: Allocator + Copy, D: Folders<A>>(
 }
 
 /// What becomes of the last listing by what stands at the paths and below them now.
-fn list_near<A: Allocator + Copy, D: Folders<A>>(
+pub(crate) fn list_near<A: Allocator + Copy, D: Folders<A>>(
     alloc: A,
     folders: &mut D,
     roots: &[(PathBuf<A>, RecursiveMode)],

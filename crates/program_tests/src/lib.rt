@@ -1,5 +1,5 @@
 //! Tests of what no clause says of the crates that programs are made of: outputs that take a part, are
-//! interrupted or fail, and inputs of hints that come in pieces.
+//! interrupted or fail, inputs of hints that come in pieces, and reports that no watcher of ours makes by itself.
 #![tactic(auto)]
 
 #[cfg(test)]
@@ -8,3 +8,5 @@ mod flushes;
 mod hints;
 #[cfg(test)]
 mod pieces;
+#[cfg(test)]
+mod reports;

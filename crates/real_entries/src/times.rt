@@ -1,4 +1,7 @@
 //! When files were modified, as far as it can be relied on.
+ghost use Rattle.std.specs.Prelude.{◌≡◌, ◌↔◌, ◌+◌, ◌-◌, ◌^◌, min, true, Some, None};
+ghost use Rattle.real_entries.specs.Times.{IsAhead, IsOld};
+
 use std::fs::Metadata;
 use std::thread;
 use std::time::{Clock, Duration, SystemTime, UNIX_EPOCH};
@@ -40,7 +43,7 @@ impl ModifiedTimes {
         }
         // The clock was read after the look: whatever it says, something can have been written in between, with
         // the same time. So only the next look tells.
-        let left = modified.saturating_add(STEP).saturating_sub(self.passed);
+        let left = self.left(modified);
         if left > 0 {
             thread::sleep(clock, Duration::from_nanos(left.saturating_add(SLACK)));
             self.pass(clock);
@@ -51,7 +54,18 @@ impl ModifiedTimes {
     /// When it was modified, in nanoseconds since 1970. `None` if that is young, and so has to be asked for
     /// again, or isn't known: before 1970, after 2554.
     pub fn told(&mut self, clock: &impl Clock, metadata: &Metadata) -> Option<u64> {
-        let modified = modified_of(metadata)?;
+        self.told_of(clock, modified_of(metadata)?)
+    }
+
+    /// The time, unless it was young: less than a step old before the look, and not ahead of the clock after it.
+    fn told_of(&mut self, clock: &impl Clock, modified: u64) -> Option<u64>
+        ensures old { IsOld modified self.old.passed
+            → (result ≡ Some modified) × (self.new ≡ self.old) }
+        ensures ahead { IsAhead modified self.new.passed → (IsOld modified self.old.passed → ⊥)
+            → result ≡ Some modified }
+        ensures young { (IsOld modified self.old.passed → ⊥)
+            → (IsAhead modified self.new.passed → ⊥) → result ≡ None }
+    {
         if self.is_old(modified) {
             return Some(modified);
         }
@@ -64,13 +78,24 @@ impl ModifiedTimes {
     }
 
     /// Whether the time was a step old before the look.
-    fn is_old(self, modified: u64) -> bool {
-        modified.saturating_add(STEP) <= self.passed
+    fn is_old(self, modified: u64) -> bool
+        ensures { (result ≡ true) ↔ IsOld modified self.passed }
+    {
+        self.passed.saturating_sub(modified) >= STEP
     }
 
     /// Whether the time lies a step ahead of the clock, as one that was set by hand.
-    fn is_ahead(self, modified: u64) -> bool {
-        self.passed.saturating_add(STEP) <= modified
+    fn is_ahead(self, modified: u64) -> bool
+        ensures { (result ≡ true) ↔ IsAhead modified self.passed }
+    {
+        modified.saturating_sub(self.passed) >= STEP
+    }
+
+    /// How long it is until the time will be a step old.
+    fn left(self, modified: u64) -> u64
+        ensures { result ≡ min (modified + 11_000_000) (2 ^ 64 - 1) - self.passed }
+    {
+        modified.saturating_add(STEP).saturating_sub(self.passed)
     }
 
     /// Reads the clock. If that can't be read, no moment passes.

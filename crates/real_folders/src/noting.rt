@@ -10,6 +10,7 @@ use crate::real::RealFolders;
 use folder_listing::entry::Found;
 use notify_paths::error::Error;
 use notify_paths::path::PathBuf;
+use poll_rounds::closed::{Closed, NotesClosed};
 use poll_rounds::folders::Folders;
 use std::alloc::{Allocator, Global};
 
@@ -66,6 +67,15 @@ impl<R: Drop, A: Allocator + Copy> NotingFolders<RealFolders<R, A>, A> {
     {
         self.inner.follow(paths);
     }
+
+    /// Gives what is noted of closed paths in exchange for these, as [`RealFolders::exchange_closed`].
+    pub fn exchange_closed(&mut self, closed: &mut Vec<Closed<A>, A>)
+        ensures taken { closed.new ≡ self.old.inner.closed }
+        ensures left { self.new.inner ≡ record self.old.inner { closed = closed.old } }
+        ensures noted { self.new.failed_path ≡ self.old.failed_path }
+    {
+        self.inner.exchange_closed(closed);
+    }
 }
 
 impl<D: Folders<A> + Drop, A: Allocator + Copy> Folders<A> for NotingFolders<D, A> {
@@ -108,5 +118,17 @@ impl<D: Folders<A> + Drop, A: Allocator + Copy> Folders<A> for NotingFolders<D, 
 
     fn failures(&self) -> u64 {
         self.inner.failures()
+    }
+}
+
+impl<D: NotesClosed<A> + Drop, A: Allocator + Copy> NotesClosed<A> for NotingFolders<D, A> {
+    ghost closed = { λ s. D.closed s.inner };
+
+    fn closed(&self) -> &[Closed<A>] {
+        self.inner.closed()
+    }
+
+    fn forget_closed(&mut self) {
+        self.inner.forget_closed();
     }
 }

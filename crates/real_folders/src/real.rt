@@ -1,14 +1,19 @@
 //! The real file system.
-ghost use Rattle.std.specs.Prelude.{◌≡◌, ◌≤◌, None, true, IfErr, IfOk, IfSome};
+ghost use Rattle.std.specs.Prelude.{◌≡◌, ◌≤◌, None, Ok, false, true, IfErr, IfOk, IfSome, IsErr, OnOk};
+ghost use Rattle.std.specs.IoError.{error_kind};
 ghost use Rattle.folder_listing.specs.Listing.{is_same_kind};
 ghost use Rattle.folder_listing.specs.declared.entry.EntryKind.TheVariants.{Folder};
 ghost use Rattle.notify_paths.specs.Errors.{out_of_memory};
 ghost use Rattle.poll_rounds.specs.Folders.{IsRefusal};
+ghost use Rattle.real_folders.specs.Closed.{IsPlace, NotesPlace, failure_of, with_closed};
+ghost use Rattle.real_folders.specs.declared.closed.Failure.TheVariants as failure;
 
+use crate::closed::{Failure, failure_of, note};
 use crate::targets::{Targets, later};
 use folder_listing::entry::Found;
 use notify_paths::error::{Error, ErrorKind};
 use notify_paths::path::PathBuf;
+use poll_rounds::closed::{Closed, NotesClosed};
 use poll_rounds::folders::Folders;
 use real_entries::found::found_of;
 use real_entries::names::read_names;
@@ -33,6 +38,10 @@ pub struct RealFolders<R: Drop, A: Allocator = Global> {
     followed: Vec<PathBuf<A>, A>,
     /// What stood there at the last look.
     targets: Targets<A>,
+    /// Whether closed paths are noted,
+    notes: bool,
+    /// and which were.
+    closed: Vec<Closed<A>, A>,
 }
 
 impl<R: Drop, A: Allocator + Copy> RealFolders<R, A> {
@@ -50,6 +59,8 @@ impl<R: Drop, A: Allocator + Copy> RealFolders<R, A> {
             times: None,
             followed: Vec::new(alloc),
             targets: Targets::new(alloc),
+            notes: false,
+            closed: Vec::new(alloc),
         }
     }
 
@@ -69,6 +80,8 @@ impl<R: Drop, A: Allocator + Copy> RealFolders<R, A> {
             times: Some(ModifiedTimes::new()),
             followed: Vec::new(alloc),
             targets: Targets::new(alloc),
+            notes: false,
+            closed: Vec::new(alloc),
         }
     }
 
@@ -80,6 +93,22 @@ impl<R: Drop, A: Allocator + Copy> RealFolders<R, A> {
         ensures left { self.new ≡ record self.old { followed = paths.old } }
     {
         mem::swap(&mut self.followed, paths);
+    }
+
+    /// Notes from now on where calls fail, and answers such a call as if nothing stood there, or the folder were empty.
+    /// Until then what permission closes counts as missing, and another failure is an error.
+    pub fn note_closed(&mut self)
+        ensures { self.new ≡ record self.old { notes = true } }
+    {
+        self.notes = true;
+    }
+
+    /// Gives what is noted in exchange for these.
+    pub fn exchange_closed(&mut self, closed: &mut Vec<Closed<A>, A>)
+        ensures taken { closed.new ≡ self.old.closed }
+        ensures left { self.new ≡ record self.old { closed = closed.old } }
+    {
+        mem::swap(&mut self.closed, closed);
     }
 
     /// Whether a link at the path is followed.
@@ -109,15 +138,6 @@ impl<R: Drop, A: Allocator + Copy> RealFolders<R, A> {
     }
 }
 
-/// Whether nothing is there, or permission closes it. No file has a zero byte in its path.
-fn is_missing(path: &str, error: &io::Error) -> bool {
-    path.as_bytes().contains(&0)
-        || matches!(
-            error.kind(),
-            io::ErrorKind::NotFound | io::ErrorKind::PermissionDenied | io::ErrorKind::NotADirectory
-        )
-}
-
 impl<R: Files + Clock + Drop, A: Allocator + Copy> Folders<A> for RealFolders<R, A> {
     ghost told = { λ _. None };
 
@@ -134,8 +154,11 @@ impl<R: Files + Clock + Drop, A: Allocator + Copy> Folders<A> for RealFolders<R,
         match self.metadata_at(path.as_str(), follows) {
             Ok(metadata) if follows => self.found_anew(path, &metadata),
             Ok(metadata) => Ok(Some(found_of(&self.rt, &metadata, &mut self.times))),
-            Err(error) if is_missing(path.as_str(), &error) => Ok(None),
-            Err(error) => Err(self.refusal(&error)),
+            Err(_) if has_zero(path) => Ok(None),
+            Err(error) => {
+                self.fail_at(path, &error)?;
+                Ok(None)
+            }
         }
     }
 
@@ -143,19 +166,112 @@ impl<R: Files + Clock + Drop, A: Allocator + Copy> Folders<A> for RealFolders<R,
         match self.open(path) {
             Ok(mut folder) => match read_names(&mut folder, self.alloc, &mut self.left_out) {
                 Ok(names) => Ok(Some(names)),
+                Err(error) if self.notes => self.fail_in(path, &error),
                 Err(error) => Err(self.refusal(&error)),
             },
-            // A folder whose names permission closes is shown as empty.
-            Err(error) if error.kind() == io::ErrorKind::PermissionDenied => {
-                Ok(Some(Vec::new(self.alloc)))
-            }
-            Err(error) if is_missing(path.as_str(), &error) => Ok(None),
-            Err(error) => Err(self.refusal(&error)),
+            Err(_) if has_zero(path) => Ok(None),
+            Err(error) => self.fail_in(path, &error),
         }
     }
 
     fn failures(&self) -> u64 {
         self.failures
+    }
+}
+
+impl<R: Files + Clock + Drop, A: Allocator + Copy> NotesClosed<A> for RealFolders<R, A> {
+    ghost closed = { λ s. s.closed.items };
+
+    fn closed(&self) -> &[Closed<A>] {
+        self.closed.as_slice()
+    }
+
+    fn forget_closed(&mut self) {
+        self.closed.clear();
+    }
+}
+
+/// What a failed call does.
+impl<R: Files + Clock + Drop, A: Allocator + Copy> RealFolders<R, A> {
+    /// A look at the path failed so. It is no error if nothing is there, or what is there counts as missing, or is
+    /// noted.
+    fn fail_at(&mut self, path: &PathBuf<A>, error: &io::Error) -> Result<(), Error<A>>
+        ensures missing { failure_of (error_kind error.now) self.old.notes ≡ failure.Missing →
+            self.new ≡ self.old }
+        ensures closed { failure_of (error_kind error.now) self.old.notes ≡ failure.Closed →
+            OnOk result (NotesPlace path.now (error_kind error.now) self.old.closed.items
+            self.new.closed.items) }
+        ensures refused { failure_of (error_kind error.now) self.old.notes ≡ failure.Refused →
+            IsErr result }
+        ensures counted { self.old.failures ≤ self.new.failures }
+        ensures err { IfErr result (λ e. IsRefusal e self.old.failures self.new.failures) }
+    {
+        match failure_of(error.kind(), self.notes) {
+            Failure::Missing => Ok(()),
+            Failure::Closed => {
+                let place = self.place_of(path)?;
+                self.note(place, error.kind())
+            }
+            Failure::Refused => Err(self.refusal(error)),
+        }
+    }
+
+    /// The names of the folder can't be read for this cause. It counts as missing if it is, and else as empty, if
+    /// permission closes it or it is noted.
+    fn fail_in(
+        &mut self,
+        path: &PathBuf<A>,
+        error: &io::Error,
+    ) -> Result<Option<Vec<String<A>, A>>, Error<A>>
+        ensures closed { failure_of (error_kind error.now) self.old.notes ≡ failure.Closed →
+            OnOk result (self.new.closed.items
+            ≡ with_closed self.old.closed.items (path.now, error_kind error.now)) }
+        ensures refused { failure_of (error_kind error.now) self.old.notes ≡ failure.Refused →
+            IsErr result }
+        ensures counted { self.old.failures ≤ self.new.failures }
+        ensures err { IfErr result (λ e. IsRefusal e self.old.failures self.new.failures) }
+    {
+        match failure_of(error.kind(), self.notes) {
+            Failure::Missing if error.kind() == io::ErrorKind::PermissionDenied => {}
+            Failure::Missing => return Ok(None),
+            Failure::Closed => self.note(path.try_clone()?, error.kind())?,
+            Failure::Refused => return Err(self.refusal(error)),
+        }
+        Ok(Some(Vec::new(self.alloc)))
+    }
+
+    /// Notes that the path is closed for this cause.
+    fn note(&mut self, path: PathBuf<A>, cause: io::ErrorKind) -> Result<(), Error<A>>
+        ensures ok { OnOk result
+            (self.new.closed.items ≡ with_closed self.old.closed.items (path, cause)) }
+        ensures same { self.new.failures ≡ self.old.failures }
+        ensures err { IfErr result (λ e. e ≡ out_of_memory) }
+    {
+        note(&mut self.closed, path, cause).map_err(|_| Error::out_of_memory(self.alloc))
+    }
+
+    /// The path, or the folder that it stands in, if that can't be entered: then all in it is closed.
+    fn place_of(&self, path: &PathBuf<A>) -> Result<PathBuf<A>, Error<A>>
+        ensures ok { IfOk result (λ place. IsPlace path.now place) }
+        ensures err { IfErr result (λ e. e ≡ out_of_memory) }
+    {
+        let Ok(folder) = path.parent() else {
+            return Err(Error::out_of_memory(self.alloc));
+        };
+        if let Some(folder) = folder
+            && self.enter(&folder).is_err()
+        {
+            return Ok(folder);
+        }
+        path.try_clone()
+    }
+
+    /// Looks at the folder from inside.
+    fn enter(&self, folder: &PathBuf<A>) -> io::Result<()> {
+        let mut text = String::from_str(self.alloc, folder.as_str())?;
+        text.push_str("/.")?;
+        fs::symlink_metadata(&self.rt, text.as_str())?;
+        Ok(())
     }
 }
 
@@ -206,6 +322,11 @@ impl<R: Files + Clock + Drop, A: Allocator + Copy> RealFolders<R, A> {
         text.push('/')?;
         self.rt.open_dir(&text)
     }
+}
+
+/// Whether the path has a zero byte. Then no file has it.
+fn has_zero<A: Allocator>(path: &PathBuf<A>) -> bool {
+    path.as_str().as_bytes().contains(&0)
 }
 
 /// What the system says of the path, or of what a link there leads to, if it is followed.

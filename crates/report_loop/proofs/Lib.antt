@@ -1,5 +1,4 @@
-pub mod BatchLemmas
 pub mod GaveLemmas
 pub mod LoopLemmas
-pub mod SeenLemmas
 pub mod SourceLemmas
+pub mod TakingLemmas

@@ -1,11 +1,17 @@
 -- A source of which less is said: who followed it followed that.
-use Rattle.std.proofs.Common.{List, [], ◌∷◌, ap}
-use Rattle.std.specs.Prelude.{ℕ, Option, Result, MatchResult}
+use Rattle.std.proofs.Common.{List, [], ◌∷◌, Ok, Err, ap}
+use Rattle.std.specs.Prelude.{Option, Result, MatchResult}
 use Rattle.std.specs.declared.time.Duration.{Duration}
 use Rattle.watch_program.specs.declared.fault.Fault.{Fault}
 use Rattle.report_loop.specs.declared.source.Given.{Given}
-use Rattle.report_loop.specs.Loop.{Answer, DoesAll, FollowsOn, Gives, Program, Source, Step}
-use Rattle.report_loop.proofs.SeenLemmas.{match_seen}
+use Rattle.report_loop.specs.Loop.{Answer, DoesAll, Gives, Program, Step}
+
+-- what follows a call is what follows it where less is said
+pub match_seen : {T : Type 0} (first : Result T Fault) (More More' : T → Type 0) (Stops Stops' : Fault → Type 0) →
+    ((value : T) → More value → More' value) → ((fault : Fault) → Stops fault → Stops' fault) →
+    MatchResult first More Stops → MatchResult first More' Stops'
+match_seen (Ok value) More More' Stops Stops' more stops h = more value h
+match_seen (Err fault) More More' Stops Stops' more stops h = stops fault h
 
 -- the steps were done with what less is said of
 pub all_said : {S T P : Type 0} (view : S → T) (gives : Gives S) (said : Gives T) (program : Program P) →

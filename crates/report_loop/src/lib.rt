@@ -5,12 +5,14 @@
 //! their own calls.
 #![tactic(auto)]
 
+mod batch_taker;
 mod batches;
 mod follow;
 mod source;
 mod taker;
 
-pub use batches::{BatchTaker, TakesBatches};
+pub use batch_taker::BatchTaker;
+pub use batches::{Places, Taken, TakesBatches};
 pub use follow::{hand_on, take_rest};
 pub use source::{Given, GivesReports, Rest};
 pub use taker::TakesReports;

@@ -54,7 +54,9 @@ fn play_next<T: ListingWatcher<Feed<NoCache, R, A>, R, A>, P: Polls<R>, R: Host,
     match split(line) {
         ("start" | "start_journaled", _) => play_started::<T, R, A>(scene, line, rest),
         ("start_reports", _) => play_reports::<T, R, A>(scene, line, rest),
-        ("poll" | "poll_from_nothing", _) => play_polling::<P, R, A>(scene, line, rest),
+        ("poll" | "poll_from_nothing" | "poll_by_lengths", _) => play_polling::<P, R, A>(
+            scene, line, rest,
+        ),
         ("recommended", _) => play_recommended(scene, line),
         ("closure", _) => play_closure::<P, R, A>(scene, line),
         ("mirror", words) => watch_as_mirror::<T, R, A>(scene, line, words, false),
@@ -269,7 +271,7 @@ fn counts<T: Drop, R: Host, A: TestHeap>(
 /// Notes what waits.
 fn outlook<T: Drop, R: Host, A: TestHeap>(
     scene: &mut Scene<R, A>,
-    debouncer: &Running<T, R, A>,
+    debouncer: &mut Running<T, R, A>,
 ) -> io::Result<()> {
     let waiting = given(debouncer.outlook())?;
     scene.seen.clear();

@@ -42,6 +42,9 @@ impl<R: Clock + Wait + AllocGlobal + Drop, A: TestHeap> Scene<R, A> {
         if matches!(entry.command, Command::Tick(_)) {
             self.ticks = self.ticks.saturating_add(1);
         }
+        if self.stage.has("moments") {
+            push_moment(&mut self.text, &entry.command)?;
+        }
         push_command(&mut self.text, &entry.command)?;
         push_reply(&mut self.emitted, &entry.reply)
     }
@@ -61,6 +64,15 @@ fn mode_of<A: TestHeap>(core: &Core<A>, heap: A, word: &str) -> io::Result<&'sta
         RecursiveMode::Recursive => "Recursive",
         RecursiveMode::NonRecursive => "NonRecursive",
     })
+}
+
+/// Appends the moment of an event, or a line for a tick.
+fn push_moment<A: TestHeap>(text: &mut String, command: &Command<A>) -> Result<(), AllocError> {
+    match command {
+        Command::Event(_, moment, _) => write!(text, "at {moment} "),
+        Command::Tick(moment) => writeln!(text, "at {moment} tick"),
+        _ => Ok(()),
+    }
 }
 
 /// Appends a line for the command. Of a half of a rename it says whether the path existed.

@@ -1,11 +1,12 @@
 //! The real folder of a scene.
-use crate::scene::{Host, Scene, split};
+use crate::scene::{Host, Scene, number, split};
 use crate::words::given;
 use notify_debouncer_full::{Listing, PathBuf, RealFolders, RecursiveMode, list};
 use refusing_allocator::TestHeap;
 use std::alloc::{AllocError, Global};
 use std::fs::Files;
 use std::os::unix::fs::symlink;
+use std::time::{Duration, UNIX_EPOCH};
 use std::{fs, io};
 
 /// Plays a line that changes the folder, or one that is of no folder.
@@ -16,6 +17,7 @@ pub fn play_file_line<R: Host, A: TestHeap>(scene: &mut Scene<R, A>, line: &str)
             change(&scene.rt, verb, scene.entry(word)?.as_str())
         }
         "link" => turn_link(scene, word),
+        "wall" => set_wall(scene, word),
         _ => scene.play_line(line),
     }
 }
@@ -59,6 +61,23 @@ fn turn_link<R: Host, A: TestHeap>(scene: &Scene<R, A>, to: &str) -> io::Result<
     let next = scene.entry("/next")?;
     symlink(&scene.rt, scene.entry(to)?.as_str(), next.as_str())?;
     fs::rename(&scene.rt, next.as_str(), scene.entry("/l")?.as_str())
+}
+
+/// Has the wall clock stand so many milliseconds after the entry was modified.
+fn set_wall<R: Host, A: TestHeap>(scene: &Scene<R, A>, words: &str) -> io::Result<()> {
+    let (name, later) = split(words);
+    let modified = modified_of(&scene.rt, scene.entry(name)?.as_str())?;
+    let later = Duration::from_millis(number(later));
+    scene.stage.clock.set_wall(modified.saturating_add(later));
+    Ok(())
+}
+
+/// When it was modified, since 1970.
+fn modified_of(rt: &impl Files, place: &str) -> io::Result<Duration> {
+    let modified = fs::metadata(rt, place)?.modified()?;
+    modified
+        .duration_since(UNIX_EPOCH)
+        .map_err(|_| io::Error::from(io::ErrorKind::InvalidData))
 }
 
 /// The paths that are there: the folder, what is above it, and what is below.

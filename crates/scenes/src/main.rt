@@ -12,6 +12,7 @@
 
 mod acts;
 mod books;
+mod clock;
 mod document;
 mod folder;
 mod mirror;

@@ -1,5 +1,6 @@
 //! A scene of `Reports` over the watcher that polls, in a real folder.
 use crate::acts::times_of;
+use crate::clock::sleep_a_turn;
 use crate::folder::{paths_there, play_file_line};
 use crate::scene::{Host, LINES, Scene, next_line, number, split};
 use crate::words::given;
@@ -45,7 +46,8 @@ pub fn play_polling<T: Polls<R>, R: Host, A: TestHeap>(
     let (timeout, interval) = times_of(line);
     let config = Config::default()
         .with_poll_interval(interval.unwrap_or(timeout))
-        .with_initial_events(line.starts_with("poll_from_nothing"));
+        .with_initial_events(line.starts_with("poll_from_nothing"))
+        .with_modified_times(!line.starts_with("poll_by_lengths"));
     let started = Reports::start(scene.rt, scene.rt.alloc(), timeout, None, config);
     let reports: Reports<T, R> = given(started)?;
     match reports.debouncer().watcher().hints_of() {
@@ -118,6 +120,7 @@ fn act<T: Polls<R>, R: Host, A: TestHeap>(
         "await_batch" => tell_batch(scene, reports, line),
         "letters" => tell_letters(scene, reports, line),
         "await_failed" => tell_failed(scene, reports, line),
+        "quiet" => tell_quiet(scene, reports, line, word),
         _ => play_file_line(scene, line),
     }
 }
@@ -140,9 +143,47 @@ fn ask<T: Polls<R>, R: Host, A: TestHeap>(
 /// How long a scene waits for what has to come, at most, in seconds.
 const LIMIT: u64 = 100;
 
+/// How many turns of a millisecond a scene waits for what has to come while the clock stands.
+const TURNS: u64 = 20_000;
+
 /// What is reported next. `None` says that nothing comes.
-fn next<T: Drop, R: Host>(reports: &Reports<T, R>) -> Option<DebounceEventResult> {
+fn next<T: Drop, R: Host, A: TestHeap>(
+    scene: &Scene<R, A>,
+    reports: &Reports<T, R>,
+) -> Option<DebounceEventResult> {
+    // By a clock that stands no wait would be over.
+    if scene.stage.clock.stands() {
+        return next_in(scene, reports, TURNS);
+    }
     reports.next_within(Duration::from_secs(LIMIT))
+}
+
+/// What is reported within so many turns.
+fn next_in<T: Drop, R: Host, A: TestHeap>(
+    scene: &Scene<R, A>,
+    reports: &Reports<T, R>,
+    turns: u64,
+) -> Option<DebounceEventResult> {
+    for _ in 0..turns {
+        if let Ok(report) = reports.queue().try_recv(&scene.rt) {
+            return Some(report);
+        }
+        sleep_a_turn(&scene.rt);
+    }
+    None
+}
+
+/// Prints whether nothing is reported for so many turns.
+fn tell_quiet<T: Drop, R: Host, A: TestHeap>(
+    scene: &mut Scene<R, A>,
+    reports: &Reports<T, R>,
+    line: &str,
+    word: &str,
+) -> io::Result<()> {
+    let report = next_in(scene, reports, number(word));
+    let is_quiet = report.is_none();
+    drop(report);
+    scene.tell(line, is_quiet)
 }
 
 /// Prints what is reported next.
@@ -151,7 +192,7 @@ fn tell_next<T: Drop, R: Host, A: TestHeap>(
     reports: &Reports<T, R>,
     line: &str,
 ) -> io::Result<()> {
-    let report = next(reports);
+    let report = next(scene, reports);
     let word = match &report {
         Some(Ok(_)) => "a batch",
         Some(Err(_)) => "errors",
@@ -168,7 +209,7 @@ fn tell_batch<T: Drop, R: Host, A: TestHeap>(
     line: &str,
 ) -> io::Result<()> {
     for _ in 0..LIMIT {
-        match next(reports) {
+        match next(scene, reports) {
             Some(Ok(batch)) => return scene.tell(line, !batch.is_empty()),
             Some(Err(_)) => {}
             None => break,
@@ -188,7 +229,7 @@ fn tell_letters<T: Drop, R: Host, A: TestHeap>(
     // A batch has an event at least.
     for _ in 0..number(word) {
         if (letters.len() as u64) < number(word)
-            && let Some(Ok(batch)) = next(reports)
+            && let Some(Ok(batch)) = next(scene, reports)
         {
             push_letters(&mut letters, batch.as_slice())?;
         }
@@ -236,6 +277,7 @@ fn finish<T: Polls<R>, R: Host, A: TestHeap>(
     reports: Reports<T, R>,
     line: &str,
 ) -> io::Result<()> {
+    scene.stage.clock.let_go();
     let last = reports.finish();
     let told = tell_last(scene, &last, line);
     drop(last);

@@ -1,5 +1,6 @@
 //! A scene that is played: what it has come to, and the lines that need no debouncer.
-use crate::stage::{Stage, sleep_a_turn, wait_for, wait_for_flag};
+use crate::clock::sleep_a_turn;
+use crate::stage::{Stage, wait_for, wait_for_flag};
 use crate::words::given;
 use notify_debouncer_full::PathBuf;
 use refusing_allocator::TestHeap;
@@ -164,6 +165,10 @@ impl<R: Clock + Wait + AllocGlobal + Drop, A: TestHeap> Scene<R, A> {
         }
         match verb {
             "turn" => self.take_turn(line),
+            "stand" => self.stand(),
+            "advance" => self.advance(line, word),
+            "pauses" => self.tell_pauses(line),
+            "batches" => self.count(line, self.stage.batches.load(Ordering::SeqCst)),
             "called" => self.tell_calls(line, word),
             "entries" => self.count(line, self.entries),
             _ => match self.is_so(verb, word)? {
@@ -179,6 +184,7 @@ impl<R: Clock + Wait + AllocGlobal + Drop, A: TestHeap> Scene<R, A> {
         Ok(Some(match verb {
             "came" => self.came,
             "paused" => stage.is_paused(rt),
+            "pausing" => stage.clock.is_paused(rt),
             "await_batches" => wait_for(rt, &stage.batches, number(word)),
             "await_errors" => wait_for(rt, &stage.errors, number(word)),
             "await_end" => wait_for_flag(rt, &stage.ended),
@@ -213,8 +219,9 @@ impl<R: Clock + Wait + AllocGlobal + Drop, A: TestHeap> Scene<R, A> {
                 stage.permits.fetch_add(1, Ordering::SeqCst);
             }
             "sleep" => self.sleep(number(word)),
+            "leap" => stage.clock.leap(nanos_of(word)),
             "clock" => self.begun = Instant::now(&self.rt)?,
-            "report" | "flow" | "lose" | "never_unwatch" | "in_thread" | "unmade" => {}
+            "report" | "flow" | "lose" | "never_unwatch" | "in_thread" | "unmade" | "moments" => {}
             _ => return Ok(false),
         }
         Ok(true)
@@ -243,6 +250,29 @@ impl<R: Clock + Wait + AllocGlobal + Drop, A: TestHeap> Scene<R, A> {
         Ok(gone.as_millis().saturating_add(1))
     }
 
+    /// Has the clock stand. The wall clock says an hour more, so that no file was just written.
+    fn stand(&mut self) -> io::Result<()> {
+        let now = self.rt.since_1970()?;
+        let hour = Duration::from_secs(3600);
+        self.stage.clock.stand(now.saturating_add(hour));
+        Ok(())
+    }
+
+    /// Moves the standing clock on, from pause to pause. Prints if no thread pauses.
+    fn advance(&mut self, line: &str, word: &str) -> io::Result<()> {
+        if self.stage.clock.advance(&self.rt, nanos_of(word)) {
+            return Ok(());
+        }
+        self.tell(line, false)
+    }
+
+    /// Prints how long the pauses were that were asked for.
+    fn tell_pauses(&mut self, line: &str) -> io::Result<()> {
+        let lengths = self.stage.clock.lengths(&self.rt);
+        writeln!(self.text, "{line}:{}", lengths.as_str())?;
+        Ok(())
+    }
+
     /// Lets the debouncer's thread take a turn.
     fn take_turn(&mut self, line: &str) -> io::Result<()> {
         self.begin();
@@ -261,6 +291,11 @@ impl<R: Clock + Wait + AllocGlobal + Drop, A: TestHeap> Scene<R, A> {
             batches <= number(most) && errors <= number(most_errors),
         )
     }
+}
+
+/// So many milliseconds as the word says, in nanoseconds.
+fn nanos_of(word: &str) -> u64 {
+    number(word).saturating_mul(1_000_000)
 }
 
 fn raise(flag: &AtomicBool) {

@@ -1,14 +1,15 @@
 //! What a scene and its threads tell each other, and a runtime that the scene rules.
+use crate::clock::{StandingClock, sleep_a_turn};
 use crate::words::push_outcome;
 use notify_debouncer_full::DebounceEventResult;
 use std::alloc::{AllocError, Allocator};
 use std::fmt::Debug;
 use std::fs::{Files, Metadata, OpenOptions};
+use std::io;
 use std::sync::atomic::{AtomicBool, AtomicU64, Ordering};
 use std::sync::{Mutex, Wait};
 use std::thread::Threads;
 use std::time::{Clock, Duration};
-use std::{io, thread};
 
 /// How many times as fast a fast clock runs.
 const SPEED: u32 = 20;
@@ -24,6 +25,8 @@ pub type Outcome<A> = DebounceEventResult<A>;
 pub struct Stage {
     /// The scene's lines, in which the watcher reads what it is to do.
     pub script: &'static str,
+    /// The clock, if it stands.
+    pub clock: StandingClock,
     /// The clock can't be read.
     pub is_broken: AtomicBool,
     /// The clock runs fast, and pauses longer than a millisecond are short.
@@ -63,10 +66,11 @@ pub struct Stage {
 }
 
 impl Stage {
-    /// The stage of a scene with these lines, whose calls are written into the text.
-    fn new(script: &'static str, calls: String) -> Stage {
+    /// The stage of a scene with these lines, whose calls and pauses are written into the texts.
+    fn new(script: &'static str, calls: String, pauses: String) -> Stage {
         Stage {
             script,
+            clock: StandingClock::new(pauses),
             is_broken: AtomicBool::new(false),
             is_fast: AtomicBool::new(false),
             is_held: AtomicBool::new(false),
@@ -140,6 +144,7 @@ impl Stage {
         self.dropped.store(true, Ordering::SeqCst);
         self.answered.store(true, Ordering::SeqCst);
         self.is_held.store(false, Ordering::SeqCst);
+        self.clock.let_go();
     }
 
     /// Returns how many batches and how many lists of errors came since the watcher was dropped.
@@ -184,10 +189,6 @@ impl Stage {
     }
 }
 
-pub fn sleep_a_turn(rt: &impl Clock) {
-    thread::sleep(rt, Duration::from_millis(1));
-}
-
 /// Waits until the count is so high, and answers whether it is.
 pub fn wait_for(rt: &impl Clock, count: &AtomicU64, wanted: u64) -> bool {
     for _ in 0..TURNS {
@@ -228,13 +229,13 @@ pub struct OnStage<R> {
 impl<R: AllocGlobal + Copy> OnStage<R> {
     /// The runtime on a new stage, of a scene with these lines.
     pub fn new(rt: R, script: &'static str) -> Result<OnStage<R>, AllocError> {
-        let stage = Stage::new(script, String::new(rt.alloc()));
+        let stage = Stage::new(script, String::new(rt.alloc()), String::new(rt.alloc()));
         let stage = Box::leak(Box::new(rt.alloc(), stage)?);
         Ok(OnStage { rt, stage })
     }
 }
 
-impl<R: Clock + AllocGlobal + Copy> Staged for OnStage<R> {
+impl<R: Clock + Wait + AllocGlobal + Copy> Staged for OnStage<R> {
     fn stage(&self) -> &'static Stage {
         self.stage
     }
@@ -244,10 +245,13 @@ impl<R: Clock + AllocGlobal + Copy> Staged for OnStage<R> {
     }
 }
 
-impl<R: Clock> Clock for OnStage<R> {
+impl<R: Clock + Wait> Clock for OnStage<R> {
     fn monotonic(&self) -> io::Result<Duration> {
         if self.stage.is_broken.load(Ordering::SeqCst) {
             return Err(io::Error::from(io::ErrorKind::Unsupported));
+        }
+        if self.stage.clock.stands() {
+            return Ok(self.stage.clock.monotonic());
         }
         let moment = self.rt.monotonic()?;
         if self.stage.is_fast.load(Ordering::SeqCst) {
@@ -257,6 +261,9 @@ impl<R: Clock> Clock for OnStage<R> {
     }
 
     fn since_1970(&self) -> io::Result<Duration> {
+        if self.stage.clock.stands() {
+            return Ok(self.stage.clock.since_1970());
+        }
         self.rt.since_1970()
     }
 
@@ -264,6 +271,8 @@ impl<R: Clock> Clock for OnStage<R> {
         // Who waits for something, waits turn by turn, and by the runtime's own clock.
         if duration <= Duration::from_millis(1) {
             self.rt.sleep(duration);
+        } else if self.stage.clock.stands() {
+            self.stage.clock.pause(&self.rt, duration);
         } else if self.stage.is_held.load(Ordering::SeqCst) {
             self.stage.hold(&self.rt);
         } else if self.stage.is_fast.load(Ordering::SeqCst) {

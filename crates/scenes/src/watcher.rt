@@ -1,7 +1,8 @@
 //! The watcher of the scenes, which does what its scene's lines say, and the handler.
 ghost use Rattle.notify_watch.specs.declared.config.WatcherKind.TheVariants.{Other};
 
-use crate::stage::{Outcome, Stage, Staged, TURNS, sleep_a_turn, wait_for, wait_for_flag};
+use crate::clock::sleep_a_turn;
+use crate::stage::{Outcome, Stage, Staged, TURNS, wait_for, wait_for_flag};
 use notify_debouncer_full::{
     Config, DebounceEventHandler, Error, ErrorKind, Event, EventHandler, EventKind, Feed,
     ListingWatcher, NoCache, PathBuf, RecursiveMode, Task, Watcher, WatcherKind,

@@ -17,6 +17,8 @@ mod pauses;
 #[cfg(test)]
 mod threads;
 #[cfg(test)]
+mod told;
+#[cfg(test)]
 mod turns;
 #[cfg(test)]
 mod words;

@@ -1,6 +1,7 @@
 //! Scripts in threads.
 use crate::build::{CREATED, Host, TURNS, commands, new_heap, sleep_a_turn, sleep_turns, wait_for};
 use crate::words::{push_batch, word_of};
+use mirror_script::read_script;
 use mirror_threads::threads_run;
 use notify_debouncer_full::{Entry, Error, ErrorKind, Meet, NoMeet, Reply, run_threads};
 use refusing_allocator::{Heap, RefusingHeap, TestHeap};
@@ -218,6 +219,16 @@ fn run_refused<R: Host, A: TestHeap>(
     (status, out, err)
 }
 
+/// Whether the script is read whole although the nth request for memory is refused: a line's fields are collected,
+/// which does with less room than it asks for at first.
+fn is_read_without<A: TestHeap>(heap: A, n: u64) -> bool {
+    heap.refuse(n);
+    let read = read_script(heap, &mut CREATED.as_bytes());
+    let came = heap.left() == 0;
+    heap.refuse(0);
+    came && read.is_ok()
+}
+
 #[test]
 fn threads_say_that_memory_is_out(rt: HostRuntime) {
     refuse_prints::<HostRuntime, Heap>(&rt);
@@ -230,16 +241,19 @@ fn refuse_prints<R: Host, A: TestHeap>(rt: &R) {
     let mut refused = 0u64;
     for n in 1..300u64 {
         let (status, out, err) = run_refused(rt, heap, names.as_slice(), n);
-        // A reader may do with less memory than it asks for at first.
         let whole = (status, out.as_slice(), err.as_slice())
             == (0, SAME.as_bytes(), b"".as_slice());
         let said = (status, out.as_slice(), err.as_slice())
             == (4, b"".as_slice(), REFUSED.as_bytes());
-        assert!(rt; whole || said, "{n}");
         if heap.left() != 0 {
             assert!(rt; whole);
             break;
         }
+        // The first two requests are those for the list of scripts and for the bytes of this one.
+        assert!(rt;
+            said || whole && 2 < n && is_read_without(heap, n - 2),
+            "{n}"
+        );
         refused = n;
     }
     assert!(rt; 5 < refused && refused < 299, "{refused}");

@@ -1,5 +1,5 @@
 -- A folder that is followed: by calls, by a part of a program, and to its end.
-use Rattle.std.proofs.Common.{◌≡◌, List, inl, inr, ap, refl, subst}
+use Rattle.std.proofs.Common.{◌≡◌, List, inl, inr, refl, subst}
 use Rattle.std.specs.Prelude.{ℕ, Option, Result, Ok, Err, MatchResult, OnOk, IsSome}
 use Rattle.std.specs.declared.time.Duration.{Duration}
 use Rattle.watch_program.specs.declared.fault.Fault.{Fault}
@@ -7,7 +7,6 @@ use Rattle.report_loop.specs.declared.source.Given.{Given}
 use Rattle.report_loop.specs.declared.source.Given.TheVariants.{Nothing}
 use Rattle.report_loop.specs.declared.source.Rest.{Rest}
 use Rattle.report_loop.specs.Loop.{DoesAll, Follows, Gives, Program, Step, TakesRest}
-use Rattle.report_loop.proofs.SeenLemmas.{Shows, follows_seen}
 use Rattle.report_loop.proofs.SourceLemmas.{all_said}
 use Rattle.watch_loop.specs.FollowsFolder.{FollowsFolder, folder_source}
 
@@ -53,14 +52,6 @@ went_on gives program says p p1 p2 p' s s' rest answer begun done ends takes = (
     (rest, ends, takes),
   ),
 )
-
--- who follows a folder with the program does with the part
-pub folder_seen : {Q P : Type 0} (part : Q → P) (whole : Program Q) (seen : Program P) → Shows part whole seen →
-    (q q' : Q) (answer : Result ℕ Fault) →
-    FollowsFolder whole q answer q' → FollowsFolder seen (part q) answer (part q')
-folder_seen part whole seen shows q q' answer (inl never) = inl (never.0, never.1, never.2, ap part never.3)
-folder_seen part whole seen shows q q' answer (inr follows) =
-    inr (follows_seen folder_source part whole seen shows tt q q' answer follows)
 
 -- a run that went well is one of a program that followed the folder
 pub well_followed : {P : Type 0} (program : Program P) (p p' : P) (missed : ℕ) →

@@ -1,1 +1,2 @@
 pub mod FolderLemmas
+pub mod WordLemmas

@@ -1,9 +1,9 @@
 -- A program that follows a folder.
-use Rattle.std.specs.Prelude.{◌≡◌, ℕ, Result, Ok, Err, MatchResult, IfErr, IfOk, IsSome, ◌⊎◌}
+use Rattle.std.specs.Prelude.{◌≡◌, ℕ, Result, Err, IfErr, IfOk, IsSome, ◌⊎◌}
 use Rattle.watch_program.specs.declared.fault.Fault.{Fault}
 use Rattle.watch_program.specs.declared.fault.Fault.TheVariants.{Memory}
 use Rattle.report_loop.specs.declared.source.Given.TheVariants.{Nothing}
-use Rattle.report_loop.specs.Loop.{Answer, Follows, Program, Source}
+use Rattle.report_loop.specs.Loop.{Follows, Program, Source}
 use Rattle.folder_reports.specs.Rest.{IsLeft}
 use Rattle.folder_reports.specs.Start.{IsStartFault}
 
@@ -22,12 +22,3 @@ NeverBegins before answer after = (fault : Fault) × IsStartFault fault × (answ
 abbrev pub FollowsFolder : {P : Type 0} → Program P → P → Result ℕ Fault → P → Type 0
 FollowsFolder program before answer after =
     NeverBegins before answer after ⊎ Follows folder_source program tt before answer after
-
--- the answer of a run that doesn't say how much was lost
-abbrev pub AnswersAs : Result ℕ Fault → Answer → Type 0
-AnswersAs missed answer = MatchResult missed (λ _. answer ≡ Ok tt) (λ fault. answer ≡ Err fault)
-
--- the program followed the folder, and the answer is that of the run
-abbrev pub RunsOver : {P : Type 0} → Program P → P → Answer → P → Type 0
-RunsOver program before answer after =
-    (missed : Result ℕ Fault) × FollowsFolder program before missed after × AnswersAs missed answer

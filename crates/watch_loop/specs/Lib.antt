@@ -1,1 +1,3 @@
 pub mod FollowsFolder
+pub mod PathSteps
+pub mod WholeProgram

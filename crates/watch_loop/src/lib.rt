@@ -9,10 +9,13 @@
 //! report by `next` or `next_within`, and for the rest by `finish`.
 #![tactic(auto)]
 
+mod apart;
 mod follow;
+mod path_steps;
 mod whole_program;
 
 pub use folder_reports::FolderReports;
 pub use follow::{follow_file, follow_folder, follow_folders};
-pub use report_loop::{BatchTaker, Rest, TakesBatches, TakesReports};
-pub use whole_program::run_program;
+pub use path_steps::path_by_path;
+pub use report_loop::{BatchTaker, Places, Rest, Taken, TakesBatches, TakesReports};
+pub use whole_program::{run_program, run_program_of_two};

@@ -76,6 +76,11 @@ left_out_line program names =
     else (if names == 1 then program ++ codes ": 1 name is not UTF-8 and is left out\n"
     else program ++ (codes ": " ++ (decimal names ++ codes " names are not UTF-8 and are left out\n")))
 
+-- how a program ends after a run, if its watcher couldn't look at so many paths: not all could be done
+abbrev pub ended : ℕ → Result (Unit {0}) Fault → Result (Unit {0}) Fault
+ended paths (Ok done) = if paths == 0 then Ok done else Err Incomplete
+ended paths (Err fault) = Err fault
+
 -- the exit status of a run that ended so
 abbrev pub end_status : {T : Type 0} → Result T Fault → ℕ
 end_status (Ok done) = 0

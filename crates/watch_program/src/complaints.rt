@@ -2,6 +2,7 @@
 ghost use Rattle.std.specs.Prelude.{◌≡◌, ◌||◌, ◌==◌, true, false, not};
 ghost use Rattle.watch_program.specs.Faults.{said_fault};
 
+use crate::closed::ClosedPaths;
 use crate::ends::write_left_out;
 use crate::fault::Fault;
 use std::io::Write;
@@ -13,6 +14,8 @@ pub struct Complaints<'n, E: Drop> {
     err: E,
     /// It has said that names are left out.
     has_left_out: bool,
+    /// Where it notes how many paths can't be looked at, if it does.
+    closed: Option<&'n ClosedPaths>,
 }
 
 impl<'n, E: Write + Drop> Complaints<'n, E> {
@@ -26,6 +29,26 @@ impl<'n, E: Write + Drop> Complaints<'n, E> {
             program,
             err,
             has_left_out: false,
+            closed: None,
+        }
+    }
+
+    /// Returns the same, which note at the end how many paths can't be looked at.
+    pub fn counting(self, closed: &'n ClosedPaths) -> Complaints<'n, E>
+        ensures program { result.program ≡ self.entry.program }
+        ensures output { result.err ≡ self.entry.err }
+        ensures none { result.has_left_out ≡ self.entry.has_left_out }
+    {
+        Complaints {
+            closed: Some(closed),
+            ..self
+        }
+    }
+
+    /// Notes how many paths the watcher couldn't look at when it ended.
+    pub fn note_closed(&self, paths: u64) {
+        if let Some(closed) = self.closed {
+            closed.set(paths);
         }
     }
 

@@ -4,7 +4,8 @@ ghost use Rattle.std.specs.Io.KnownBytes.{Appends};
 ghost use Rattle.watch_program.specs.Faults.{end_status, left_out_line, watching_line};
 
 use crate::fault::Fault;
-use notify_paths::error::Error;
+use crate::field::push_field;
+use notify_paths::error::{Error, ErrorKind};
 use std::io;
 use std::io::Write;
 
@@ -37,7 +38,21 @@ pub fn write_errors<E: Write>(errors: &[Error], program: &str, err: &mut E)
     ensures none { errors.now ≡ [] → E.contents err.new ≡ E.contents err.old }
 {
     for error in errors {
-        let _ = writeln!(err, "{program}: {error}");
+        let _ = write_error(error, program, err);
+    }
+}
+
+/// Writes the error's line: which path can't be looked at, and why, or else the error's word.
+fn write_error<E: Write>(error: &Error, program: &str, err: &mut E) -> io::Result<()> {
+    match (&error.kind, error.paths.as_slice()) {
+        (ErrorKind::Io(cause), [path]) => {
+            let mut field = Vec::new(*error.paths.allocator());
+            push_field(&mut field, path.as_str().as_bytes())?;
+            write!(err, "{program}: cannot look at ")?;
+            err.write_all(field.as_slice())?;
+            writeln!(err, ": {cause}")
+        }
+        _ => writeln!(err, "{program}: {error}"),
     }
 }
 

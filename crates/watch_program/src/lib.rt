@@ -13,6 +13,7 @@
 //! ```
 #![tactic(auto)]
 
+mod closed;
 mod complaints;
 mod ends;
 mod fault;
@@ -21,6 +22,7 @@ mod output;
 mod program;
 mod words;
 
+pub use closed::ClosedPaths;
 pub use complaints::Complaints;
 pub use ends::{end, write_errors, write_left_out, write_missed, write_watching};
 pub use fault::Fault;

@@ -1,8 +1,9 @@
-//! Calls that no command makes: copies, a path's text, the order of events that the caller lists, and a
-//! scan for file numbers. One request for memory after the other is refused.
+//! Calls that no command makes: copies, a path's text, the order of events that the caller lists, the
+//! moves of a batch, and a scan for file numbers. One request for memory after the other is refused.
 use crate::numbers::{Numbers, numbers_in};
 use crate::sorted::events_of;
 use crate::sweep::{Ending, MOST};
+use batch_moves::Moves;
 use mirror_script::read_script;
 use notify_debouncer_full::{
     Command, DebouncedEvent, Error, ErrorKind, Event, EventKind, FileIdCache, FileIdMap, PathBuf,
@@ -23,10 +24,12 @@ pub enum Call {
     CopyError,
     CopySet,
     SortEvents,
+    ReadMoves,
+    ReadSources,
     ScanFolders,
 }
 
-pub const CALLS: [Call; 9] = [
+pub const CALLS: [Call; 11] = [
     Call::ToText,
     Call::CopyPath,
     Call::CopyAttributes,
@@ -35,6 +38,8 @@ pub const CALLS: [Call; 9] = [
     Call::CopyError,
     Call::CopySet,
     Call::SortEvents,
+    Call::ReadMoves,
+    Call::ReadSources,
     Call::ScanFolders,
 ];
 
@@ -45,6 +50,14 @@ const SCRIPT: &str = "timeout 50\n\
     event 2 Any - /a\n\
     event 1 Any - /a\n\
     event 2 Any -\n";
+
+/// A folder that moved with its file, and a file that moved.
+const MOVED: &str = "timeout 50\n\
+    event 1 Remove(Folder) tracker=7 /a\n\
+    event 1 Remove(File) tracker=8 /f\n\
+    event 2 Create(Folder) tracker=7 /b\n\
+    event 2 Create(File) tracker=7 /b/c\n\
+    event 2 Create(File) tracker=8 /g\n";
 
 impl Call {
     /// Returns the name of what is called.
@@ -58,7 +71,17 @@ impl Call {
             Call::CopyError => "Error::try_clone",
             Call::CopySet => "PathSet::try_clone",
             Call::SortEvents => "sort_events",
+            Call::ReadMoves => "Moves::of",
+            Call::ReadSources => "Moves::sources",
             Call::ScanFolders => "FileIdMap::add_path",
+        }
+    }
+
+    /// Returns the script that has what the call is made on.
+    fn script(self) -> &'static str {
+        match self {
+            Call::ReadMoves | Call::ReadSources => MOVED,
+            _ => SCRIPT,
         }
     }
 
@@ -76,11 +99,13 @@ impl Call {
 
     /// Makes the call while its nth request is refused.
     fn attempt(self, heap: impl RefusingHeap, n: u64) -> Result<Ending, AllocError> {
-        let Ok(script) = read_script(heap, &mut SCRIPT.as_bytes()) else {
+        let Ok(script) = read_script(heap, &mut self.script().as_bytes()) else {
             return Err(AllocError);
         };
         match script.commands.as_slice() {
             [_, rest @ ..] if self == Call::SortEvents => sort(heap, rest, n),
+            all if self == Call::ReadMoves => read_moves(heap, all, n),
+            all if self == Call::ReadSources => read_sources(heap, all, n),
             [first, ..] => self.attempt_on(heap, first, n),
             [] => Ok(Ending::Wrong),
         }
@@ -169,6 +194,27 @@ fn sort<A: RefusingHeap>(heap: A, commands: &[Command<A>], n: u64) -> Result<End
     let events = events_of(heap, commands)?;
     heap.refuse(n);
     Ok(ending_of(heap, sort_events(heap, events)))
+}
+
+fn read_moves<A: RefusingHeap>(
+    heap: A,
+    commands: &[Command<A>],
+    n: u64,
+) -> Result<Ending, AllocError> {
+    let batch = events_of(heap, commands)?;
+    heap.refuse(n);
+    Ok(ending_of(heap, Moves::of(heap, batch.as_slice())))
+}
+
+fn read_sources<A: RefusingHeap>(
+    heap: A,
+    commands: &[Command<A>],
+    n: u64,
+) -> Result<Ending, AllocError> {
+    let batch = events_of(heap, commands)?;
+    let moves = had(Moves::of(heap, batch.as_slice()))?;
+    heap.refuse(n);
+    Ok(ending_of(heap, moves.sources(batch.as_slice())))
 }
 
 /// Folders that are scanned one after the other: so many that the map grows more than once.

@@ -1,4 +1,4 @@
-use Rattle.std.proofs.Common.{◌≡◌, length, map}
+use Rattle.std.proofs.Common.{length, map}
 use Rattle.std.specs.String.{string_bytes}
 use Rattle.fake_folders.proofs.NameLemmas.{AreSoFar}
 use Rattle.fake_folders.proofs.tree.names_in.Given as goal

@@ -1,0 +1,3 @@
+mod MoveLaw
+mod SourceLemmas
+mod ToldLemmas

@@ -1,0 +1,73 @@
+//! A caller whose handler comes back: what it knows of its calls is known of the debouncer's history.
+ghost use Rattle.std.specs.Prelude.{◌≡◌, true, false, IfOk};
+ghost use Rattle.calls_by_hand.specs.Told.{EndsCalled};
+
+use debounce_book::book::Book;
+use debounce_shell::debouncer::{Debouncer, new_told_debouncer};
+use debounce_turns::feed::Feed;
+use debounce_turns::left::Leaves;
+use file_id_cache::cache::NoCache;
+use notify_paths::error::Error;
+use notify_watch::config::Config;
+use notify_watch::handler::DebounceEventHandler;
+use notify_watch::watcher::Watcher;
+use std::alloc::Allocator;
+use std::fs::Files;
+use std::sync::Wait;
+use std::thread::Threads;
+use std::time::{Clock, Duration};
+
+/// A handler that knows whether it was ever called.
+#[derive(Drop)]
+pub struct Called {
+    pub once: bool,
+}
+
+impl<T: Drop> DebounceEventHandler<T> for Called {
+    ghost use Rattle.std.specs.Prelude.{◌≡◌, true};
+
+    ghost ready = { λ _. Unit {0} };
+
+    ghost handles = { λ _ _ new. new.once ≡ true };
+
+    fn handle_event(&mut self, _event: T) {
+        self.once = true;
+    }
+}
+
+impl Leaves for Called {
+    ghost use Rattle.calls_by_hand.specs.Told.{StaysUncalled};
+
+    ghost tells = { λ began left emitted. StaysUncalled began left emitted };
+}
+
+/// Starts a debouncer whose handler is such a one.
+pub fn start_told<
+    T: Watcher<Feed<NoCache, R, A>, R, A>,
+    R: Threads + Wait + Clock + Files + Copy + Send + Sync + 'static,
+    A: Allocator + Copy + Send + Sync + 'static,
+>(
+    rt: R,
+    alloc: A,
+    timeout: Duration,
+    config: Config,
+) -> Result<Debouncer<T, NoCache, R, A, Called>, Error<A>>
+    requires takes { (feed : _) → T.takes feed }
+    ensures began { IfOk result (λ d. d.began.once ≡ false) }
+{
+    let handler = Called { once: false };
+    new_told_debouncer(rt, alloc, timeout, None, handler, NoCache::new(), config)
+}
+
+/// Stops it, and returns the book, how much was missed, and whether the handler was ever called.
+pub fn finish_told<
+    T: Watcher<Feed<NoCache, R, A>, R, A>,
+    R: Threads + Wait + Clock + Files + Copy + Send + Sync + 'static,
+    A: Allocator + Copy + Send + Sync + 'static,
+>(debouncer: Debouncer<T, NoCache, R, A, Called>) -> (Book<NoCache, A>, u64, bool)
+    ensures called { debouncer.began.once ≡ false → result.2 ≡ true →
+        EndsCalled debouncer.seen debouncer.parts result.0 result.1 }
+{
+    let (book, missed, handler) = debouncer.finish_left();
+    (book, missed, handler.once)
+}

@@ -1,0 +1,36 @@
+-- What is known once the worker has ended.
+use Rattle.std.proofs.Common.{◌≡◌, ℕ, List, Result, Ok, Err, IfOk, refl, subst}
+use Rattle.std.specs.declared.vec.Vec.{Vec}
+use Rattle.notify_paths.specs.Errors.{ErrorValue}
+use Rattle.debounce_book.specs.Book.{Kept}
+use Rattle.debounce_book.specs.Journal.{EntryValue}
+use Rattle.debounce_book.proofs.JournalRuns.{journal_gives_raw_paths, journal_invents_no_rename, journal_loses_no_change}
+use Rattle.told_lock.specs.History.{picked}
+use Rattle.debounce_access.specs.Happened.{History, entries_of, is_emitting}
+use Rattle.debounce_access.specs.Stands.{IsTold, ToldJournal}
+use Rattle.debounce_turns.specs.Ended.{EndsJournal, IsEnded}
+
+module _ {L : Type 0} (tells : L → History → Type 0) (left : L) where
+  -- what is left tells all that was emitted
+  pub ends : {C : Type 0} (seen told : History) (parts : List EntryValue) (book : Kept C) (count : ℕ)
+      → IsTold seen told parts book count → tells left (picked is_emitting told)
+      → IsEnded tells left seen parts book count
+  ends seen told parts book count (log, goes, begins, led, same) says = record {
+    log = log;
+    goes_on = goes;
+    leads = led;
+    told = subst (tells left) same says;
+    raw = λ rest shown paths ordered honest. journal_gives_raw_paths book.core.state.timeout (entries_of log)
+        book.core.state refl led.legal paths rest ordered honest shown;
+    kept = journal_loses_no_change book.core.state.timeout (entries_of log);
+    founded = journal_invents_no_rename book.core.state.timeout (entries_of log);
+  }
+
+  pub ends_journal : {A : Type 0} (seen told : History) (res : Result (ℕ × Vec EntryValue A) ErrorValue)
+      → IfOk res (λ r. ToldJournal seen told r.0 r.1.items) → tells left (picked is_emitting told)
+      → IfOk res (λ r. (l : L) × EndsJournal tells l seen r.0 r.1.items)
+  ends_journal seen told (Ok r) (log, goes, begins, opened, all, same) says = (
+    left,
+    record { log = log; goes_on = goes; opened = opened; is_all = all; told = subst (tells left) same says },
+  )
+  ends_journal seen told (Err e) given says = tt

@@ -1,0 +1,21 @@
+use Rattle.std.proofs.Common.{◌∙◌}
+use Rattle.debounce_turns.proofs.Hands.{hands_more}
+use Rattle.debounce_turns.proofs.life.work.Goals as goal
+
+pub loop-preserved-then-is_err : goal.loop-preserved-then-is_err
+loop-preserved-then-is_err g c =
+    let went = c.turn_now.ensures in (
+      went.again,
+      went.handed.0 ∙ c.loop.invariant.1,
+      hands_more g.H.DebounceEventHandler.handles c.args.handler
+          c.loop.handler c.turn_now.new.handler c.loop.gate c.turn_now.new.gate c.loop.invariant.2 went.handed,
+    )
+
+pub loop-preserved : goal.loop-preserved
+loop-preserved g c =
+    let went = c.turn_now.ensures in (
+      went.again,
+      went.handed.0 ∙ c.loop.invariant.1,
+      hands_more g.H.DebounceEventHandler.handles c.args.handler
+          c.loop.handler c.turn_now.new.handler c.loop.gate c.turn_now.new.gate c.loop.invariant.2 went.handed,
+    )

@@ -1,0 +1,33 @@
+-- What is known at a debouncer's end.
+use Rattle.std.specs.Prelude.{◌≡◌, ℕ, List}
+use Rattle.notify_types.specs.Event.{Timed}
+use Rattle.debounce_model.specs.Tick.{IsOutlook}
+use Rattle.debounce_book.specs.Book.{Kept}
+use Rattle.debounce_book.specs.Journal.{EntryValue}
+use Rattle.debounce_book.specs.JournalLaws.{EndsInRawPaths, InventsNoRename, LosesNoChange}
+use Rattle.told_lock.specs.History.{Begins, picked}
+use Rattle.debounce_access.specs.Happened.{History, entries_of, is_emitting, is_journaled, journal_of}
+use Rattle.debounce_access.specs.Stands.{BeginsAs, LeadsTo}
+
+-- one history goes on from what was seen and leads to the book and to the count, and what is left of the handler tells
+-- what was emitted in it. Who played every batch, and then what waits, has the raw paths; without renames no change
+-- that an event told is lost; and no joined rename is invented
+pub record IsEnded {C L : Type 0} (tells : L → History → Type 0) (left : L) (seen : History) (parts : List EntryValue)
+    (book : Kept C) (count : ℕ) : Type 0 where
+  pub log : History
+  pub goes_on : Begins seen log
+  pub leads : LeadsTo book count parts log
+  pub told : tells left (picked is_emitting log)
+  pub raw : (rest : List Timed) → IsOutlook book.core.state rest → EndsInRawPaths (entries_of log) rest
+  pub kept : LosesNoChange book.core.state.timeout (entries_of log)
+  pub founded : InventsNoRename book.core.state.timeout (entries_of log)
+
+-- these are the timeout and the journal of one history that goes on from what was seen, and what is left of the handler
+-- tells what was emitted in it
+pub record EndsJournal {L : Type 0} (tells : L → History → Type 0) (left : L) (seen : History) (timeout : ℕ)
+    (journal : List EntryValue) : Type 0 where
+  pub log : History
+  pub goes_on : Begins seen log
+  pub opened : BeginsAs timeout (is_journaled log) log
+  pub is_all : journal ≡ journal_of log
+  pub told : tells left (picked is_emitting log)

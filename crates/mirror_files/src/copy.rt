@@ -1,0 +1,169 @@
+//! The copy of a folder, and what is done to it.
+ghost use Rattle.std.specs.Prelude.{IfOk};
+ghost use Rattle.mirror_files.specs.Writes.{IsChangedFor};
+
+use crate::disk::Disk;
+use crate::places::Places;
+use batch_plan::action::Standing;
+use mirror_state::{FolderAndCopy, Leave, Seen, is_missing};
+use notify_paths::path::PathBuf;
+use notify_types::event::DebouncedEvent;
+use std::io;
+use std::os::unix::fs::MetadataExt;
+use watch_program::Fault;
+
+/// A folder and its copy. Each change takes a `Target`, so nothing outside of the copy is changed, and no
+/// link is followed on the way. It says whether there was anything to do; in a dry run it only says so.
+#[derive(Drop)]
+pub struct FolderCopy<D: Drop> {
+    disk: D,
+    places: Places,
+    /// The device of the folder: if it is another one, the folder's disk is gone.
+    from_device: u64,
+    /// That of the copy, if it is there: in a dry run it may be missing.
+    to_device: Option<u64>,
+}
+
+impl<D: Disk> FolderCopy<D> {
+    /// Returns the copy `to` of the folder `from`.
+    pub fn new(disk: D, from: PathBuf, to: PathBuf, leave: Leave) -> Result<FolderCopy<D>, Fault> {
+        let Ok(found) = disk.look_through(from.as_str()) else {
+            return Err(Fault::NotThere);
+        };
+        let to_device = match disk.look_through(to.as_str()) {
+            Ok(found) => Some(found.dev()),
+            Err(_) => None,
+        };
+        Ok(FolderCopy {
+            disk,
+            places: Places { from, to, leave },
+            from_device: found.dev(),
+            to_device,
+        })
+    }
+
+    /// Has what stands at the path of the folder stand in the copy too, of which the copy had this before.
+    fn put_into(
+        &mut self,
+        path: &PathBuf,
+        standing: Standing,
+        was: Option<Standing>,
+    ) -> io::Result<bool>
+        ensures { IfOk result (IsChangedFor (D.changed self.new.disk) self.old.places.from
+            self.old.places.to path.now self.old.places.leave.dry_run) }
+    {
+        let Some(target) = self.places.target_of(path)? else {
+            return Ok(false);
+        };
+        self.places
+            .put(&mut self.disk, path, &target, standing, was)
+    }
+
+    /// Removes from the copy what was put there for this path alone.
+    fn take_from(&mut self, path: &PathBuf, standing: Standing) -> io::Result<bool>
+        ensures { IfOk result (IsChangedFor (D.changed self.new.disk) self.old.places.from
+            self.old.places.to path.now self.old.places.leave.dry_run) }
+    {
+        let Some(target) = self.places.target_of(path)? else {
+            return Ok(false);
+        };
+        let found = self.places.kind_at(&self.disk, &target)?;
+        match (found, standing) {
+            (Some(Standing::Folder), Standing::Folder) => {
+                self.places.remove_folder(&mut self.disk, &target)
+            }
+            (Some(Standing::File), Standing::File) => {
+                self.places.remove_file(&mut self.disk, &target)
+            }
+            _ => Ok(false),
+        }
+    }
+
+    /// Removes what stands in the copy for this path, whatever it is, with all below it.
+    fn clear_at(&mut self, path: &PathBuf) -> io::Result<bool>
+        ensures { IfOk result (IsChangedFor (D.changed self.new.disk) self.old.places.from
+            self.old.places.to path.now self.old.places.leave.dry_run) }
+    {
+        let Some(target) = self.places.target_of(path)? else {
+            return Ok(false);
+        };
+        match self.places.kind_at(&self.disk, &target)? {
+            Some(Standing::Folder) => self.places.remove_all(&mut self.disk, &target),
+            Some(Standing::File) => self.places.remove_file(&mut self.disk, &target),
+            None => Ok(false),
+        }
+    }
+}
+
+impl<D: Disk> FolderAndCopy for FolderCopy<D> {
+    ghost sees = { λ _ _ _. Unit {0} };
+
+    ghost has_put = { λ _ _ _. Unit {0} };
+
+    fn folder(&self) -> &PathBuf {
+        &self.places.from
+    }
+
+    fn copy(&self) -> &PathBuf {
+        &self.places.to
+    }
+
+    /// Whether the folder is there, on the disk on which it was, and apart from the copy: a link that leads to it may
+    /// come to lead elsewhere, or to itself.
+    fn has_folder(&self) -> io::Result<bool> {
+        let (from, to) = (self.places.from.as_str(), self.places.to.as_str());
+        match self.disk.look_through(from) {
+            Ok(found) => {
+                let is_here = found.is_dir() && found.dev() == self.from_device;
+                Ok(is_here && self.disk.is_apart(from, to))
+            }
+            Err(error) if error.kind() == io::ErrorKind::FilesystemLoop => Ok(false),
+            Err(error) if is_missing(&error) => Ok(false),
+            Err(error) => Err(error),
+        }
+    }
+
+    fn copy_number(&self) -> Option<u64> {
+        match self.disk.look_through(self.places.to.as_str()) {
+            Ok(found) if found.is_dir() && Some(found.dev()) == self.to_device => Some(found.ino()),
+            _ => None,
+        }
+    }
+
+    /// A link is followed at the folder itself alone: below another one nothing is there.
+    fn look_at(&self, path: &PathBuf) -> Seen {
+        self.places.look_at(&self.disk, path)
+    }
+
+    fn closed_above(&self, path: &PathBuf) -> io::Result<PathBuf> {
+        self.places.closed_above(&self.disk, path)
+    }
+
+    fn check_names(&self, folder: &PathBuf) -> io::Result<()> {
+        if folder.starts_with(&self.places.from) {
+            self.disk.check_names(folder.as_str())?;
+        }
+        Ok(())
+    }
+
+    fn beside(&self) -> Result<Vec<DebouncedEvent>, Fault> {
+        self.disk.beside(&self.places.from, &self.places.to)
+    }
+
+    fn put(
+        &mut self,
+        path: &PathBuf,
+        standing: Standing,
+        was: Option<Standing>,
+    ) -> io::Result<bool> {
+        self.put_into(path, standing, was)
+    }
+
+    fn take_out(&mut self, path: &PathBuf, standing: Standing) -> io::Result<bool> {
+        self.take_from(path, standing)
+    }
+
+    fn clear(&mut self, path: &PathBuf) -> io::Result<bool> {
+        self.clear_at(path)
+    }
+}

@@ -1,0 +1,72 @@
+//! A disk, as a folder and its copy use it.
+ghost use Rattle.std.specs.Prelude.{OnOk};
+
+use batch_plan::target::Target;
+use notify_paths::path::PathBuf;
+use notify_types::event::DebouncedEvent;
+use std::alloc::Global;
+use std::fs::{Metadata, OpenFile};
+use std::io;
+use watch_program::Fault;
+
+/// A disk. What it is told to change has a `Target`, so it lies in a copy.
+///
+/// Its ghost member says what was changed last.
+pub trait Disk: Drop {
+    ghost use Rattle.notify_paths.specs.Path.{PathValue};
+
+    /// The path was changed last, and that went well.
+    ghost changed: { Self → PathValue → Type 0 };
+
+    /// A file that is open.
+    type File: io::Read + io::Write + OpenFile + Drop;
+
+    /// Returns the allocator.
+    fn allocator(&self) -> Global;
+
+    /// Looks at what stands at the path, or at what a link there leads to.
+    fn look_through(&self, path: &str) -> io::Result<Metadata>;
+
+    /// Looks at what stands at the path.
+    fn look(&self, path: &str) -> io::Result<Metadata>;
+
+    /// Whether the two folders lie apart.
+    fn is_apart(&self, from: &str, to: &str) -> bool;
+
+    /// It is an error if the folder's names can't be read.
+    fn check_names(&self, folder: &str) -> io::Result<()>;
+
+    /// Opens the file to be read.
+    fn open(&self, path: &str) -> io::Result<Self::File>;
+
+    /// Returns the bytes of the file.
+    fn read(&self, path: &str) -> io::Result<Vec<u8>>;
+
+    /// Returns a batch of removals of what the copy has beside what stands in the folder.
+    fn beside(&self, from: &PathBuf, to: &PathBuf) -> Result<Vec<DebouncedEvent>, Fault>;
+
+    /// Makes a file that nobody else may read, and opens it to be written. It is an error if anything has its
+    /// name, as a link: that stays, and nothing is written through it.
+    fn create_file(&mut self, target: &Target<'_>) -> io::Result<Self::File>
+        ensures { OnOk result (changed self.new target.now.path) };
+
+    /// Makes a folder.
+    fn create_folder(&mut self, target: &Target<'_>) -> io::Result<()>
+        ensures { OnOk result (changed self.new target.now.path) };
+
+    /// Removes what stands there and is no folder: a link itself.
+    fn remove_file(&mut self, target: &Target<'_>) -> io::Result<()>
+        ensures { OnOk result (changed self.new target.now.path) };
+
+    /// Removes a folder that is empty.
+    fn remove_folder(&mut self, target: &Target<'_>) -> io::Result<()>
+        ensures { OnOk result (changed self.new target.now.path) };
+
+    /// Removes a folder with all below it. No link is followed.
+    fn remove_all(&mut self, target: &Target<'_>) -> io::Result<()>
+        ensures { OnOk result (changed self.new target.now.path) };
+
+    /// Gives a file of the copy another name in it, in place of the file that has that name.
+    fn rename(&mut self, from: &Target<'_>, to: &Target<'_>) -> io::Result<()>
+        ensures { OnOk result (changed self.new to.now.path) };
+}

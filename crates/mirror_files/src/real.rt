@@ -1,0 +1,124 @@
+//! The disk of a runtime.
+ghost use Rattle.std.specs.Prelude.{◌≡◌, true};
+ghost use Rattle.std.specs.Fs.{asks_create_new};
+
+use crate::apart::check_apart;
+use crate::disk::Disk;
+use batch_plan::naming::name_beside;
+use batch_plan::target::Target;
+use folder_listing::listing::Listing;
+use notify_paths::path::PathBuf;
+use notify_types::event::{DebouncedEvent, RecursiveMode};
+use poll_rounds::list::list;
+use real_folders::real::RealFolders;
+use std::alloc::Global;
+use std::fs::{self, Files, Metadata, OpenOptions};
+use std::io;
+use std::os::unix::fs::OpenOptionsExt;
+use std::time::Clock;
+use watch_program::Fault;
+
+/// The disk of a runtime.
+#[derive(Drop)]
+pub struct RealDisk<R: Drop> {
+    rt: R,
+}
+
+impl<R: Drop> RealDisk<R> {
+    /// Returns the runtime's disk.
+    pub fn new(rt: R) -> RealDisk<R> {
+        RealDisk { rt }
+    }
+}
+
+impl<R: Files + Clock + AllocGlobal + Copy + Drop> Disk for RealDisk<R> {
+    ghost changed = { λ _ _. Unit {0} };
+
+    type File = R::File;
+
+    fn allocator(&self) -> Global {
+        self.rt.alloc()
+    }
+
+    fn look_through(&self, path: &str) -> io::Result<Metadata> {
+        fs::metadata(&self.rt, path)
+    }
+
+    fn look(&self, path: &str) -> io::Result<Metadata> {
+        fs::symlink_metadata(&self.rt, path)
+    }
+
+    fn is_apart(&self, from: &str, to: &str) -> bool {
+        check_apart(&self.rt, from, to).is_ok()
+    }
+
+    fn check_names(&self, folder: &str) -> io::Result<()> {
+        fs::read_dir(&self.rt, folder)?;
+        Ok(())
+    }
+
+    fn open(&self, path: &str) -> io::Result<R::File> {
+        fs::open(&self.rt, path)
+    }
+
+    fn read(&self, path: &str) -> io::Result<Vec<u8>> {
+        fs::read(&self.rt, path)
+    }
+
+    fn beside(&self, from: &PathBuf, to: &PathBuf) -> Result<Vec<DebouncedEvent>, Fault> {
+        let mut batch = Vec::new(self.rt.alloc());
+        let original = listing_of(self.rt, from)?;
+        name_beside(&mut batch, &original, &listing_of(self.rt, to)?, from, to)?;
+        Ok(batch)
+    }
+
+    fn create_file(&mut self, target: &Target<'_>) -> io::Result<R::File> {
+        let mut how = OpenOptions::new();
+        how.write(true).create_new(true);
+        open_new(&self.rt, how, target)
+    }
+
+    fn create_folder(&mut self, target: &Target<'_>) -> io::Result<()> {
+        fs::create_dir(&self.rt, target.as_str())
+    }
+
+    fn remove_file(&mut self, target: &Target<'_>) -> io::Result<()> {
+        fs::remove_file(&self.rt, target.as_str())
+    }
+
+    fn remove_folder(&mut self, target: &Target<'_>) -> io::Result<()> {
+        fs::remove_dir(&self.rt, target.as_str())
+    }
+
+    fn remove_all(&mut self, target: &Target<'_>) -> io::Result<()> {
+        fs::remove_dir_all(&self.rt, target.as_str())
+    }
+
+    fn rename(&mut self, from: &Target<'_>, to: &Target<'_>) -> io::Result<()> {
+        fs::rename(&self.rt, from.as_str(), to.as_str())
+    }
+}
+
+/// Makes a file that nobody else may read, if nothing has its name.
+fn open_new<R: Files>(rt: &R, mut how: OpenOptions, target: &Target<'_>) -> io::Result<R::File>
+    requires { asks_create_new how ≡ true }
+{
+    how.mode(0o600).open(rt, target.as_str())
+}
+
+/// What stands at the folder, or where a link there leads to, and below it.
+fn listing_of<R: Files + Clock + AllocGlobal + Copy + Drop>(
+    rt: R,
+    folder: &PathBuf,
+) -> Result<Listing, Fault> {
+    let alloc = rt.alloc();
+    let mut folders = RealFolders::new(rt, alloc);
+    let mut followed = Vec::new(alloc);
+    followed.push(folder.clone()?)?;
+    folders.follow(&mut followed);
+    let root = (folder.clone()?, RecursiveMode::Recursive);
+    match list(alloc, &mut folders, &[root]) {
+        Ok(listing) => Ok(listing),
+        Err(error) => Err(Fault::of(&error, Fault::CannotWatch)),
+    }
+}

@@ -1,0 +1,4 @@
+pub mod AfterLemmas
+pub mod KeptLemmas
+pub mod LookLemmas
+pub mod NamedLemmas

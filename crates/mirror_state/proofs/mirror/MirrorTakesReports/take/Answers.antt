@@ -1,0 +1,6 @@
+use Rattle.std.proofs.lemmas.Result.{on_ok_weaker}
+use Rattle.mirror_state.proofs.mirror.MirrorTakesReports.take.Goals as goal
+
+pub returns-in-Ok : goal.returns-in-Ok
+returns-in-Ok g c = on_ok_weaker c.take_batch.result
+    (λ after. rw c.in-Ok.is (c.remove_beside.new.self.kept.copy, after)) c.take_batch.ensures

@@ -1,0 +1,51 @@
+-- What a batch makes of a mirror.
+use Rattle.std.specs.Prelude.{◌≡◌, ◌⊎◌, Bool, true, List, [], ◌∷◌, ◌++◌, map, Option, None, Some}
+use Rattle.notify_paths.specs.Path.{PathValue}
+use Rattle.notify_types.specs.Event.{EventValue, Timed}
+use Rattle.debounce_model.specs.Play.{has_path}
+use Rattle.batch_plan.specs.Action.{ActionValue}
+use Rattle.batch_plan.specs.Naming.{naming_again}
+use Rattle.batch_plan.specs.Plan.{is_named, look_at, stands, wanted}
+use Rattle.batch_plan.specs.declared.action.Standing.{Standing}
+use Rattle.mirror_state.specs.Copy.{CopiedValue}
+use Rattle.mirror_state.specs.Looked.{IsSeen, Sees}
+
+-- the paths that wait, and whether each is wanted
+abbrev pub WaitingValue : Type 0
+WaitingValue = List (PathValue × Bool)
+
+-- the events by which what waits is looked at again
+abbrev pub again_of : WaitingValue → List Timed
+again_of waiting = map (λ e. naming_again e.0 e.1) waiting
+
+-- the path waits
+abbrev pub waits : WaitingValue → PathValue → Bool
+waits waiting path = stands (look_at waiting) path
+
+-- what waited waits still
+abbrev pub StayWaiting : WaitingValue → WaitingValue → Type 0
+StayWaiting old new = (path : PathValue) → waits old path ≡ true → waits new path ≡ true
+
+-- each path that an event names first waits
+abbrev pub AllWait : List EventValue → WaitingValue → Type 0
+AllWait events waiting = (path : PathValue) → is_named events path ≡ true → waits waiting path ≡ true
+
+-- each path that an event names first waits, or the copy has of it what a look gave: what stands there, if the events
+-- want the path, and else nothing
+abbrev pub WaitOrAreCopied : Sees → List EventValue → WaitingValue → CopiedValue → Type 0
+WaitOrAreCopied sees events waiting copied = (path : PathValue) → is_named events path ≡ true →
+    (waits waiting path ≡ true) ⊎ IsSeen sees path (has_path (wanted events) path) (look_at copied path)
+
+-- the copy was asked for what is wanted at the path, last, and that went well; so it counts as copied. What is to go
+-- doesn't any more
+abbrev pub IsDone : {C : Type 0} → (C → PathValue → Standing → Type 0) → PathValue → Option Standing → Bool → C →
+    CopiedValue → Type 0
+IsDone has_put path (Some standing) goes copy copied =
+    has_put copy path standing × (look_at copied path ≡ Some standing)
+IsDone has_put path None goes copy copied = goes ≡ true → look_at copied path ≡ None
+
+-- the action was carried out, or its path waits
+abbrev pub IsCarriedOut : {C : Type 0} → (C → PathValue → Standing → Type 0) → ActionValue → Bool → C → CopiedValue →
+    WaitingValue → Type 0
+IsCarriedOut has_put action goes copy copied waiting =
+    (waits waiting action.path ≡ true) ⊎ IsDone has_put action.path action.wanted goes copy copied

@@ -1,0 +1,4 @@
+pub mod After
+pub mod Copy
+pub mod Looked
+pub mod Seen

@@ -1,0 +1,109 @@
+//! A folder and its copy, and what they are asked.
+ghost use Rattle.std.specs.Prelude.{◌≡◌, OnOk};
+ghost use Rattle.mirror_state.specs.Seen.{standing_of};
+
+use batch_plan::action::Standing;
+use notify_paths::path::PathBuf;
+use notify_types::event::DebouncedEvent;
+use std::io;
+use watch_program::Fault;
+
+/// What a look at a path of the folder answers.
+#[derive(Drop)]
+pub enum Seen {
+    /// What is copied.
+    Stands(Standing),
+    /// What isn't, as a link.
+    Other,
+    /// Nothing is there.
+    Nothing,
+    /// What is there can't be said, for instance since permission closes a folder above.
+    Closed(io::Error),
+}
+
+impl Seen {
+    /// Returns what the error of a look says.
+    pub fn of(error: io::Error) -> Seen {
+        if is_missing(&error) {
+            Seen::Nothing
+        } else {
+            Seen::Closed(error)
+        }
+    }
+
+    /// Returns what a copy is to have of it.
+    pub fn standing(&self) -> Option<Standing>
+        ensures { result ≡ standing_of self.now }
+    {
+        match self {
+            Seen::Stands(standing) => Some(*standing),
+            Seen::Other | Seen::Nothing | Seen::Closed(_) => None,
+        }
+    }
+}
+
+/// Whether the error says that nothing is there.
+pub fn is_missing(error: &io::Error) -> bool {
+    matches!(
+        error.kind(),
+        io::ErrorKind::NotFound | io::ErrorKind::NotADirectory
+    )
+}
+
+/// Whether the error says that an allocation failed.
+pub(crate) fn is_memory(error: &io::Error) -> bool {
+    error.kind() == io::ErrorKind::OutOfMemory && error.raw_os_error().is_none()
+}
+
+/// A folder and its copy, which are asked by paths of the folder. A call that changes the copy says whether
+/// there was anything to do.
+///
+/// Its ghost members say what a look may answer, and what was put into the copy last.
+pub trait FolderAndCopy: Drop {
+    ghost use Rattle.notify_paths.specs.Path.{PathValue};
+    ghost use Rattle.batch_plan.specs.declared.action.Standing.{Standing};
+    ghost use Rattle.mirror_state.specs.declared.seen.Seen.{Seen};
+
+    /// What a look at the path may answer.
+    ghost sees: { Self → PathValue → Seen → Type 0 };
+
+    /// The last call put this there, and went well.
+    ghost has_put: { Self → PathValue → Standing → Type 0 };
+
+    /// Returns the folder.
+    fn folder(&self) -> &PathBuf;
+
+    /// Returns the copy's folder.
+    fn copy(&self) -> &PathBuf;
+
+    /// Whether the folder is there, on the disk on which it was, and apart from the copy.
+    fn has_folder(&self) -> io::Result<bool>;
+
+    /// Returns the number of the copy's folder, if it is there, on the disk on which it was.
+    fn copy_number(&self) -> Option<u64>;
+
+    /// Looks at the path of the folder.
+    fn look_at(&self, path: &PathBuf) -> Seen
+        ensures { sees self.now path.now result };
+
+    /// Returns the folder that permission closes above the path, or the path itself.
+    fn closed_above(&self, path: &PathBuf) -> io::Result<PathBuf>;
+
+    /// It is an error if the folder's names can't be read. What doesn't lie in the folder that is copied is
+    /// left alone.
+    fn check_names(&self, folder: &PathBuf) -> io::Result<()>;
+
+    /// Returns a batch of removals of what the copy has beside what stands in the folder.
+    fn beside(&self) -> Result<Vec<DebouncedEvent>, Fault>;
+
+    /// Has what stands at the path of the folder stand in the copy too, of which the copy had this before.
+    fn put(&mut self, path: &PathBuf, standing: Standing, was: Option<Standing>) -> io::Result<bool>
+        ensures { OnOk result (has_put self.new path.now standing) };
+
+    /// Removes from the copy what was put there for this path alone: a folder only if it is empty. What
+    /// stands there of the copy's own stays.
+    fn take_out(&mut self, path: &PathBuf, standing: Standing) -> io::Result<bool>;
+
+    /// Removes what stands in the copy for this path, whatever it is, with all below it.
+    fn clear(&mut self, path: &PathBuf) -> io::Result<bool>;
+}

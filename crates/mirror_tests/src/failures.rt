@@ -1,0 +1,111 @@
+//! Each call of the system fails in turn.
+use crate::room::Room;
+use batch_plan::naming::name_path;
+use fake_files::script::FakeFiles;
+use mirror_files::{FolderCopy, RealDisk};
+use mirror_state::{Leave, Mirror};
+use notify_types::event::DebouncedEvent;
+use report_loop::TakesReports;
+use std::env::Env;
+use std::fs::Files;
+use std::process::{self, Abort};
+use std::time::Clock;
+
+/// How many calls are tried at most.
+const CALLS: u64 = 200;
+
+/// The mirror of a test, over files that a script rules.
+type TestMirror<R> = Mirror<FolderCopy<RealDisk<FakeFiles<R>>>, Vec<u8>, Vec<u8>>;
+
+/// A mirror of the room.
+fn mirror_of<R: Files + Clock + Env + Abort + AllocGlobal + Copy + Drop>(
+    rt: R,
+    room: &Room<R>,
+    files: FakeFiles<R>,
+) -> TestMirror<R> {
+    let leave = Leave {
+        delete: false,
+        dry_run: false,
+    };
+    let disk = RealDisk::new(files);
+    let copy = FolderCopy::new(disk, room.path("/from"), room.path("/to"), leave);
+    let copy = copy.expect(&rt, "a copy");
+    let alloc = rt.alloc();
+    Mirror::new(alloc, copy, leave, Vec::new(alloc), Vec::new(alloc))
+}
+
+/// A batch that names all that stands in the room's folder.
+fn batch_of<R: Files + Clock + Env + Abort + AllocGlobal + Copy + Drop>(
+    rt: R,
+    room: &Room<R>,
+) -> Vec<DebouncedEvent> {
+    let mut batch = Vec::new(room.alloc());
+    for end in ["/from/a", "/from/lib", "/from/lib/b"] {
+        name_path(&mut batch, &room.path(end)).expect(&rt, "memory");
+    }
+    batch
+}
+
+#[test]
+fn a_call_that_fails_harms_nothing_and_is_made_again(rt: HostRuntime) {
+    let id = process::id(rt.process());
+    let mut tried = 0;
+    for number in 0..CALLS {
+        if !fails_and_recovers(rt, id, number) {
+            break;
+        }
+        tried += 1;
+    }
+    // A look, an open file, reads, writes and a rename are among them.
+    assert!(rt; tried > 20 && tried < CALLS);
+}
+
+/// Has one call fail while a batch is taken. Says whether so many were made.
+fn fails_and_recovers<R: Files + Clock + Env + Abort + AllocGlobal + Copy + Drop>(
+    rt: R,
+    id: u32,
+    number: u64,
+) -> bool {
+    let room = Room::new(rt, "mirror_failures", id);
+    let files = FakeFiles::new(rt, "").expect(&rt, "memory");
+    let mut mirror = mirror_of(rt, &room, files);
+    let before = files.calls();
+    files.fail_call(number);
+    assert!(&rt; mirror.take(Ok(batch_of(rt, &room))).is_ok());
+    let is_reached = files.calls() > before.saturating_add(number);
+    files.fail_call(u64::MAX);
+    room.check_kept();
+    room.check_whole();
+    assert!(&rt; room.is_copied() || mirror.patience().is_some());
+    assert!(&rt; mirror.pass().is_ok());
+    room.check_kept();
+    room.check_whole();
+    assert!(&rt; room.is_copied());
+    assert!(&rt; mirror.end(0).is_ok());
+    is_reached
+}
+
+#[test]
+fn a_copy_that_can_not_be_written_stays(rt: HostRuntime) {
+    let id = process::id(rt.process());
+    check_refused(rt, id, "change: ReadOnlyFilesystem");
+    check_refused(rt, id, "write: StorageFull");
+    check_refused(rt, id, "rename: CrossesDevices");
+}
+
+/// Has each such call fail: the copy's file stays, and the end says that not all could be done.
+fn check_refused<R: Files + Clock + Env + Abort + AllocGlobal + Copy + Drop>(
+    rt: R,
+    id: u32,
+    script: &'static str,
+) {
+    let room = Room::new(rt, "mirror_refused", id);
+    let files = FakeFiles::new(rt, script).expect(&rt, "memory");
+    let mut mirror = mirror_of(rt, &room, files);
+    assert!(&rt; mirror.take(Ok(batch_of(rt, &room))).is_ok());
+    assert!(&rt; mirror.patience().is_some());
+    assert!(&rt; mirror.end(0).is_err());
+    room.check_kept();
+    room.check_whole();
+    assert!(&rt; room.has("/to/a", "old"));
+}

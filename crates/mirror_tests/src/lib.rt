@@ -1,0 +1,8 @@
+//! Tests of what no clause says of a mirror's files: what stands in a copy, and beside it, after each call of the
+//! system failed in turn, over the files of the crate `fake_files`.
+#![tactic(auto)]
+
+#[cfg(test)]
+mod failures;
+#[cfg(test)]
+mod room;

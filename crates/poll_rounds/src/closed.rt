@@ -1,0 +1,213 @@
+//! Rounds and looks that keep what can't be looked at.
+ghost use Rattle.std.specs.Prelude.{◌≡◌, ◌≤◌, [], true, false, IfErr, IfOk, OnErr, OnOk};
+ghost use Rattle.notify_paths.specs.Errors.{out_of_memory};
+ghost use Rattle.folder_listing.specs.Changes.{changes};
+ghost use Rattle.folder_listing.specs.Updates.{IsUpdate, updated};
+ghost use Rattle.poll_rounds.specs.Closed.{ClosedValue, IsKept, LookKeeps, RoundKeeps, is_kept, keeps};
+ghost use Rattle.poll_rounds.specs.Folders.{IsRefusal};
+ghost use Rattle.poll_rounds.specs.Rounds.{HandsEach, HandsRefusal};
+
+use crate::folders::Folders;
+use crate::list::list_beside;
+use crate::look::list_near;
+use crate::round::hand_each;
+use folder_listing::compare::compare_updates;
+use folder_listing::listing::Listing;
+use folder_listing::updates::Updates;
+use notify_paths::error::Error;
+use notify_paths::path::PathBuf;
+use notify_types::event::{Event, RecursiveMode};
+use notify_watch::handler::EventHandler;
+use std::alloc::Allocator;
+use std::io;
+
+/// A path at which a call failed, and why.
+pub type Closed<A> = (PathBuf<A>, io::ErrorKind);
+
+/// Folders that note where a call failed, and answer it all the same: as if nothing stood there, or the folder were
+/// empty.
+pub trait NotesClosed<A: Allocator>: Folders<A> {
+    /// What is noted.
+    ghost closed: { Self → ClosedValue };
+
+    /// Returns what is noted, each path once.
+    fn closed(&self) -> &[Closed<A>]
+        ensures { result.now ≡ closed self.now };
+
+    /// Forgets what is noted.
+    fn forget_closed(&mut self)
+        ensures none { closed self.new ≡ [] }
+        ensures same { Self.told self.new ≡ Self.told self.old }
+        ensures counted { Self.failed self.new ≡ Self.failed self.old };
+}
+
+/// Whether what the last listing says of the path stays, since this place is closed: below it all does, and at it and
+/// above it what stands there. So a closed folder that is new is shown, without what lies in it.
+fn keeps<A: Allocator + Copy>(place: &PathBuf<A>, last: &Listing<A>, path: &PathBuf<A>) -> bool
+    ensures { result ≡ keeps place.now last.now path.now }
+{
+    path.is_below(place) || (place.starts_with(path) && last.get(path).is_some())
+}
+
+/// Whether what the last listing says of the path stays.
+fn is_kept<A: Allocator + Copy>(closed: &[Closed<A>], last: &Listing<A>, path: &PathBuf<A>) -> bool
+    ensures { result ≡ is_kept closed.now last.now path.now }
+{
+    for (place, _why) in closed {
+        if keeps(place, last, path) {
+            return true;
+        }
+    }
+    false
+}
+
+/// Takes what is kept out of the updates.
+fn keep<A: Allocator + Copy>(closed: &[Closed<A>], last: &Listing<A>, updates: &mut Updates<A>)
+    requires { IsUpdate last.now updates.old.entries }
+    ensures kept { IsKept closed.now last.now (updated last.now updates.old.entries)
+        (updated last.now updates.new.entries) }
+    ensures update { IsUpdate last.now updates.new.entries }
+{
+    // This call shows the proof that the listing is one.
+    let _entries = last.iter();
+    updates.retain(|path, _update| !is_kept(closed, last, path));
+}
+
+/// Carries the updates out, but for what is kept, and returns the events that tell of it. After an error nothing has
+/// changed.
+fn settle<A: Allocator + Copy>(
+    alloc: A,
+    closed: &[Closed<A>],
+    last: &mut Listing<A>,
+    mut updates: Updates<A>,
+) -> Result<Vec<Event<A>, A>, Error<A>>
+    requires { IsUpdate last.old updates.entries }
+    ensures kept { OnOk result
+        (IsKept closed.now last.old (updated last.old updates.entries) last.new) }
+    ensures ok { IfOk result (λ events. events.items ≡ changes last.old last.new) }
+    ensures unchanged { OnErr result (last.new ≡ last.old) }
+    ensures err { IfErr result (λ e. e ≡ out_of_memory) }
+{
+    keep(closed, last, &mut updates);
+    let events = compare_updates(alloc, last, &updates)?;
+    last.update(alloc, &updates)?;
+    Ok(events)
+}
+
+/// Brings the last listing of the roots up to date, but for what is kept.
+fn renew_kept<A: Allocator + Copy, D: NotesClosed<A>>(
+    alloc: A,
+    folders: &mut D,
+    roots: &[(PathBuf<A>, RecursiveMode)],
+    last: &mut Listing<A>,
+) -> Result<Vec<Event<A>, A>, Error<A>>
+    ensures kept { OnOk result (RoundKeeps (D.told folders.old) roots.now (D.closed folders.new)
+        last.old last.new) }
+    ensures ok { IfOk result (λ events. events.items ≡ changes last.old last.new) }
+    ensures unchanged { OnErr result (last.new ≡ last.old) }
+    ensures err { IfErr result (λ e. IsRefusal e (D.failed folders.old) (D.failed folders.new)) }
+    ensures same { D.told folders.new ≡ D.told folders.old }
+    ensures counted { D.failed folders.old ≤ D.failed folders.new }
+{
+    folders.forget_closed();
+    let updates = list_beside(alloc, folders, roots, last)?;
+    settle(alloc, folders.closed(), last, updates)
+}
+
+/// Brings the last listing up to date at the paths and below them, but for what is kept.
+fn renew_near_kept<A: Allocator + Copy, D: NotesClosed<A>>(
+    alloc: A,
+    folders: &mut D,
+    roots: &[(PathBuf<A>, RecursiveMode)],
+    last: &mut Listing<A>,
+    paths: &[PathBuf<A>],
+) -> Result<Vec<Event<A>, A>, Error<A>>
+    ensures kept { OnOk result (LookKeeps (D.told folders.old) roots.now paths.now
+        (D.closed folders.new) last.old last.new) }
+    ensures ok { IfOk result (λ events. events.items ≡ changes last.old last.new) }
+    ensures unchanged { OnErr result (last.new ≡ last.old) }
+    ensures err { IfErr result (λ e. IsRefusal e (D.failed folders.old) (D.failed folders.new)) }
+    ensures same { D.told folders.new ≡ D.told folders.old }
+    ensures counted { D.failed folders.old ≤ D.failed folders.new }
+{
+    folders.forget_closed();
+    let updates = list_near(alloc, folders, roots, last, paths)?;
+    settle(alloc, folders.closed(), last, updates)
+}
+
+/// One round as [`poll_round`](crate::round::poll_round), but what the last listing has at a path that can't be looked
+/// at, and below it, is kept, with the folders above: nothing is reported of it. What is noted of the folders then are
+/// these paths.
+pub fn kept_round<
+    A: Allocator + Copy,
+    D: NotesClosed<A>,
+    H: EventHandler<Result<Event<A>, Error<A>>>,
+>(
+    alloc: A,
+    folders: &mut D,
+    roots: &[(PathBuf<A>, RecursiveMode)],
+    last: &mut Listing<A>,
+    handler: &mut H,
+) -> bool
+    requires { H.ready handler.old }
+    ensures again { H.ready handler.new }
+    ensures given { result ≡ true →
+        HandsEach H.handles (changes last.old last.new) handler.old handler.new }
+    ensures kept { result ≡ true →
+        RoundKeeps (D.told folders.old) roots.now (D.closed folders.new) last.old last.new }
+    ensures unchanged { result ≡ false → last.new ≡ last.old }
+    ensures refused { result ≡ false →
+        HandsRefusal H.handles (D.failed folders.old) (D.failed folders.new) handler.old
+        handler.new }
+    ensures same { D.told folders.new ≡ D.told folders.old }
+    ensures counted { D.failed folders.old ≤ D.failed folders.new }
+{
+    match renew_kept(alloc, folders, roots, last) {
+        Ok(events) => {
+            hand_each(events, handler);
+            true
+        }
+        Err(error) => {
+            handler.handle_event(Err(error));
+            false
+        }
+    }
+}
+
+/// One look as [`look_round`](crate::look::look_round), which keeps as [`kept_round`] does.
+pub fn kept_look<
+    A: Allocator + Copy,
+    D: NotesClosed<A>,
+    H: EventHandler<Result<Event<A>, Error<A>>>,
+>(
+    alloc: A,
+    folders: &mut D,
+    roots: &[(PathBuf<A>, RecursiveMode)],
+    last: &mut Listing<A>,
+    paths: &[PathBuf<A>],
+    handler: &mut H,
+) -> bool
+    requires { H.ready handler.old }
+    ensures again { H.ready handler.new }
+    ensures given { result ≡ true →
+        HandsEach H.handles (changes last.old last.new) handler.old handler.new }
+    ensures kept { result ≡ true → LookKeeps (D.told folders.old) roots.now paths.now
+        (D.closed folders.new) last.old last.new }
+    ensures unchanged { result ≡ false → last.new ≡ last.old }
+    ensures refused { result ≡ false →
+        HandsRefusal H.handles (D.failed folders.old) (D.failed folders.new) handler.old
+        handler.new }
+    ensures same { D.told folders.new ≡ D.told folders.old }
+    ensures counted { D.failed folders.old ≤ D.failed folders.new }
+{
+    match renew_near_kept(alloc, folders, roots, last, paths) {
+        Ok(events) => {
+            hand_each(events, handler);
+            true
+        }
+        Err(error) => {
+            handler.handle_event(Err(error));
+            false
+        }
+    }
+}

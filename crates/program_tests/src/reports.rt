@@ -1,0 +1,191 @@
+//! Reports that the watcher that polls never makes by itself: a loss, and a request to read all anew. What each program
+//! makes of them, as its page says.
+use config_state::{Follower, Reloader};
+use journal_lines::{Form, Journal, Pattern, Patterns, Printer};
+use notify_paths::path::PathBuf;
+use notify_types::event::{DebouncedEvent, Event, Flag};
+use notify_types::kind::EventKind;
+use notify_watch::handler::DebounceEventResult;
+use report_loop::{Given, GivesReports, Rest, TakesReports, hand_on, take_rest};
+use std::process::Abort;
+use std::sync::Wait;
+use std::time::Duration;
+use std::vec;
+use trigger_lines::{Bursts, Trigger};
+use watch_program::{Fault, write_missed};
+
+/// The program's name, in each test.
+const NAME: &str = "program";
+
+/// Gives these, one after the other, until the life is over.
+#[derive(Drop)]
+struct Script {
+    left: vec::IntoIter<Given>,
+}
+
+impl GivesReports for Script {
+    ghost gives = { λ before pause given after. Unit };
+
+    fn wait(&mut self, _pause: Option<Duration>) -> Given {
+        match self.left.next() {
+            Some(given) => given,
+            None => Given::Over,
+        }
+    }
+}
+
+/// The event that a line tells: a kind's word and a path, or `rescan` alone, which asks to read all anew.
+fn event<R: Abort + AllocGlobal>(rt: &R, line: &str) -> DebouncedEvent {
+    let alloc = rt.alloc();
+    let event = match line.split_once(' ') {
+        None => Event::new(alloc, EventKind::Other).set_flag(Flag::Rescan),
+        Some((word, path)) => {
+            let kind = EventKind::from_word(word).expect(rt, "a kind");
+            let path = PathBuf::parse(alloc, path).expect(rt, "memory");
+            Event::new(alloc, kind).add_path(path).expect(rt, "memory")
+        }
+    };
+    DebouncedEvent::new(event, 0)
+}
+
+/// The batch of this one event.
+fn batch<R: Abort + AllocGlobal>(rt: &R, line: &str) -> DebounceEventResult {
+    let mut batch = Vec::new(rt.alloc());
+    batch.push(event(rt, line)).expect(rt, "memory");
+    Ok(batch)
+}
+
+/// What a line gives: `pause`, or a batch.
+fn given<R: Abort + AllocGlobal>(rt: &R, line: &str) -> Given {
+    if line == "pause" {
+        return Given::Nothing;
+    }
+    Given::Report(batch(rt, line))
+}
+
+/// Has the program follow what the lines give, one after the other, and take the last line's batch at the end. Three
+/// events were lost. Returns how many that were, as the loop says.
+fn follow<R: Abort + AllocGlobal + Wait, P: TakesReports>(
+    rt: &R,
+    lines: &str,
+    last: &str,
+    program: &mut P,
+) -> Result<u64, Fault> {
+    let mut all = Vec::new(rt.alloc());
+    for line in lines.lines() {
+        all.push(given(rt, line)).expect(rt, "memory");
+    }
+    let mut source = Script {
+        left: all.into_iter(),
+    };
+    program.begin()?;
+    hand_on(rt, &mut source, program)?;
+    let mut reports = Vec::new(rt.alloc());
+    reports.push(batch(rt, last)).expect(rt, "memory");
+    take_rest(Ok(Rest { reports, missed: 3 }), program)
+}
+
+/// The text of what was written.
+fn text<'a, R: Abort>(rt: &R, bytes: &'a Vec<u8>) -> &'a str {
+    std::str::from_utf8(bytes.as_slice()).expect(rt, "UTF-8")
+}
+
+/// The folder that each program watches.
+fn folder<R: Abort + AllocGlobal>(rt: &R) -> PathBuf {
+    PathBuf::parse(rt.alloc(), "/w").expect(rt, "memory")
+}
+
+/// Patterns that leave out what ends in `.o`.
+fn patterns<R: Abort + AllocGlobal>(rt: &R) -> Patterns {
+    let exclude = Pattern {
+        option: "--exclude",
+        text: r"\.o$",
+    };
+    Patterns::parse(rt.alloc(), None, Some(exclude)).expect(rt, "patterns")
+}
+
+#[test]
+fn a_journal_prints_a_request_to_read_anew_and_says_a_loss(rt: HostRuntime) {
+    let patterns = patterns(&rt);
+    let mut places = Vec::new(rt.alloc());
+    places.push("/w").expect(&rt, "memory");
+    let mut printer = Printer {
+        clock: rt,
+        alloc: rt.alloc(),
+        name: NAME,
+        places,
+        journal: Journal::new(Form::Plain),
+        filter: patterns.filter(rt.alloc()).expect(&rt, "memory"),
+        out: Vec::new(rt.alloc()),
+        err: Vec::new(rt.alloc()),
+    };
+    let lines = "Create(File) /w/a\nrescan\nCreate(File) /w/a.o";
+    let missed = follow(&rt, lines, "Remove(File) /w/a", &mut printer).expect(&rt, "no fault");
+    write_missed(missed, NAME, &mut printer.err);
+    assert_eq!(rt;
+        text(&rt, &printer.out),
+        "Create(File)\t/w/a\nOther\nRemove(File)\t/w/a\n"
+    );
+    assert_eq!(rt;
+        text(&rt, &printer.err),
+        "program: watching /w\nprogram: 3 missed\n"
+    );
+}
+
+#[test]
+fn a_trigger_has_a_line_for_a_request_to_read_anew_and_says_a_loss(rt: HostRuntime) {
+    let (patterns, folder) = (patterns(&rt), folder(&rt));
+    let mut places = Vec::new(rt.alloc());
+    places.push("/w").expect(&rt, "memory");
+    let mut bursts = Bursts {
+        alloc: rt.alloc(),
+        name: NAME,
+        places,
+        folder: &folder,
+        quiet: Duration::from_millis(500),
+        filter: patterns.filter(rt.alloc()).expect(&rt, "memory"),
+        trigger: Trigger::new(rt.alloc()),
+        out: Vec::new(rt.alloc()),
+        err: Vec::new(rt.alloc()),
+    };
+    let lines = "Create(File) /w/a\nCreate(File) /w/a.o\npause\nrescan\npause";
+    let missed = follow(&rt, lines, "Remove(File) /w/a", &mut bursts).expect(&rt, "no fault");
+    write_missed(missed, NAME, &mut bursts.err);
+    bursts.write().expect(&rt, "no fault");
+    assert_eq!(rt; text(&rt, &bursts.out), "1\t./a\n1\n1\t./a\n");
+    assert_eq!(rt;
+        text(&rt, &bursts.err),
+        "program: watching /w\nprogram: 3 missed\n"
+    );
+}
+
+/// How often a file that isn't there was read.
+fn readings(text: &str) -> usize {
+    text.lines().filter(|line| *line == "kept").count()
+}
+
+#[test]
+fn a_configuration_is_read_anew_if_that_is_asked_for_and_after_a_loss(rt: HostRuntime) {
+    let mut follower = Follower {
+        rt,
+        name: NAME,
+        file: PathBuf::parse(rt.alloc(), "/w/none/f.toml").expect(&rt, "memory"),
+        reloader: Reloader::new(),
+        out: Vec::new(rt.alloc()),
+        err: Vec::new(rt.alloc()),
+    };
+    // At first, for the request, and after the loss; the two files are others.
+    let missed = follow(
+        &rt,
+        "Create(File) /w/a\nrescan",
+        "Create(File) /w/b",
+        &mut follower,
+    )
+    .expect(&rt, "no fault");
+    assert_eq!(rt; readings(text(&rt, &follower.out)), 2);
+    write_missed(missed, NAME, &mut follower.err);
+    follower.read_if_missed(missed).expect(&rt, "no fault");
+    assert_eq!(rt; readings(text(&rt, &follower.out)), 3);
+    let said = "program: watching /w/none/f.toml\nprogram: 3 missed\n";
+    assert_eq!(rt; text(&rt, &follower.err), said);
+}

@@ -1,0 +1,53 @@
+-- A whole program that takes batches, from its words to its exit status.
+use Rattle.std.specs.Prelude.{◌≡◌, ◌⊎◌, ℕ, List, [], ◌∷◌, codes, unwrap_or, Result, Ok, Err, MatchResult}
+use Rattle.clap.specs.declared.parser.matches.ArgMatches.{ArgMatches}
+use Rattle.clap.specs.Words.{first_value, found_of}
+use Rattle.notify_paths.specs.PathText.{parts_of}
+use Rattle.watch_program.specs.declared.fault.Fault.{Fault}
+use Rattle.watch_program.specs.declared.fault.Fault.TheVariants.{Incomplete, Memory, NotApart, NotThere}
+use Rattle.report_loop.specs.declared.batches.Places.{Places}
+use Rattle.report_loop.specs.Batches.{Begins, EndsBy, Keeps, Takes, of_batches}
+use Rattle.report_loop.specs.Loop.{Answer}
+use Rattle.watch_loop.specs.FollowsFolder.{FollowsFolder}
+
+-- the names of the words that each such program has, in order; after them come its second place and `--until-eof`
+abbrev pub option_ids : List (List ℕ)
+option_ids = codes "place" ∷ codes "timeout" ∷ codes "interval" ∷ codes "hints" ∷ codes "hints-zero"
+    ∷ codes "seconds" ∷ codes "ticks" ∷ []
+
+-- an exit status that it may have
+abbrev pub IsStatus : ℕ → Type 0
+IsStatus status =
+    ((status ≡ 0) ⊎ (status ≡ 1))
+    ⊎ ((status ≡ 2) ⊎ ((status ≡ 4) ⊎ ((status ≡ 5) ⊎ ((status ≡ 6) ⊎ (status ≡ 8)))))
+
+-- the places that the words name; a second one that they don't name is the empty path
+abbrev pub named_places : ArgMatches → Places
+named_places matches = record {
+  folder = parts_of (unwrap_or (first_value (found_of matches) (codes "place")) []);
+  second = parts_of (unwrap_or (first_value (found_of matches) (codes "second")) []);
+}
+
+-- why places are refused before anything is watched
+abbrev pub IsRefusal : Fault → Type 0
+IsRefusal fault = (fault ≡ Memory) ⊎ ((fault ≡ NotThere) ⊎ (fault ≡ NotApart))
+
+-- the program followed the folder, and then took once more what it had asked for again; or a fault ended it before
+abbrev pub RunsOver : {P : Type 0} → Begins P → Takes P → Keeps P → Answer → Keeps P → Type 0
+RunsOver {P} begins takes before answer after =
+    (missed : Result ℕ Fault) × (last : Keeps P) × FollowsFolder (of_batches begins takes) before missed last
+    × MatchResult missed (λ _. EndsBy takes last answer after) (λ fault. (answer ≡ Err fault) × (after ≡ last))
+
+-- how a program ends after a run: by its fault; if it went well, so too, or as one that couldn't do all, since there
+-- are paths that couldn't be looked at when the watcher ended
+abbrev pub EndsAfter : Answer → Answer → Type 0
+EndsAfter run answer =
+    MatchResult run (λ _. (answer ≡ Ok tt) ⊎ (answer ≡ Err Incomplete)) (λ fault. answer ≡ Err fault)
+
+-- how the program ends at these matches: the places are refused; or it followed the folder that the words name, was
+-- told the places that they name, had asked for nothing before, and ends as after that run
+abbrev pub RunsFolder : {P : Type 0} → Begins P → Takes P → P → ArgMatches → Answer → Type 0
+RunsFolder {P} begins takes program matches answer =
+    ((fault : Fault) × IsRefusal fault × (answer ≡ Err fault))
+    ⊎ ((before : Keeps P) × (after : Keeps P) × (run : Answer) × (before.program ≡ program) × (before.waiting ≡ [])
+    × (before.places ≡ named_places matches) × RunsOver begins takes before run after × EndsAfter run answer)
