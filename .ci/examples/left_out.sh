@@ -1,5 +1,6 @@
 # shellcheck shell=bash disable=SC2154
-# Names that are not UTF-8 under each program of docs/examples: it says once how many it leaves out, and goes on.
+# Names that are not UTF-8, and what lies too deep, under each program of docs/examples: it says once how many it
+# leaves out, and goes on.
 mkdir left_out && cd left_out || return
 
 # says FILE PATTERN: the file has such a line, within a minute. The index looks only when it is asked.
@@ -60,5 +61,27 @@ for name in build_trigger change_journal config_reloader document_index folder_m
         says out "$seen" && well=yes
     ends && cmp -s err wanted || well=no
     report "$name: a name that is not UTF-8 comes later" $well
+done
+
+# A look goes 64 levels down: that something may lie deeper is said once. What comes at the last level is seen, and
+# nothing below it.
+for name in build_trigger change_journal document_index folder_mirror; do
+    program=$top/crates/$name/out/$name
+    rm -rf d copy queries && mkfifo queries
+    last=d
+    for _ in $(seq 64); do last=$last/l; done
+    mkdir -p "$last/below"
+    echo 'port = 80' >"$last/f.toml"
+    places=(d)
+    case $name in
+        folder_mirror) places+=(copy) ;;
+    esac
+    printf "$name: %s\n" 'watching d' '1 folder lies 64 levels deep, and what is in it is left out' >wanted
+    well=no
+    runs
+    says err "^$name: watching" && echo 'port = 8080' >"$last/f.toml" && echo 'port = 8080' >"${last%/l}/g.toml" &&
+        says out 'g\.toml(	|$)' && well=yes
+    ends && cmp -s err wanted && ! grep -qF 'f.toml' out || well=no
+    report "$name: a folder that lies too deep is said once" $well
 done
 cd ..

@@ -125,6 +125,11 @@ impl<R: DebouncerRuntime + AllocGlobal> Live<R> {
         self.reports.debouncer().watcher().names_left_out()
     }
 
+    /// How many folders lie so deep that what is in them is left out.
+    pub(crate) fn folders_too_deep(&self) -> u64 {
+        self.reports.debouncer().watcher().folders_too_deep()
+    }
+
     /// Returns what tells how many paths can't be looked at, also after the end.
     pub(crate) fn closed(&self) -> Result<ClosedCount, Fault>
         ensures err { IfErr result (λ e. e ≡ Memory) }

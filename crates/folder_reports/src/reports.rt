@@ -24,7 +24,8 @@ pub struct FolderReports<'n, R: DebouncerRuntime, E: Drop> {
 impl<'n, R: DebouncerRuntime + AllocGlobal, E: Write + Drop> FolderReports<'n, R, E> {
     /// Watches the folder from now on, and reads hints if `pace.hints` says so. What is there already is
     /// reported if `pace.initial` says so, as created. The life begins with this call. That names are left out,
-    /// since they aren't UTF-8, is said once, by the first of these calls and `finish` that finds any.
+    /// since they aren't UTF-8, and that folders aren't looked into, since they lie 64 levels deep, is said once
+    /// each, by the first of these calls and `finish` that finds any.
     pub fn start(
         rt: R,
         folder: &PathBuf,
@@ -91,10 +92,20 @@ impl<'n, R: DebouncerRuntime + AllocGlobal, E: Write + Drop> FolderReports<'n, R
         self.live.names_left_out()
     }
 
-    /// Says how many that are, once, if any is (`NAME: 3 names are not UTF-8 and are left out`).
+    /// Returns how many folders lie so deep that what is in them is left out, as far as was looked at
+    /// (`PollWatcher::folders_too_deep`).
+    pub fn folders_too_deep(&self) -> u64 {
+        self.live.folders_too_deep()
+    }
+
+    /// Says how many names are left out, and how many folders lie too deep, each once, if any is
+    /// (`NAME: 3 names are not UTF-8 and are left out`,
+    /// `NAME: 2 folders lie 64 levels deep, and what is in them is left out`).
     pub fn say_left_out(&mut self) {
         let names = self.live.names_left_out();
         self.complaints.leave_out(names);
+        let folders = self.live.folders_too_deep();
+        self.complaints.leave_deep(folders);
     }
 
     /// Waits for the next report. `None` says that the life is over, as by the end of the input, or that the

@@ -1,2 +1,3 @@
+pub mod Deep
 pub mod Polled
 pub mod Said

@@ -1,10 +1,12 @@
 //! What a polling watcher keeps under its lock.
-ghost use Rattle.std.specs.Prelude.{◌≡◌, ◌+◌, ◌-◌, ◌^◌, min, None, false, true, IfErr};
+ghost use Rattle.std.specs.Prelude.{◌≡◌, ◌+◌, ◌-◌, ◌^◌, length, min, None, false, true, IfErr};
 ghost use Rattle.notify_paths.specs.Errors.{out_of_memory};
 ghost use Rattle.poll_rounds.specs.Closed.{IsKept};
 ghost use Rattle.poll_rounds.specs.Reports.{Reports};
+ghost use Rattle.poll_roots.specs.Deep.{too_deep};
 ghost use Rattle.poll_roots.specs.Said.{ReportsAndSays, SaysEach, unsaid};
 
+use crate::deep::count_too_deep;
 use crate::polled::Polled;
 use crate::said::say_each;
 use notify_paths::error::Error;
@@ -29,6 +31,9 @@ pub struct Watched<A: Allocator> {
     pub failed_path: Option<PathBuf<A>>,
     /// How many names the last round that went well left out, with those of paths that were watched since.
     pub left_out: u64,
+    /// How many folders of the last listing weren't looked into, since they lie 64 levels below a root, when they were
+    /// counted last.
+    pub too_deep: u64,
     /// Which paths the last round that went well couldn't look at, and why, if folders note it.
     pub closed: Vec<Closed<A>, A>,
 }
@@ -41,6 +46,7 @@ impl<A: Allocator + Copy> Watched<A> {
             followed: Vec::new(alloc),
             failed_path: None,
             left_out: 0,
+            too_deep: 0,
             closed: Vec::new(alloc),
         }
     }
@@ -74,7 +80,8 @@ impl<A: Allocator + Copy> Watched<A> {
         }
     }
 
-    /// Makes one round, and keeps where it failed, or how many names it left out and which paths it couldn't look at.
+    /// Makes one round, and keeps where it failed, or how many names it left out, how many folders it didn't look into
+    /// since they lie so deep, and which paths it couldn't look at.
     /// What was shown of these is kept, and each is said once, and again if the cause changed or it was open meanwhile.
     pub fn round<
         F: EventHandler<Result<Event<A>, Error<A>>>,
@@ -85,8 +92,10 @@ impl<A: Allocator + Copy> Watched<A> {
         ensures cleared { result ≡ true → self.new.failed_path ≡ None }
         ensures left_out { result ≡ true →
             self.new.left_out ≡ folders.new.inner.left_out - folders.old.inner.left_out }
+        ensures deep { result ≡ true → self.new.too_deep
+            ≡ min (length (too_deep self.new.polled.roots self.new.polled.last)) (2 ^ 64 - 1) }
         ensures same { result ≡ false → (self.new.left_out ≡ self.old.left_out)
-            × (self.new.closed ≡ self.old.closed) }
+            × ((self.new.too_deep ≡ self.old.too_deep) × (self.new.closed ≡ self.old.closed)) }
         ensures said { result ≡ true →
             ReportsAndSays F.handles self.old.polled.last self.new.polled.last
             (unsaid self.old.closed.items self.new.closed.items) handler.old handler.new }
@@ -100,6 +109,7 @@ impl<A: Allocator + Copy> Watched<A> {
         let failed_path = folders.take_failed_path();
         if went_well {
             self.left_out = folders.inner().left_out().saturating_sub(before);
+            self.count_deep();
             self.say_closed(folders, handler);
         }
         self.failed_path = if went_well { None } else { failed_path };
@@ -122,6 +132,16 @@ impl<A: Allocator + Copy> Watched<A> {
         let alloc = *self.closed.allocator();
         say_each(alloc, self.closed.as_slice(), folders.closed(), handler);
         folders.exchange_closed(&mut self.closed);
+    }
+
+    /// Counts the folders of the last listing that aren't looked into, since they lie 64 levels below a root.
+    pub fn count_deep(&mut self)
+        ensures { self.new ≡ record self.old {
+          too_deep = min (length (too_deep self.old.polled.roots self.old.polled.last))
+              (2 ^ 64 - 1);
+        } }
+    {
+        self.too_deep = count_too_deep(self.polled.roots(), self.polled.last());
     }
 
     /// A path is watched from now on, whose first listing left out so many names.

@@ -76,6 +76,15 @@ left_out_line program names =
     else (if names == 1 then program ++ codes ": 1 name is not UTF-8 and is left out\n"
     else program ++ (codes ": " ++ (decimal names ++ codes " names are not UTF-8 and are left out\n")))
 
+-- the line of a program that looks into so many folders no longer, since they lie so deep; there is none if it looks
+-- into all
+abbrev pub too_deep_line : List ℕ → ℕ → List ℕ
+too_deep_line program folders =
+    if folders == 0 then []
+    else (if folders == 1 then program ++ codes ": 1 folder lies 64 levels deep, and what is in it is left out\n"
+    else program ++ (codes ": " ++ (decimal folders
+    ++ codes " folders lie 64 levels deep, and what is in them is left out\n")))
+
 -- how a program ends after a run, if its watcher couldn't look at so many paths: not all could be done
 abbrev pub ended : ℕ → Result (Unit {0}) Fault → Result (Unit {0}) Fault
 ended paths (Ok done) = if paths == 0 then Ok done else Err Incomplete

@@ -1,7 +1,7 @@
 //! What a program says on standard error, and how it ends.
 ghost use Rattle.std.specs.Prelude.{◌≡◌, [], OnOk};
 ghost use Rattle.std.specs.Io.KnownBytes.{Appends};
-ghost use Rattle.watch_program.specs.Faults.{end_status, left_out_line, watching_line};
+ghost use Rattle.watch_program.specs.Faults.{end_status, left_out_line, too_deep_line, watching_line};
 
 use crate::fault::Fault;
 use crate::field::push_field;
@@ -64,6 +64,28 @@ pub fn write_missed<E: Write>(missed: u64, program: &str, err: &mut E)
     if missed > 0 {
         let _ = writeln!(err, "{program}: {missed} missed");
     }
+}
+
+/// Writes how many folders aren't looked into, if any isn't:
+/// `NAME: 3 folders lie 64 levels deep, and what is in them is left out`.
+pub fn write_too_deep<E: Write>(folders: u64, program: &str, err: &mut E) -> io::Result<()>
+    ensures none { folders ≡ 0 → E.contents err.new ≡ E.contents err.old }
+    ensures line { OnOk result (Appends (E.contents err.old) (E.contents err.new)
+        (too_deep_line program.now folders)) }
+{
+    if folders == 0 {
+        return Ok(());
+    }
+    if folders == 1 {
+        return writeln!(
+            err,
+            "{program}: 1 folder lies 64 levels deep, and what is in it is left out"
+        );
+    }
+    writeln!(
+        err,
+        "{program}: {folders} folders lie 64 levels deep, and what is in them is left out"
+    )
 }
 
 /// Writes how many names are left out, if any is: `NAME: 3 names are not UTF-8 and are left out`.

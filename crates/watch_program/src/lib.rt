@@ -24,7 +24,7 @@ mod words;
 
 pub use closed::ClosedPaths;
 pub use complaints::Complaints;
-pub use ends::{end, write_errors, write_left_out, write_missed, write_watching};
+pub use ends::{end, write_errors, write_left_out, write_missed, write_too_deep, write_watching};
 pub use fault::Fault;
 pub use field::push_field;
 pub use output::write_now;
