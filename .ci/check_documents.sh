@@ -112,7 +112,7 @@ rows() {
     for edit in crates/*/must-fail/*.edit; do
         grep -LF "\`$(basename "$edit" .edit)\`" docs/ARCHITECTURE.md docs/WRONG_BODIES.md | sed "s,\$,: no row for $edit,"
     done
-    sed -n 's/^  \(needs \)\{0,1\}\([a-z_]*\): .*/`\2`/p' docs/CALLING.md | sort -u | grep -vxF '`needs`' | grep -vxFf <(grep -o '`[a-z_]*`' docs/CONTRIBUTING.md)
+    scripts/calling | sed -n 's/^  \(needs \)\{0,1\}\([a-z_]*\): .*/`\2`/p' | sort -u | grep -vxF '`needs`' | grep -vxFf <(grep -o '`[a-z_]*`' docs/CONTRIBUTING.md)
 }
 
 # Lengths; the kit's line; the README's script is the one that the gate runs, and prints what stands there.
@@ -137,6 +137,20 @@ ways() {
     done <"$room/ways"
 }
 
+# The scripts of contracts and lemmas print something of each crate: of those whose items are public, and of those that
+# have lemmas.
+printed() {
+    scripts/calling >"$room/calls"
+    tr -s ' \n' ' ' <crates/notify_debouncer_full/src/lib.rt | tr ';' '\n' | sed -n 's/.*pub use \([a-z_]*\)::.*/\1/p' |
+        sort -u | grep -vxE 'recommended|reports|runtime|crossbeam_channel' | while read -r crate; do
+        grep -qxF "== $crate" "$room/calls" || echo "scripts/calling: nothing of $crate"
+    done
+    scripts/calling Debouncer | grep -A3 -F 'Debouncer::finish(' | grep -q '^  ended: ' || echo 'scripts/calling: finish without its clauses'
+    scripts/lemma_map | cut -d: -f1 | sort | cmp -s - <(for file in crates/*/proofs/*.antt crates/*/specs/*Laws.antt; do
+        file=${file#crates/} && [ "${file##*/}" = Lib.antt ] || echo "${file%%/*}"
+    done | sort -u) || echo 'scripts/lemma_map: not of each crate'
+}
+
 # Columns: proofs have at most 120 and code 100, but for imports, comments and texts.
 widths() {
     export LC_ALL=C.UTF-8
@@ -147,8 +161,7 @@ widths() {
 for page in README.md docs/*.md docs/examples/*.md; do
     for kind in links names pointers sections blocks; do check "$page: $kind" $kind "$page"; done
 done
-check 'what scripts/lemma_map writes' cmp docs/LEMMAS.md <(scripts/lemma_map)
-check 'what scripts/calling writes' cmp docs/CALLING.md <(scripts/calling)
+check 'what the scripts of contracts and lemmas print' printed
 check 'crates, wrong bodies and labels' rows
 check 'the ways of an event and a tick' ways
 check 'widths of code and proofs' widths
