@@ -1,5 +1,5 @@
 -- Reports that are taken, and queries that are answered, one after the other. The loops of the program cite these.
-use Rattle.std.proofs.Common.{◌≡◌, ◌∙◌, ap, refl, sym, List, [], ◌∷◌, Bool, true, false, ◌&&◌}
+use Rattle.std.proofs.Common.{◌≡◌, ◌∙◌, ap, refl, subst, sym, List, [], ◌∷◌, Bool, true, false, ◌&&◌}
 use Rattle.std.specs.Prelude.{ℕ, Option, Result, Ok, Err, None, Some, is_some, IfOk}
 use Rattle.std.specs.List.{list_all}
 use Rattle.std.specs.declared.alloc.Global.{Global}
@@ -19,6 +19,12 @@ taken_first readings folder (Ok batch) old between new taken more =
     (Ok batch ∷ more.0, more.1, more.2, (taken.0, taken.1, rw taken.2 at more.3), more.4)
 taken_first readings folder (Err errors) old between new taken more =
     (Err errors ∷ more.0, more.1, more.2, rw taken at more.3, more.4)
+
+-- a query that was answered of this folder
+pub answered_of : (readings : Readings) (folder folder' : PathValue) (query : Query) (old new : Served)
+    → folder ≡ folder' → Answers readings folder query old new → Answers readings folder' query old new
+answered_of readings folder folder' query old new same answered =
+    subst (λ f. Answers readings f query old new) same answered
 
 -- the queries that are still answered, and whether all could be read, if those before could
 abbrev pub AnswersMore : Readings → PathValue → Bool → Bool → Served → Served → Type 0
@@ -55,12 +61,17 @@ answered_last readings folder query before ok now old new same first e = answere
     now now old new new same first e (answered_none readings folder now new)
 
 -- without a query of the words, those of the input were answered
-pub served_lines : {E : Type 0} (readings : Readings) (folder : PathValue) (query : Option (List ℕ)) (old new : Served)
-    (first : IndexValue) (result : Result Bool E) → query ≡ None → Begins readings folder old.index first
-    → IfOk result (λ all. AnswersAll readings folder all (record { index = first; out = old.out }) new)
+pub served_lines : {E : Type 0} (readings : Readings) (folder folder' : PathValue) (query : Option (List ℕ))
+    (old new : Served) (first : IndexValue) (result : Result Bool E) → query ≡ None → folder' ≡ folder
+    → Begins readings folder old.index first
+    → IfOk result (λ all. AnswersAll readings folder' all (record { index = first; out = old.out }) new)
     → IfOk result (λ all. Serves readings folder query all old new)
-served_lines readings folder query old new first (Ok all) none begun answered = rw none (first, begun, answered)
-served_lines readings folder query old new first (Err e) none begun answered = tt
+served_lines readings folder folder' query old new first (Ok all) none same begun answered = rw none (
+  first,
+  begun,
+  subst (λ f. AnswersAll readings f all (record { index = first; out = old.out }) new) same answered,
+)
+served_lines readings folder folder' query old new first (Err e) none same begun answered = tt
 
 -- the query of the words was answered
 pub served_word : (readings : Readings) (folder : PathValue) (query : Option (List ℕ)) (word : List ℕ)

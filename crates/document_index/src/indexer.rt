@@ -79,11 +79,11 @@ impl<R: DebouncerRuntime + AllocGlobal, E: Write + Drop> Indexer<R, E> {
             self.old.kept.index self.new.kept.index) }
         ensures same { self.new.documents ≡ self.old.documents }
     {
-        if !is_asked {
-            return Ok(());
+        if is_asked {
+            let listed = self.documents.all()?;
+            return self.kept.read_anew(&self.documents, listed);
         }
-        let listed = self.documents.all()?;
-        self.kept.read_anew(&self.documents, listed)
+        Ok(())
     }
 
     /// Takes the reports that have come, and reads again what was missing.

@@ -54,9 +54,13 @@ abbrev pub IsCarriedOut : {C : Type 0} → (C → PathValue → Standing → Typ
 IsCarriedOut has_put action goes copy copied waiting =
     (waits waiting action.path ≡ true) ⊎ IsDone has_put action.path action.wanted goes copy copied
 
--- an event of the batch asks to look at all anew
+-- an event asks to look at all anew
+abbrev pub has_request : List Timed → Bool
+has_request batch = list_any (λ x. is_some x.event.attrs.flag) batch
+
+-- an event of the report does
 abbrev pub asks_anew : Outcome Global → Bool
-asks_anew (Ok batch) = list_any (λ x. is_some x.event.attrs.flag) batch.items
+asks_anew (Ok batch) = has_request batch.items
 asks_anew (Err errors) = false
 
 -- the events by which each path that was copied is looked at again

@@ -5,7 +5,7 @@ ghost use Rattle.notify_paths.specs.Path.{PathValue, path_cmp};
 ghost use Rattle.notify_types.specs.Event.{Timed};
 ghost use Rattle.debounce_model.specs.Play.{events_of};
 ghost use Rattle.batch_plan.specs.Plan.{is_named, look_at};
-ghost use Rattle.mirror_state.specs.After.{AllWait, IsAgainOf, IsCarriedOut, IsTakenWith, StayWaiting, WaitOrAreCopied, again_of, asks_anew, waits};
+ghost use Rattle.mirror_state.specs.After.{AllWait, IsAgainOf, IsCarriedOut, IsTakenWith, StayWaiting, WaitOrAreCopied, again_of, asks_anew, has_request, waits};
 ghost use Rattle.mirror_state.specs.Looked.{is_kept, lets_go_of};
 
 use crate::NAME;
@@ -50,9 +50,16 @@ fn asks_anew(report: &DebounceEventResult) -> bool
     ensures { result ≡ asks_anew report.now }
 {
     match report {
-        Ok(batch) => batch.iter().any(|event| event.need_rescan()),
+        Ok(batch) => has_request(batch.as_slice()),
         Err(_) => false,
     }
+}
+
+/// Whether one of the events asks for that.
+fn has_request(batch: &[DebouncedEvent]) -> bool
+    ensures { result ≡ has_request batch.now }
+{
+    batch.iter().any(|event| event.need_rescan())
 }
 
 /// What the words allow.
@@ -184,9 +191,8 @@ impl<C: FolderAndCopy, O: Write + Drop, E: Write + Drop> Mirror<C, O, E> {
     fn copied_again(&self) -> Result<Vec<DebouncedEvent>, Fault>
         ensures { IfOk result (λ batch. IsAgainOf self.now.kept.copied batch.items) }
     {
-        let paths = self.kept.copied.all()?;
         let mut batch = Vec::new(self.alloc);
-        for path in &paths {
+        for path in &self.kept.copied.all()? {
             name_again(&mut batch, path, !self.is_gone_from(path))?;
         }
         Ok(batch)

@@ -24,14 +24,14 @@ neither false b h = (refl, h)
 unnamed_key : (index : IndexValue) (listed : List Timed) (p : PathValue) → is_named (anew index listed) p ≡ false →
     look_at index p ≡ None
 unnamed_key [] listed p h = refl
-unnamed_key (e ∷ index) listed p h = by (is_at (path_cmp p) e.0) refl
+unnamed_key (e ∷ index) listed p h =
+    let neither_of = neither (path_eq p e.0) (is_named (anew index listed) p) h in
+    by (is_at (path_cmp p) e.0) refl neither_of.0 (unnamed_key index listed p neither_of.1)
   where
-    not_here : path_eq p e.0 ≡ false
-    not_here = (neither (path_eq p e.0) (is_named (anew index listed) p) h).0
-
-    by : (b : Bool) → is_at (path_cmp p) e.0 ≡ b → cond b (Some e.1) (look_at index p) ≡ None
-    by true a = absurd (true≢false (sym ((path_eq_decides p e.0).1 (tied p e.0 a)) ∙ not_here))
-    by false a = unnamed_key index listed p (neither (path_eq p e.0) (is_named (anew index listed) p) h).1
+    by : (b : Bool) → is_at (path_cmp p) e.0 ≡ b → path_eq p e.0 ≡ false → look_at index p ≡ None →
+        cond b (Some e.1) (look_at index p) ≡ None
+    by true at other more = absurd (true≢false (sym ((path_eq_decides p e.0).1 (tied p e.0 at)) ∙ other))
+    by false at other more = more
 
 -- nothing, either way
 nothing : {V : Type 0} (b : Bool) (o : Option V) → o ≡ None → (if b then None else o) ≡ None

@@ -1,5 +1,6 @@
-use Rattle.std.proofs.Common.{[], refl, ◌∙◌}
+use Rattle.std.proofs.Common.{[], ◌∷◌, ◌∙◌, refl, subst}
 use Rattle.std.proofs.lemmas.Result.{on_ok_weaker}
+use Rattle.word_index.specs.Kept.{TakesEach}
 use Rattle.document_index.specs.Read.{IsReadAmong}
 use Rattle.document_index.proofs.ServedLemmas.{taken_first}
 use Rattle.document_index.proofs.indexer.Indexer.catch_up.Goals as goal
@@ -10,7 +11,9 @@ loop-preserved-in_ok-take_report-in-Some-next_within g c = record {
   iterates = (tt, tt);
   done = λ after more. c.loop.invariant.done after (taken_first IsReadAmong c.args.self.now.documents.folder
       c.in-Some-next_within.report c.loop.self.kept.index c.take_report.new.self.kept.index after
-      (rw c.loop.invariant.same at c.in_ok-take_report-in-Some-next_within.ensures.taken) more);
+      (subst (λ d. TakesEach IsReadAmong d.folder (c.in-Some-next_within.report ∷ []) c.loop.self.kept.index
+      c.take_report.new.self.kept.index) c.loop.invariant.same c.in_ok-take_report-in-Some-next_within.ensures.taken)
+      more);
   same = c.take_report.ensures.same ∙ c.loop.invariant.same;
 }
 

@@ -4,4 +4,4 @@ use Rattle.mirror_state.proofs.mirror.Mirror.copied_again.Given as goal
 
 -- the events so far, of all paths but those that are left
 abbrev pub invariant-loop-path : goal.invariant-loop-path
-invariant-loop-path g l = AreAgain l.self.kept.copied l.batch.items (drop l.path-index l.paths.items)
+invariant-loop-path g l = AreAgain l.self.kept.copied l.batch.items (drop l.path-index l.path-items)

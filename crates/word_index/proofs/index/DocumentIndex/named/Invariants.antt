@@ -5,4 +5,4 @@ use Rattle.word_index.proofs.index.DocumentIndex.named.Given as goal
 
 -- the events so far, and those of the paths that are left, are those of all
 abbrev pub invariant-loop-path : goal.invariant-loop-path
-invariant-loop-path g l = l.batch.items ++ map naming l.path-iterator ≡ map naming (keys_of l.self.documents.entries)
+invariant-loop-path g l = l.batch.items ++ map naming l.path-iterator ≡ map naming (keys_of l.self)
