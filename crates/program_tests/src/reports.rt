@@ -197,6 +197,7 @@ fn a_configuration_is_read_anew_if_that_is_asked_for_and_after_a_loss(rt: HostRu
 }
 
 /// Documents: a path and its text a line.
+#[derive(Drop)]
 struct Texts {
     alloc: Global,
     lines: &'static str,
