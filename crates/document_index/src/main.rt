@@ -65,7 +65,7 @@ fn answer<R: DebouncerRuntime + AllocGlobal + Input, O: Write + Drop, E: Write +
     }
 }
 
-/// Watches the folder, and answers of it until the queries end.
+/// Watches the folder, and answers of it until the queries end. It is a fault if events were lost.
 fn serve<R: DebouncerRuntime + AllocGlobal + Input, O: Write + Drop, E: Write + Drop>(
     rt: R,
     matches: &ArgMatches<'_>,
@@ -83,7 +83,7 @@ fn serve<R: DebouncerRuntime + AllocGlobal + Input, O: Write + Drop, E: Write + 
     let (mode, pace) = (RecursiveMode::Recursive, pace_of(matches));
     let mut reports = FolderReports::start(rt, folder, mode, pace, complaints)?;
     let all = answer(rt, matches, service, &mut reports)?;
-    service.indexer.say_missed(reports.finish()?.missed);
+    service.indexer.end(reports.finish()?.missed)?;
     if all { Ok(()) } else { Err(Fault::Incomplete) }
 }
 

@@ -52,9 +52,11 @@ impl<R: DebouncerRuntime + AllocGlobal + Input, O: Write + Drop, E: Write + Drop
         reports: &mut FolderReports<'_, R, E>,
         word: &str,
     ) -> Result<(), Fault>
-        ensures answered { OnOk result (Answers IsReadAmong (Some word.now)
+        ensures answered { OnOk result (Answers IsReadAmong
+            self.old.indexer.documents.folder (Some word.now)
             (record { index = self.old.indexer.kept.index; out = O.contents self.old.out })
             (record { index = self.new.indexer.kept.index; out = O.contents self.new.out })) }
+        ensures same { self.new.indexer.documents ≡ self.old.indexer.documents }
     {
         self.indexer.catch_up(rt, reports)?;
         self.answer(word)?;
@@ -69,9 +71,10 @@ impl<R: DebouncerRuntime + AllocGlobal + Input, O: Write + Drop, E: Write + Drop
         line: &io::Result<String>,
     ) -> Result<(), Fault>
         ensures answered { OnOk result ((query : Query) × (is_some query ≡ is_ok line.now)
-            × Answers IsReadAmong query
+            × Answers IsReadAmong self.old.indexer.documents.folder query
             (record { index = self.old.indexer.kept.index; out = O.contents self.old.out })
             (record { index = self.new.indexer.kept.index; out = O.contents self.new.out })) }
+        ensures same { self.new.indexer.documents ≡ self.old.indexer.documents }
     {
         match line {
             Ok(line) => self.answer_line(rt, reports, line.as_str().trim()),
@@ -81,9 +84,11 @@ impl<R: DebouncerRuntime + AllocGlobal + Input, O: Write + Drop, E: Write + Drop
 
     /// Says that a line can't be read. Its answer is empty.
     fn refuse_line(&mut self, error: &io::Error) -> Result<(), Fault>
-        ensures answered { OnOk result (Answers IsReadAmong None
+        ensures answered { OnOk result (Answers IsReadAmong
+            self.old.indexer.documents.folder None
             (record { index = self.old.indexer.kept.index; out = O.contents self.old.out })
             (record { index = self.new.indexer.kept.index; out = O.contents self.new.out })) }
+        ensures same { self.new.indexer.documents ≡ self.old.indexer.documents }
     {
         let _ = writeln!(self.indexer.err, "{NAME}: cannot read a line: {error}");
         write_now(b"\n", &mut self.out)
@@ -96,7 +101,8 @@ impl<R: DebouncerRuntime + AllocGlobal + Input, O: Write + Drop, E: Write + Drop
         rt: R,
         reports: &mut FolderReports<'_, R, E>,
     ) -> Result<bool, Fault>
-        ensures answered { IfOk result (λ all. AnswersAll IsReadAmong all
+        ensures answered { IfOk result (λ all. AnswersAll IsReadAmong
+            self.old.indexer.documents.folder all
             (record { index = self.old.indexer.kept.index; out = O.contents self.old.out })
             (record { index = self.new.indexer.kept.index; out = O.contents self.new.out })) }
     {

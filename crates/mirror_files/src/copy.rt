@@ -1,5 +1,7 @@
 //! The copy of a folder, and what is done to it.
-ghost use Rattle.std.specs.Prelude.{IfOk};
+ghost use Rattle.std.specs.Prelude.{◌≡◌, IfOk};
+ghost use Rattle.folder_listing.specs.Listing.{ListingValue};
+ghost use Rattle.batch_plan.specs.Naming.{namings};
 ghost use Rattle.mirror_files.specs.Writes.{IsChangedFor};
 
 use crate::disk::Disk;
@@ -98,6 +100,9 @@ impl<D: Disk> FolderCopy<D> {
 impl<D: Disk> FolderAndCopy for FolderCopy<D> {
     ghost sees = { λ _ _ _. Unit {0} };
 
+    ghost names = { λ copy batch. (listing : ListingValue)
+        × (batch ≡ namings copy.places.from listing) };
+
     ghost has_put = { λ _ _ _. Unit {0} };
 
     fn folder(&self) -> &PathBuf {
@@ -144,6 +149,10 @@ impl<D: Disk> FolderAndCopy for FolderCopy<D> {
             self.disk.check_names(folder.as_str())?;
         }
         Ok(())
+    }
+
+    fn all(&self) -> Result<Vec<DebouncedEvent>, Fault> {
+        self.disk.all(&self.places.from)
     }
 
     fn beside(&self) -> Result<Vec<DebouncedEvent>, Fault> {

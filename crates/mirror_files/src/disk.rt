@@ -1,5 +1,7 @@
 //! A disk, as a folder and its copy use it.
-ghost use Rattle.std.specs.Prelude.{OnOk};
+ghost use Rattle.std.specs.Prelude.{◌≡◌, IfOk, OnOk};
+ghost use Rattle.folder_listing.specs.Listing.{ListingValue};
+ghost use Rattle.batch_plan.specs.Naming.{namings};
 
 use batch_plan::target::Target;
 use notify_paths::path::PathBuf;
@@ -41,6 +43,11 @@ pub trait Disk: Drop {
 
     /// Returns the bytes of the file.
     fn read(&self, path: &str) -> io::Result<Vec<u8>>;
+
+    /// Returns a batch that names all that stands in the folder, itself too.
+    fn all(&self, from: &PathBuf) -> Result<Vec<DebouncedEvent>, Fault>
+        ensures { IfOk result (λ batch. (listing : ListingValue)
+            × (batch.items ≡ namings from.now listing)) };
 
     /// Returns a batch of removals of what the copy has beside what stands in the folder.
     fn beside(&self, from: &PathBuf, to: &PathBuf) -> Result<Vec<DebouncedEvent>, Fault>;

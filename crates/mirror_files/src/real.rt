@@ -4,7 +4,7 @@ ghost use Rattle.std.specs.Fs.{asks_create_new};
 
 use crate::apart::check_apart;
 use crate::disk::Disk;
-use batch_plan::naming::name_beside;
+use batch_plan::naming::{name_beside, name_listed};
 use batch_plan::target::Target;
 use folder_listing::listing::Listing;
 use notify_paths::path::PathBuf;
@@ -63,6 +63,12 @@ impl<R: Files + Clock + AllocGlobal + Copy + Drop> Disk for RealDisk<R> {
 
     fn read(&self, path: &str) -> io::Result<Vec<u8>> {
         fs::read(&self.rt, path)
+    }
+
+    fn all(&self, from: &PathBuf) -> Result<Vec<DebouncedEvent>, Fault> {
+        let mut batch = Vec::new(self.rt.alloc());
+        name_listed(&mut batch, &listing_of(self.rt, from)?, from)?;
+        Ok(batch)
     }
 
     fn beside(&self, from: &PathBuf, to: &PathBuf) -> Result<Vec<DebouncedEvent>, Fault> {

@@ -1,4 +1,5 @@
 pub mod AfterLemmas
+pub mod AnewLemmas
 pub mod KeptLemmas
 pub mod LookLemmas
 pub mod NamedLemmas

@@ -1,7 +1,11 @@
 -- What a batch makes of a mirror.
-use Rattle.std.specs.Prelude.{◌≡◌, ◌⊎◌, Bool, true, List, [], ◌∷◌, ◌++◌, map, Option, None, Some}
+use Rattle.std.specs.Prelude.{◌≡◌, ◌⊎◌, Bool, true, false, List, [], ◌∷◌, ◌++◌, map, Option, None, Some, Ok, Err, is_some}
+use Rattle.std.specs.List.{list_any}
+use Rattle.std.specs.Map.{keys_of}
+use Rattle.std.specs.declared.alloc.Global.{Global}
 use Rattle.notify_paths.specs.Path.{PathValue}
 use Rattle.notify_types.specs.Event.{EventValue, Timed}
+use Rattle.notify_watch.specs.Handler.{Outcome}
 use Rattle.debounce_model.specs.Play.{has_path}
 use Rattle.batch_plan.specs.Action.{ActionValue}
 use Rattle.batch_plan.specs.Naming.{naming_again}
@@ -49,3 +53,23 @@ abbrev pub IsCarriedOut : {C : Type 0} → (C → PathValue → Standing → Typ
     WaitingValue → Type 0
 IsCarriedOut has_put action goes copy copied waiting =
     (waits waiting action.path ≡ true) ⊎ IsDone has_put action.path action.wanted goes copy copied
+
+-- an event asks to look at all anew
+abbrev pub has_request : List Timed → Bool
+has_request batch = list_any (λ x. is_some x.event.attrs.flag) batch
+
+-- an event of the report does
+abbrev pub asks_anew : Outcome Global → Bool
+asks_anew (Ok batch) = has_request batch.items
+asks_anew (Err errors) = false
+
+-- the events by which each path that was copied is looked at again
+abbrev pub IsAgainOf : CopiedValue → List Timed → Type 0
+IsAgainOf copied events = (again : WaitingValue) × (keys_of again ≡ keys_of copied) × (events ≡ again_of again)
+
+-- what a batch is taken with: nothing more, or, if it asks to look at all anew, events by which each path that was
+-- copied is looked at again, and then those that name what stands in the folder
+abbrev pub IsTakenWith : (List Timed → Type 0) → Bool → CopiedValue → List Timed → Type 0
+IsTakenWith names false copied added = added ≡ []
+IsTakenWith names true copied added = (again : List Timed) × (listed : List Timed)
+    × IsAgainOf copied again × names listed × (added ≡ again ++ listed)

@@ -1,7 +1,7 @@
 //! What a copy has of its folder.
 ghost use Rattle.std.specs.Prelude.{◌≡◌, [], None, IfOk, OnOk, true};
 ghost use Rattle.std.specs.BTreeMap.{insert_entry, is_at};
-ghost use Rattle.std.specs.Map.{remove_entry};
+ghost use Rattle.std.specs.Map.{keys_of, remove_entry};
 ghost use Rattle.std.specs.List.{list_all};
 ghost use Rattle.notify_paths.specs.Path.{is_prefix, path_cmp};
 ghost use Rattle.batch_plan.specs.Plan.{look_at};
@@ -63,7 +63,9 @@ impl Copied {
     }
 
     /// Returns all paths, a folder before what is in it.
-    pub fn all(&self) -> Result<Vec<PathBuf>, AllocError> {
+    pub fn all(&self) -> Result<Vec<PathBuf>, AllocError>
+        ensures { IfOk result (λ paths. paths.items ≡ keys_of self.now) }
+    {
         let mut found = Vec::new(self.alloc);
         for path in self.paths.keys() {
             found.push(path.clone()?)?;

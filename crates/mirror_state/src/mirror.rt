@@ -1,10 +1,11 @@
 //! The mirror: batches carried out on the copy.
-ghost use Rattle.std.specs.Prelude.{◌≡◌, ◌==◌, ◌⊎◌, length, is_some, None, Some, true, false, slice_get, IfSome, MatchResult, OnOk, if◌then◌else◌, ◌&&◌, not};
+ghost use Rattle.std.specs.Prelude.{◌≡◌, ◌==◌, ◌⊎◌, List, length, is_some, None, Some, true, false, slice_get, IfSome, MatchResult, OnOk, IfOk, if◌then◌else◌, ◌&&◌, ◌++◌, not};
 ghost use Rattle.std.specs.BTreeMap.{insert_entry};
 ghost use Rattle.notify_paths.specs.Path.{PathValue, path_cmp};
+ghost use Rattle.notify_types.specs.Event.{Timed};
 ghost use Rattle.debounce_model.specs.Play.{events_of};
 ghost use Rattle.batch_plan.specs.Plan.{is_named, look_at};
-ghost use Rattle.mirror_state.specs.After.{AllWait, IsCarriedOut, StayWaiting, WaitOrAreCopied, again_of, waits};
+ghost use Rattle.mirror_state.specs.After.{AllWait, IsAgainOf, IsCarriedOut, IsTakenWith, StayWaiting, WaitOrAreCopied, again_of, asks_anew, has_request, waits};
 ghost use Rattle.mirror_state.specs.Looked.{is_kept, lets_go_of};
 
 use crate::NAME;
@@ -15,7 +16,7 @@ use crate::seen::{FolderAndCopy, Seen};
 use crate::waiting::Waiting;
 use crate::words::Words;
 use batch_plan::action::{Action, Standing};
-use batch_plan::naming::name_removed;
+use batch_plan::naming::{name_again, name_removed};
 use batch_plan::planning::plan;
 use batch_plan::wanting::wanted;
 use notify_paths::path::PathBuf;
@@ -42,6 +43,23 @@ fn is_like(one: Option<Standing>, other: Option<Standing>) -> bool
             | (Some(Standing::Folder), Some(Standing::Folder))
             | (Some(Standing::File), Some(Standing::File))
     )
+}
+
+/// Whether an event of the batch asks to look at all anew, since the watcher lost some.
+fn asks_anew(report: &DebounceEventResult) -> bool
+    ensures { result ≡ asks_anew report.now }
+{
+    match report {
+        Ok(batch) => has_request(batch.as_slice()),
+        Err(_) => false,
+    }
+}
+
+/// Whether one of the events asks for that.
+fn has_request(batch: &[DebouncedEvent]) -> bool
+    ensures { result ≡ has_request batch.now }
+{
+    batch.iter().any(|event| event.need_rescan())
 }
 
 /// What the words allow.
@@ -128,6 +146,20 @@ impl<C: FolderAndCopy, O: Write + Drop, E: Write + Drop> Mirror<C, O, E> {
         Ok(())
     }
 
+    /// Carries out what the batch asks for, and then these events.
+    fn take_both(
+        &mut self,
+        batch: Vec<DebouncedEvent>,
+        added: Vec<DebouncedEvent>,
+    ) -> Result<(), Fault>
+        ensures { OnOk result (WaitOrAreCopied (C.sees self.old.kept.copy)
+            (events_of (batch.items ++ added.items)) self.new.waiting self.new.kept.copied) }
+    {
+        let (mut batch, mut added) = (batch, added);
+        batch.append(&mut added)?;
+        self.take_batch(batch)
+    }
+
     /// Carries out what the batch asks for, and what waits at its paths.
     fn take_batch(&mut self, batch: Vec<DebouncedEvent>) -> Result<(), Fault>
         ensures { OnOk result (WaitOrAreCopied (C.sees self.old.kept.copy)
@@ -137,6 +169,40 @@ impl<C: FolderAndCopy, O: Write + Drop, E: Write + Drop> Mirror<C, O, E> {
         let mut events = self.waiting.take_named(batch.as_slice())?;
         events.append(&mut batch)?;
         self.carry_out_all(events.as_slice())
+    }
+
+    /// Returns what a batch is taken with that asks to look at all anew, and else nothing.
+    fn anew(&self, is_asked: bool) -> Result<Vec<DebouncedEvent>, Fault>
+        ensures { IfOk result (λ added. IsTakenWith (C.names self.now.kept.copy) is_asked
+            self.now.kept.copied added.items) }
+    {
+        if !is_asked {
+            return Ok(Vec::new(self.alloc));
+        }
+        let mut added = self.copied_again()?;
+        // Listed after the looks: what has come since is named again.
+        let mut listed = self.kept.copy.all()?;
+        added.append(&mut listed)?;
+        Ok(added)
+    }
+
+    /// Returns events by which what was copied is looked at again, a removal of what is gone from a folder that is
+    /// there.
+    fn copied_again(&self) -> Result<Vec<DebouncedEvent>, Fault>
+        ensures { IfOk result (λ batch. IsAgainOf self.now.kept.copied batch.items) }
+    {
+        let mut batch = Vec::new(self.alloc);
+        for path in &self.kept.copied.all()? {
+            name_again(&mut batch, path, !self.is_gone_from(path))?;
+        }
+        Ok(batch)
+    }
+
+    /// Whether nothing stands at the path of a folder that is there.
+    fn is_gone_from(&self, path: &PathBuf) -> bool {
+        // Asked after the look: a folder that is there now was there when it found nothing.
+        matches!(self.kept.copy.look_at(path), Seen::Nothing)
+            && matches!(self.kept.copy.has_folder(), Ok(true))
     }
 
     /// Carries out what the batch asks for, one action after the other.
@@ -541,7 +607,9 @@ impl<C: FolderAndCopy, O: Write + Drop, E: Write + Drop> Mirror<C, O, E> {
 
 impl<C: FolderAndCopy, O: Write + Drop, E: Write + Drop> TakesReports for Mirror<C, O, E> {
     ghost takes = { λ before report answer after. OnOk answer (MatchResult report
-        (λ batch. (copy : C) × WaitOrAreCopied (C.sees copy) (events_of batch.items)
+        (λ batch. (copy : C) × (added : List Timed)
+        × IsTakenWith (C.names before.kept.copy) (asks_anew report) before.kept.copied added
+        × WaitOrAreCopied (C.sees copy) (events_of (batch.items ++ added))
         after.waiting after.kept.copied)
         (λ _. Unit {0})) };
 
@@ -561,10 +629,11 @@ impl<C: FolderAndCopy, O: Write + Drop, E: Write + Drop> TakesReports for Mirror
     /// Takes a batch, or prints a line for each error. After an error the watcher looks again, so no change
     /// is lost by one.
     fn take(&mut self, report: DebounceEventResult) -> Result<(), Fault> {
+        let added = self.anew(asks_anew(&report))?;
         // What is beside goes before the batch is taken, so that the copy is as the batch says in the end.
         self.remove_beside()?;
         match report {
-            Ok(batch) => self.take_batch(batch),
+            Ok(batch) => self.take_both(batch, added),
             Err(errors) => {
                 write_errors(errors.as_slice(), NAME, &mut self.words.said.err);
                 Ok(())

@@ -1,5 +1,5 @@
 //! A folder and its copy, and what they are asked.
-ghost use Rattle.std.specs.Prelude.{◌≡◌, OnOk};
+ghost use Rattle.std.specs.Prelude.{◌≡◌, IfOk, OnOk};
 ghost use Rattle.mirror_state.specs.Seen.{standing_of};
 
 use batch_plan::action::Standing;
@@ -58,14 +58,19 @@ pub(crate) fn is_memory(error: &io::Error) -> bool {
 /// A folder and its copy, which are asked by paths of the folder. A call that changes the copy says whether
 /// there was anything to do.
 ///
-/// Its ghost members say what a look may answer, and what was put into the copy last.
+/// Its ghost members say what a look may answer, what may stand in the folder, and what was put into the copy last.
 pub trait FolderAndCopy: Drop {
+    ghost use Rattle.std.specs.Prelude.{List};
     ghost use Rattle.notify_paths.specs.Path.{PathValue};
+    ghost use Rattle.notify_types.specs.Event.{Timed};
     ghost use Rattle.batch_plan.specs.declared.action.Standing.{Standing};
     ghost use Rattle.mirror_state.specs.declared.seen.Seen.{Seen};
 
     /// What a look at the path may answer.
     ghost sees: { Self → PathValue → Seen → Type 0 };
+
+    /// These events may name what stands in the folder.
+    ghost names: { Self → List Timed → Type 0 };
 
     /// The last call put this there, and went well.
     ghost has_put: { Self → PathValue → Standing → Type 0 };
@@ -92,6 +97,10 @@ pub trait FolderAndCopy: Drop {
     /// It is an error if the folder's names can't be read. What doesn't lie in the folder that is copied is
     /// left alone.
     fn check_names(&self, folder: &PathBuf) -> io::Result<()>;
+
+    /// Returns a batch that names all that stands in the folder.
+    fn all(&self) -> Result<Vec<DebouncedEvent>, Fault>
+        ensures { IfOk result (λ batch. names self.now batch.items) };
 
     /// Returns a batch of removals of what the copy has beside what stands in the folder.
     fn beside(&self) -> Result<Vec<DebouncedEvent>, Fault>;

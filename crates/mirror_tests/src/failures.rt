@@ -15,10 +15,10 @@ use std::time::Clock;
 const CALLS: u64 = 200;
 
 /// The mirror of a test, over files that a script rules.
-type TestMirror<R> = Mirror<FolderCopy<RealDisk<FakeFiles<R>>>, Vec<u8>, Vec<u8>>;
+pub(crate) type TestMirror<R> = Mirror<FolderCopy<RealDisk<FakeFiles<R>>>, Vec<u8>, Vec<u8>>;
 
 /// A mirror of the room.
-fn mirror_of<R: Files + Clock + Env + Abort + AllocGlobal + Copy + Drop>(
+pub(crate) fn mirror_of<R: Files + Clock + Env + Abort + AllocGlobal + Copy + Drop>(
     rt: R,
     room: &Room<R>,
     files: FakeFiles<R>,
@@ -35,7 +35,7 @@ fn mirror_of<R: Files + Clock + Env + Abort + AllocGlobal + Copy + Drop>(
 }
 
 /// A batch that names all that stands in the room's folder.
-fn batch_of<R: Files + Clock + Env + Abort + AllocGlobal + Copy + Drop>(
+pub(crate) fn batch_of<R: Files + Clock + Env + Abort + AllocGlobal + Copy + Drop>(
     rt: R,
     room: &Room<R>,
 ) -> Vec<DebouncedEvent> {

@@ -5,4 +5,6 @@
 #[cfg(test)]
 mod failures;
 #[cfg(test)]
+mod reports;
+#[cfg(test)]
 mod room;

@@ -41,8 +41,12 @@ impl<R: Files + Abort + AllocGlobal + Env + Copy + Drop> Room<R> {
         PathBuf::parse(self.rt.alloc(), self.place(end).as_str()).expect(&self.rt, "a path")
     }
 
-    fn write(&self, end: &str, text: &str) {
+    pub(crate) fn write(&self, end: &str, text: &str) {
         fs::write(&self.rt, self.place(end).as_str(), text).expect(&self.rt, "a file");
+    }
+
+    pub(crate) fn remove(&self, end: &str) {
+        fs::remove_file(&self.rt, self.place(end).as_str()).expect(&self.rt, "a file");
     }
 
     /// Whether a file has this text.

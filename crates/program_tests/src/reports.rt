@@ -1,5 +1,6 @@
 //! Reports that the watcher that polls never makes by itself: a loss, and a request to read all anew. What each program
 //! makes of them, as its page says.
+use batch_plan::naming::name_path;
 use config_state::{Follower, Reloader};
 use journal_lines::{Form, Journal, Pattern, Patterns, Printer};
 use notify_paths::path::PathBuf;
@@ -7,12 +8,17 @@ use notify_types::event::{DebouncedEvent, Event, Flag};
 use notify_types::kind::EventKind;
 use notify_watch::handler::DebounceEventResult;
 use report_loop::{Given, GivesReports, Rest, TakesReports, hand_on, take_rest};
+use std::alloc::Global;
+use std::collections::BTreeMap;
 use std::process::Abort;
 use std::sync::Wait;
 use std::time::Duration;
 use std::vec;
 use trigger_lines::{Bursts, Trigger};
 use watch_program::{Fault, write_missed};
+use word_index::answer::write_answer;
+use word_index::kept::{KeptIndex, ReadsDocuments, asks_anew};
+use word_index::words::{Words, words_of};
 
 /// The program's name, in each test.
 const NAME: &str = "program";
@@ -188,4 +194,84 @@ fn a_configuration_is_read_anew_if_that_is_asked_for_and_after_a_loss(rt: HostRu
     assert_eq!(rt; readings(text(&rt, &follower.out)), 3);
     let said = "program: watching /w/none/f.toml\nprogram: 3 missed\n";
     assert_eq!(rt; text(&rt, &follower.err), said);
+}
+
+/// Documents: a path and its text a line.
+#[derive(Drop)]
+struct Texts {
+    alloc: Global,
+    lines: &'static str,
+}
+
+impl ReadsDocuments for Texts {
+    ghost reads = { λ documents paths read. Unit };
+
+    fn read(&self, paths: &BTreeMap<PathBuf, ()>) -> Result<BTreeMap<PathBuf, Words>, Fault> {
+        let mut read = BTreeMap::new(self.alloc);
+        for line in self.lines.lines() {
+            let (place, text) = line.split_once(' ').unwrap_or(("", ""));
+            let path = path_of(self.alloc, place)?;
+            if paths.contains_key(&path) {
+                read.insert(path, words_of(self.alloc, text)?)?;
+            }
+        }
+        Ok(read)
+    }
+
+    fn is_missing(&self, _path: &PathBuf) -> bool {
+        true
+    }
+}
+
+/// The path of this text.
+fn path_of(alloc: Global, text: &str) -> Result<PathBuf, Fault> {
+    match PathBuf::parse(alloc, text) {
+        Ok(path) => Ok(path),
+        Err(_) => Err(Fault::Memory),
+    }
+}
+
+/// A batch that names all of the documents.
+fn all(texts: &Texts) -> Result<Vec<DebouncedEvent>, Fault> {
+    let mut batch = Vec::new(texts.alloc);
+    for line in texts.lines.lines() {
+        let (place, _) = line.split_once(' ').unwrap_or(("", ""));
+        name_path(&mut batch, &path_of(texts.alloc, place)?)?;
+    }
+    Ok(batch)
+}
+
+/// Asserts that the index answers this.
+fn answers<R: Abort + AllocGlobal>(rt: &R, kept: &KeptIndex, word: &str, wanted: &str) {
+    let mut out = Vec::new(rt.alloc());
+    let written = write_answer(rt.alloc(), &kept.index, word, &mut out);
+    assert!(rt; written.is_ok());
+    assert_eq!(rt; text(rt, &out), wanted);
+}
+
+#[test]
+fn an_index_is_that_of_what_stands_there_after_a_request_to_read_anew(rt: HostRuntime) {
+    let alloc = rt.alloc();
+    let before = Texts {
+        alloc,
+        lines: "/w/a one\n/w/b two",
+    };
+    let mut kept = KeptIndex::new(alloc);
+    let named = all(&before).expect(&rt, "memory");
+    assert!(rt; kept.take_batch(&before, named.as_slice()).is_ok());
+    answers(&rt, &kept, "one", "/w/a\n");
+    // Nobody reports what stands there now.
+    let after = Texts {
+        alloc,
+        lines: "/w/b three\n/w/c one",
+    };
+    let listed = all(&after).expect(&rt, "memory");
+    assert!(rt; !asks_anew(listed.as_slice()));
+    let mut request = Vec::new(alloc);
+    request.push(event(&rt, "rescan")).expect(&rt, "memory");
+    assert!(rt; asks_anew(request.as_slice()));
+    assert!(rt; kept.read_anew(&after, listed).is_ok());
+    answers(&rt, &kept, "one", "/w/c\n");
+    answers(&rt, &kept, "two", "");
+    answers(&rt, &kept, "three", "/w/b\n");
 }

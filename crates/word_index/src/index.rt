@@ -4,10 +4,12 @@ ghost use Rattle.std.specs.Map.{keys_of};
 ghost use Rattle.std.specs.List.Sorted.{IsStrictlySortedBy};
 ghost use Rattle.notify_paths.specs.Path.{is_prefix, path_cmp};
 ghost use Rattle.debounce_model.specs.Play.{events_of};
+ghost use Rattle.batch_plan.specs.Naming.{naming};
 ghost use Rattle.batch_plan.specs.Plan.{look_at, stands};
 ghost use Rattle.word_index.specs.Index.{IsIndexAfter, StaysExact, documents_with, put_if, put_wanted, without_gone, without_document};
 
 use crate::words::Words;
+use batch_plan::naming::name_path;
 use batch_plan::planning::gone_at;
 use batch_plan::wanting::wanted;
 use notify_paths::path::PathBuf;
@@ -72,6 +74,17 @@ impl<A: Allocator + Copy> DocumentIndex<A> {
             }
         }
         Ok(paths)
+    }
+
+    /// Returns a batch that names each path of the index, in their order.
+    pub fn named(&self) -> Result<Vec<DebouncedEvent<A>, A>, AllocError>
+        ensures { IfOk result (λ batch. batch.items ≡ map naming (keys_of self.now)) }
+    {
+        let mut batch = Vec::new(self.alloc);
+        for path in self.documents.keys() {
+            name_path(&mut batch, path)?;
+        }
+        Ok(batch)
     }
 
     /// Takes a batch, and what was read at the paths that it wants (`wanted` of batch_plan): the words of

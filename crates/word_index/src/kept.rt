@@ -2,7 +2,7 @@
 ghost use Rattle.std.specs.Prelude.{◌≡◌, [], IfOk, OnOk};
 ghost use Rattle.std.specs.Map.{keys_of};
 ghost use Rattle.debounce_model.specs.Play.{events_of};
-ghost use Rattle.word_index.specs.Kept.{ReadsAgain, Takes};
+ghost use Rattle.word_index.specs.Kept.{ReadsAgain, Takes, TakesAnew, anew, asks_anew};
 
 use crate::index::DocumentIndex;
 use crate::missing::{Missing, Reading};
@@ -13,6 +13,13 @@ use notify_types::event::DebouncedEvent;
 use std::alloc::Global;
 use std::collections::BTreeMap;
 use watch_program::Fault;
+
+/// Whether an event of the batch asks to read all anew, since the watcher lost some.
+pub fn asks_anew(batch: &[DebouncedEvent]) -> bool
+    ensures { result ≡ asks_anew batch.now }
+{
+    batch.iter().any(|event| event.need_rescan())
+}
 
 /// Documents, which are read anew at each call.
 pub trait ReadsDocuments {
@@ -71,6 +78,22 @@ impl KeptIndex {
         };
         self.missing.note(&self.index, batch, &reading)?;
         Ok(self.index.take_batch(read, batch)?)
+    }
+
+    /// Reads all anew: what stands at each path that the index has, and then at those that are listed. So it becomes
+    /// the index of what stands there, whatever was never reported.
+    pub fn read_anew<D: ReadsDocuments>(
+        &mut self,
+        documents: &D,
+        listed: Vec<DebouncedEvent>,
+    ) -> Result<(), Fault>
+        ensures anew { OnOk result (TakesAnew (D.reads documents.now)
+            (anew self.old.index listed.items) self.old.index self.new.index) }
+    {
+        let mut listed = listed;
+        let mut batch = self.index.named()?;
+        batch.append(&mut listed)?;
+        self.take_batch(documents, batch.as_slice())
     }
 
     /// Reads again what was missing.

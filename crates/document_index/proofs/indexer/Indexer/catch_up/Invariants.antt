@@ -1,3 +1,4 @@
+use Rattle.std.specs.Prelude.{◌≡◌}
 use Rattle.document_index.specs.Read.{IsReadAmong}
 use Rattle.word_index.specs.Index.{IndexValue}
 use Rattle.word_index.specs.Kept.{CatchesUp}
@@ -7,6 +8,7 @@ use Rattle.document_index.proofs.indexer.Indexer.catch_up.Given as goal
 abbrev pub invariant-loop : goal.invariant-loop
 invariant-loop g l = record {
   iterates : (goal.iterator-loop g).can_next l.iterator' × (goal.iterator-loop g).is_finite l.iterator';
-  done : (after : IndexValue) → CatchesUp IsReadAmong l.self.kept.index after →
-      CatchesUp IsReadAmong l.fn.self.kept.index after;
+  done : (after : IndexValue) → CatchesUp IsReadAmong l.fn.self.documents.folder l.self.kept.index after →
+      CatchesUp IsReadAmong l.fn.self.documents.folder l.fn.self.kept.index after;
+  same : l.self.documents ≡ l.fn.self.documents;
 }

@@ -7,4 +7,5 @@ pub returns-in-Ok : goal.returns-in-Ok
 returns-in-Ok g c = record {
   answered = on_ok_weaker c.answer_line.result
       (λ answered. (Some c.trim.result.now, rw c.in-Ok.is refl, answered)) c.answer_line.ensures.answered;
+  same = c.answer_line.ensures.same;
 }

@@ -1,0 +1,14 @@
+use Rattle.std.proofs.Common.{◌∙◌, ap}
+use Rattle.std.specs.Prelude.{◌++◌}
+use Rattle.std.proofs.lemmas.Result.{on_ok_weaker}
+use Rattle.word_index.proofs.Anew.{takes_anew}
+use Rattle.word_index.proofs.kept.KeptIndex.read_anew.Goals as goal
+
+pub returns : goal.returns
+returns g c = record {
+  anew = on_ok_weaker c.take_batch.result
+      (λ taken. takes_anew (g.D.ReadsDocuments.reads c.args.documents.now) c.args.self.now.index
+      c.take_batch.new.self.index c.args.listed.items
+      (rw (c.as_slice.ensures.value, c.in_ok-append.ensures.items, c.in_ok-batch.ensures) at taken))
+      c.take_batch.ensures.taken;
+}
