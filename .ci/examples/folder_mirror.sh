@@ -178,6 +178,17 @@ closed() {
         ! grep -q 'cannot look into' err
 }
 
+# shut MODE: a folder is closed before it is copied, and stays so. One line says it.
+shut() {
+    mkdir -p from/sub && echo one >from/a && chmod "$1" from/sub && mkfifo input || return 1
+    ./folder_mirror from to --timeout 50 --interval 10 --until-eof <input >out 2>err &
+    exec 5>input
+    waits test -d to/sub && waits test -e to/a && sleep 2 || return 1
+    exec 5>&-
+    wait $!
+    [ $? = 1 ] && [ "$(grep -F from/sub err)" = 'folder_mirror: cannot look at from/sub: permission denied' ]
+}
+
 # What can't be removed to make room leaves nothing that was begun.
 stuck() {
     mkdir -p from to/lib && echo 'no folder' >from/lib && echo own >to/lib/own && chmod 500 to/lib
@@ -189,7 +200,7 @@ mkdir room && cp folder_mirror room && cd room && "$@"
 STORIES
 mkdir -m 777 open && cp "$mirror" closed.sh open && chmod 755 open/folder_mirror && cd open || exit 1
 for story in 'closed from/sub 000 1' 'closed from 000 1' 'closed from 300 0' 'closed from/sub 300 1' \
-    'closed from/sub 000 0' stuck; do
+    'closed from/sub 000 0' 'shut 000' 'shut 300' stuck; do
     # shellcheck disable=SC2086
     report "folder_mirror: $story" "$(as_user bash closed.sh $story && echo yes)"
     chmod -R u+rwx room

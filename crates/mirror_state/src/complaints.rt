@@ -1,10 +1,12 @@
 //! What is said of paths at which something fails: once, and again after it has changed.
 use crate::NAME;
+use notify_paths::error::{Error, ErrorKind};
 use notify_paths::path::PathBuf;
 use std::alloc::{AllocError, Global};
 use std::collections::BTreeMap;
 use std::io::Write;
 use std::{io, mem};
+use watch_program::write_errors;
 
 /// What failed, in a word, and why.
 type Said = (&'static str, io::ErrorKind);
@@ -16,6 +18,8 @@ pub(crate) struct SaidOnce<E: Drop> {
     said: BTreeMap<PathBuf, Said>,
     /// What was said before what failed is tried again.
     before: BTreeMap<PathBuf, Said>,
+    /// At what the watcher couldn't look, and why.
+    watched: BTreeMap<PathBuf, io::ErrorKind>,
     pub(crate) err: E,
 }
 
@@ -26,6 +30,7 @@ impl<E: Write + Drop> SaidOnce<E> {
             alloc,
             said: BTreeMap::new(alloc),
             before: BTreeMap::new(alloc),
+            watched: BTreeMap::new(alloc),
             err,
         }
     }
@@ -44,6 +49,31 @@ impl<E: Write + Drop> SaidOnce<E> {
     pub(crate) fn forget(&mut self) {
         self.said = BTreeMap::new(self.alloc);
         self.before = BTreeMap::new(self.alloc);
+    }
+
+    /// Says the watcher's errors.
+    pub(crate) fn say_errors(&mut self, errors: &[Error]) -> Result<(), AllocError> {
+        write_errors(errors, NAME, &mut self.err);
+        for error in errors {
+            if let (ErrorKind::Io(kind), [path]) = (&error.kind, error.paths.as_slice()) {
+                self.watched.insert(path.clone()?, *kind)?;
+            }
+        }
+        Ok(())
+    }
+
+    /// Says that a look of the mirror's own fails at the path, unless the watcher has said so, which says it again if
+    /// the path was open meanwhile.
+    pub(crate) fn say_look(
+        &mut self,
+        word: &'static str,
+        path: &PathBuf,
+        error: &io::Error,
+    ) -> Result<(), AllocError> {
+        match self.watched.get(path) {
+            Some(kind) if *kind == error.kind() => Ok(()),
+            _ => self.say(word, path, error),
+        }
     }
 
     /// Says that something fails at the path, if that wasn't said yet.

@@ -28,7 +28,7 @@ use std::collections::BTreeMap;
 use std::io;
 use std::io::Write;
 use std::time::Duration;
-use watch_program::{Fault, write_errors, write_missed, write_watching};
+use watch_program::{Fault, write_missed, write_watching};
 
 /// After how many milliseconds what waits is tried again.
 const PAUSE: u64 = 1000;
@@ -600,7 +600,7 @@ impl<C: FolderAndCopy, O: Write + Drop, E: Write + Drop> Mirror<C, O, E> {
         ensures same { self.new.kept ≡ self.old.kept }
     {
         self.has_failed = true;
-        self.words.said.say(word, path, error)?;
+        self.words.said.say_look(word, path, error)?;
         Ok(())
     }
 }
@@ -634,10 +634,7 @@ impl<C: FolderAndCopy, O: Write + Drop, E: Write + Drop> TakesReports for Mirror
         self.remove_beside()?;
         match report {
             Ok(batch) => self.take_both(batch, added),
-            Err(errors) => {
-                write_errors(errors.as_slice(), NAME, &mut self.words.said.err);
-                Ok(())
-            }
+            Err(errors) => Ok(self.words.said.say_errors(errors.as_slice())?),
         }
     }
 
