@@ -34,7 +34,8 @@ BecomesExact read events new = (after : Documents) →
 -- stands on what was known before
 abbrev pub TakesAnew : Readings → List EventValue → IndexValue → IndexValue → Type 0
 TakesAnew readings events old new =
-    (read : IndexValue) × readings (wanted events) read × IsIndexAfter read events old new × BecomesExact read events new
+    (read : IndexValue) × readings (wanted events) read × IsIndexAfter read events old new
+    × BecomesExact read events new
 
 -- the events by which all is read anew: they name each path that the index has, and then what these events do
 abbrev pub anew : IndexValue → List Timed → List EventValue
