@@ -19,7 +19,8 @@ loop-line-preserved-else-is_last g c =
     let answered = answered_of IsReadAmong _ _ query.0 _ _ (ap (λ d. d.folder) c.loop-line.invariant.same) query.2 in
     record {
       done = λ all after more. c.loop-line.invariant.done all after (answered_first IsReadAmong _ query.0
-          c.loop-line.all (is_ok c.in-Some.line) c.still_all-all.result all _ _ after query.1 answered c.still_all-all.ensures more);
+          c.loop-line.all (is_ok c.in-Some.line) c.still_all-all.result all _ _ after query.1 answered
+          c.still_all-all.ensures more);
       same = c.take_line.ensures.same ∙ c.loop-line.invariant.same;
     }
 
@@ -29,7 +30,8 @@ loop-line-preserved g c =
     let answered = answered_of IsReadAmong _ _ query.0 _ _ (ap (λ d. d.folder) c.loop-line.invariant.same) query.2 in
     record {
       done = λ all after more. c.loop-line.invariant.done all after (answered_first IsReadAmong _ query.0
-          c.loop-line.all (is_ok c.in-Some.line) c.still_all-all.result all _ _ after query.1 answered c.still_all-all.ensures more);
+          c.loop-line.all (is_ok c.in-Some.line) c.still_all-all.result all _ _ after query.1 answered
+          c.still_all-all.ensures more);
       same = c.take_line.ensures.same ∙ c.loop-line.invariant.same;
     }
 
