@@ -9,8 +9,9 @@ returns-then-is_last g c =
     let query = c.in_ok-take_line.ensures.answered in
     let answered = answered_of IsReadAmong _ _ query.0 _ _ (ap (λ d. d.folder) c.loop-line.invariant.same) query.2 in
     record {
-      answered = c.loop-line.invariant.done c.still_all-all.result _ (answered_last IsReadAmong _ query.0 c.loop-line.all
-          (is_ok c.in-Some.line) c.still_all-all.result _ _ query.1 answered c.still_all-all.ensures);
+      answered = c.loop-line.invariant.done c.still_all-all.result _ (answered_last IsReadAmong _ query.0
+          c.loop-line.all (is_ok c.in-Some.line) c.still_all-all.result _ _ query.1 answered
+          c.still_all-all.ensures);
     }
 
 pub loop-line-preserved-else-is_last : goal.loop-line-preserved-else-is_last
