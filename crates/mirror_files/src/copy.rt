@@ -2,7 +2,7 @@
 ghost use Rattle.std.specs.Prelude.{◌≡◌, IfOk};
 ghost use Rattle.folder_listing.specs.Listing.{ListingValue};
 ghost use Rattle.batch_plan.specs.Naming.{namings};
-ghost use Rattle.mirror_files.specs.Writes.{IsChangedFor};
+ghost use Rattle.mirror_files.specs.Writes.{ChangesOnly, IsChangedFor, IsFor, IsForOrBeside};
 
 use crate::disk::Disk;
 use crate::places::Places;
@@ -51,8 +51,10 @@ impl<D: Disk> FolderCopy<D> {
         standing: Standing,
         was: Option<Standing>,
     ) -> io::Result<bool>
-        ensures { IfOk result (IsChangedFor (D.changed self.new.disk) self.old.places.from
+        ensures last { IfOk result (IsChangedFor (D.changed self.new.disk) self.old.places.from
             self.old.places.to path.now self.old.places.leave.dry_run) }
+        ensures only { ChangesOnly D.changes (IsForOrBeside self.old.places.leave.dry_run
+            self.old.places.from self.old.places.to path.now) self.old.disk self.new.disk }
     {
         let Some(target) = self.places.target_of(path)? else {
             return Ok(false);
@@ -63,8 +65,10 @@ impl<D: Disk> FolderCopy<D> {
 
     /// Removes from the copy what was put there for this path alone.
     fn take_from(&mut self, path: &PathBuf, standing: Standing) -> io::Result<bool>
-        ensures { IfOk result (IsChangedFor (D.changed self.new.disk) self.old.places.from
+        ensures last { IfOk result (IsChangedFor (D.changed self.new.disk) self.old.places.from
             self.old.places.to path.now self.old.places.leave.dry_run) }
+        ensures only { ChangesOnly D.changes (IsFor self.old.places.leave.dry_run
+            self.old.places.from self.old.places.to path.now) self.old.disk self.new.disk }
     {
         let Some(target) = self.places.target_of(path)? else {
             return Ok(false);
@@ -83,8 +87,10 @@ impl<D: Disk> FolderCopy<D> {
 
     /// Removes what stands in the copy for this path, whatever it is, with all below it.
     fn clear_at(&mut self, path: &PathBuf) -> io::Result<bool>
-        ensures { IfOk result (IsChangedFor (D.changed self.new.disk) self.old.places.from
+        ensures last { IfOk result (IsChangedFor (D.changed self.new.disk) self.old.places.from
             self.old.places.to path.now self.old.places.leave.dry_run) }
+        ensures only { ChangesOnly D.changes (IsFor self.old.places.leave.dry_run
+            self.old.places.from self.old.places.to path.now) self.old.disk self.new.disk }
     {
         let Some(target) = self.places.target_of(path)? else {
             return Ok(false);

@@ -1,7 +1,8 @@
 //! A disk, as a folder and its copy use it.
-ghost use Rattle.std.specs.Prelude.{◌≡◌, IfOk, OnOk};
+ghost use Rattle.std.specs.Prelude.{◌≡◌, [], ◌∷◌, IfOk, OnOk};
 ghost use Rattle.folder_listing.specs.Listing.{ListingValue};
 ghost use Rattle.batch_plan.specs.Naming.{namings};
+ghost use Rattle.mirror_files.specs.Writes.{Lead};
 
 use batch_plan::target::Target;
 use notify_paths::path::PathBuf;
@@ -13,12 +14,16 @@ use watch_program::Fault;
 
 /// A disk. What it is told to change has a `Target`, so it lies in a copy.
 ///
-/// Its ghost member says what was changed last.
+/// Its ghost members say what was changed last, and from what a call led to what.
 pub trait Disk: Drop {
     ghost use Rattle.notify_paths.specs.Path.{PathValue};
 
     /// The path was changed last, and that went well.
     ghost changed: { Self → PathValue → Type 0 };
+
+    /// A call that may change what stands at the path, and nothing else, leads from the one to the other, whether it
+    /// goes well or not.
+    ghost changes: { Self → PathValue → Self → Type 0 };
 
     /// A file that is open.
     type File: io::Read + io::Write + OpenFile + Drop;
@@ -55,25 +60,31 @@ pub trait Disk: Drop {
     /// Makes a file that nobody else may read, and opens it to be written. It is an error if anything has its
     /// name, as a link: that stays, and nothing is written through it.
     fn create_file(&mut self, target: &Target<'_>) -> io::Result<Self::File>
-        ensures { OnOk result (changed self.new target.now.path) };
+        ensures last { OnOk result (changed self.new target.now.path) }
+        ensures only { changes self.old target.now.path self.new };
 
     /// Makes a folder.
     fn create_folder(&mut self, target: &Target<'_>) -> io::Result<()>
-        ensures { OnOk result (changed self.new target.now.path) };
+        ensures last { OnOk result (changed self.new target.now.path) }
+        ensures only { changes self.old target.now.path self.new };
 
     /// Removes what stands there and is no folder: a link itself.
     fn remove_file(&mut self, target: &Target<'_>) -> io::Result<()>
-        ensures { OnOk result (changed self.new target.now.path) };
+        ensures last { OnOk result (changed self.new target.now.path) }
+        ensures only { changes self.old target.now.path self.new };
 
     /// Removes a folder that is empty.
     fn remove_folder(&mut self, target: &Target<'_>) -> io::Result<()>
-        ensures { OnOk result (changed self.new target.now.path) };
+        ensures last { OnOk result (changed self.new target.now.path) }
+        ensures only { changes self.old target.now.path self.new };
 
     /// Removes a folder with all below it. No link is followed.
     fn remove_all(&mut self, target: &Target<'_>) -> io::Result<()>
-        ensures { OnOk result (changed self.new target.now.path) };
+        ensures last { OnOk result (changed self.new target.now.path) }
+        ensures only { changes self.old target.now.path self.new };
 
     /// Gives a file of the copy another name in it, in place of the file that has that name.
     fn rename(&mut self, from: &Target<'_>, to: &Target<'_>) -> io::Result<()>
-        ensures { OnOk result (changed self.new to.now.path) };
+        ensures last { OnOk result (changed self.new to.now.path) }
+        ensures only { Lead changes self.old (from.now.path ∷ to.now.path ∷ []) self.new };
 }

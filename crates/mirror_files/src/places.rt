@@ -2,7 +2,7 @@
 ghost use Rattle.std.specs.Prelude.{◌≡◌, IfOk, OnOk};
 ghost use Rattle.std.specs.Option.{option_map};
 ghost use Rattle.batch_plan.specs.Target.{target_of};
-ghost use Rattle.mirror_files.specs.Writes.{IsChanged};
+ghost use Rattle.mirror_files.specs.Writes.{ChangesOnly, IsAt, IsAtOrBeside, IsChanged, IsEither, IsPartial, IsPlaceOrBeside};
 
 use crate::disk::Disk;
 use crate::writing::{Original, fill, has_name, partial_name, target_named};
@@ -102,8 +102,10 @@ impl Places {
         standing: Standing,
         was: Option<Standing>,
     ) -> io::Result<bool>
-        ensures { IfOk result (IsChanged (D.changed disk.new) target.now.path
+        ensures last { IfOk result (IsChanged (D.changed disk.new) target.now.path
             self.now.leave.dry_run) }
+        ensures only { ChangesOnly D.changes (IsAtOrBeside self.now.leave.dry_run
+            self.now.to target.now.path) disk.old disk.new }
     {
         // In a dry run what was of another kind stands still.
         if self.leave.dry_run && was.is_some_and(|was| was != standing) {
@@ -117,29 +119,32 @@ impl Places {
 
     /// Makes a folder there. What is no folder makes way only if it may be removed.
     pub(crate) fn make<D: Disk>(&self, disk: &mut D, target: &Target<'_>) -> io::Result<bool>
-        ensures { IfOk result (IsChanged (D.changed disk.new) target.now.path
+        ensures last { IfOk result (IsChanged (D.changed disk.new) target.now.path
             self.now.leave.dry_run) }
+        ensures only { ChangesOnly D.changes (IsAt self.now.leave.dry_run target.now.path)
+            disk.old disk.new }
     {
         match self.found_at(disk, target)? {
-            Some(found) if found.is_dir() => return Ok(false),
-            Some(_) if !self.leave.delete => {
-                return Err(io::Error::from(io::ErrorKind::AlreadyExists));
-            }
+            Some(found) if found.is_dir() => Ok(false),
+            Some(_) if !self.leave.delete => Err(io::Error::from(io::ErrorKind::AlreadyExists)),
             Some(_) => {
                 self.remove_file(disk, target)?;
+                self.create_folder(disk, target)
             }
-            None => {}
+            None => self.create_folder(disk, target),
         }
-        self.create_folder(disk, target)
     }
 
     fn create_folder<D: Disk>(&self, disk: &mut D, target: &Target<'_>) -> io::Result<bool>
-        ensures { IfOk result (IsChanged (D.changed disk.new) target.now.path
+        ensures last { IfOk result (IsChanged (D.changed disk.new) target.now.path
             self.now.leave.dry_run) }
+        ensures only { ChangesOnly D.changes (IsAt self.now.leave.dry_run target.now.path)
+            disk.old disk.new }
     {
-        if !self.leave.dry_run {
-            disk.create_folder(target)?;
+        if self.leave.dry_run {
+            return Ok(true);
         }
+        disk.create_folder(target)?;
         Ok(true)
     }
 
@@ -149,8 +154,10 @@ impl Places {
         disk: &mut D,
         target: &Target<'_>,
     ) -> io::Result<bool>
-        ensures { IfOk result (IsChanged (D.changed disk.new) target.now.path
+        ensures last { IfOk result (IsChanged (D.changed disk.new) target.now.path
             self.now.leave.dry_run) }
+        ensures only { ChangesOnly D.changes (IsAt self.now.leave.dry_run target.now.path)
+            disk.old disk.new }
     {
         if self.leave.dry_run {
             return Ok(true);
@@ -163,22 +170,28 @@ impl Places {
     }
 
     pub(crate) fn remove_file<D: Disk>(&self, disk: &mut D, target: &Target<'_>) -> io::Result<bool>
-        ensures { IfOk result (IsChanged (D.changed disk.new) target.now.path
+        ensures last { IfOk result (IsChanged (D.changed disk.new) target.now.path
             self.now.leave.dry_run) }
+        ensures only { ChangesOnly D.changes (IsAt self.now.leave.dry_run target.now.path)
+            disk.old disk.new }
     {
-        if !self.leave.dry_run {
-            disk.remove_file(target)?;
+        if self.leave.dry_run {
+            return Ok(true);
         }
+        disk.remove_file(target)?;
         Ok(true)
     }
 
     pub(crate) fn remove_all<D: Disk>(&self, disk: &mut D, target: &Target<'_>) -> io::Result<bool>
-        ensures { IfOk result (IsChanged (D.changed disk.new) target.now.path
+        ensures last { IfOk result (IsChanged (D.changed disk.new) target.now.path
             self.now.leave.dry_run) }
+        ensures only { ChangesOnly D.changes (IsAt self.now.leave.dry_run target.now.path)
+            disk.old disk.new }
     {
-        if !self.leave.dry_run {
-            disk.remove_all(target)?;
+        if self.leave.dry_run {
+            return Ok(true);
         }
+        disk.remove_all(target)?;
         Ok(true)
     }
 
@@ -191,8 +204,10 @@ impl Places {
         target: &Target<'_>,
         is_known: bool,
     ) -> io::Result<bool>
-        ensures { IfOk result (IsChanged (D.changed disk.new) target.now.path
+        ensures last { IfOk result (IsChanged (D.changed disk.new) target.now.path
             self.now.leave.dry_run) }
+        ensures only { ChangesOnly D.changes (IsAtOrBeside self.now.leave.dry_run
+            self.now.to target.now.path) disk.old disk.new }
     {
         let of_folder = match self.found_at(disk, target)? {
             Some(found) if found.is_dir() => {
@@ -209,9 +224,10 @@ impl Places {
             }
             None => false,
         };
-        if !self.leave.dry_run {
-            self.replace(disk, path, target, of_folder)?;
+        if self.leave.dry_run {
+            return Ok(true);
         }
+        self.replace(disk, path, target, of_folder)?;
         Ok(true)
     }
 
@@ -223,7 +239,9 @@ impl Places {
         target: &Target<'_>,
         of_folder: bool,
     ) -> io::Result<()>
-        ensures { OnOk result (D.changed disk.new target.now.path) }
+        ensures last { OnOk result (D.changed disk.new target.now.path) }
+        ensures only { ChangesOnly D.changes (IsPlaceOrBeside self.now.to target.now.path)
+            disk.old disk.new }
     {
         let original = Original::open(disk, path.as_str())?;
         let (partial, file) = self.open_new(disk)?;
@@ -234,7 +252,10 @@ impl Places {
     }
 
     /// Makes a file in the copy, to be written. It has a name that neither the copy nor the folder has.
-    fn open_new<D: Disk>(&self, disk: &mut D) -> io::Result<(Target<'_>, D::File)> {
+    fn open_new<D: Disk>(&self, disk: &mut D) -> io::Result<(Target<'_>, D::File)>
+        ensures beside { IfOk result (λ made. IsPartial self.now.to made.0.path) }
+        ensures only { ChangesOnly D.changes (IsPartial self.now.to) disk.old disk.new }
+    {
         for number in 0..u64::MAX {
             let name = partial_name(disk.allocator(), number)?;
             if has_name(disk, &self.from, name.as_str())? {
@@ -258,7 +279,9 @@ fn put_there<D: Disk>(
     target: &Target<'_>,
     of_folder: bool,
 ) -> io::Result<()>
-    ensures { OnOk result (D.changed disk.new target.now.path) }
+    ensures last { OnOk result (D.changed disk.new target.now.path) }
+    ensures only { ChangesOnly D.changes (IsEither partial.now.path target.now.path)
+        disk.old disk.new }
 {
     match rename_there(disk, partial, target, of_folder) {
         Ok(()) => Ok(()),
@@ -273,16 +296,21 @@ fn rename_there<D: Disk>(
     target: &Target<'_>,
     of_folder: bool,
 ) -> io::Result<()>
-    ensures { OnOk result (D.changed disk.new target.now.path) }
+    ensures last { OnOk result (D.changed disk.new target.now.path) }
+    ensures only { ChangesOnly D.changes (IsEither partial.now.path target.now.path)
+        disk.old disk.new }
 {
-    if of_folder {
-        disk.remove_all(target)?;
+    if !of_folder {
+        return disk.rename(partial, target);
     }
+    disk.remove_all(target)?;
     disk.rename(partial, target)
 }
 
 /// Removes what was begun, and returns why.
-fn give_up<D: Disk>(disk: &mut D, partial: &Target<'_>, error: io::Error) -> io::Error {
+fn give_up<D: Disk>(disk: &mut D, partial: &Target<'_>, error: io::Error) -> io::Error
+    ensures only { D.changes disk.old partial.now.path disk.new }
+{
     let _ = disk.remove_file(partial);
     error
 }

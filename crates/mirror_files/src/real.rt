@@ -34,6 +34,8 @@ impl<R: Drop> RealDisk<R> {
 impl<R: Files + Clock + AllocGlobal + Copy + Drop> Disk for RealDisk<R> {
     ghost changed = { λ _ _. Unit {0} };
 
+    ghost changes = { λ _ _ _. Unit {0} };
+
     type File = R::File;
 
     fn allocator(&self) -> Global {

@@ -1,6 +1,8 @@
 //! How a file of the copy is written.
 ghost use Rattle.std.specs.Prelude.{◌≡◌, Some, IfOk};
+ghost use Rattle.std.specs.String.{string_bytes};
 ghost use Rattle.notify_paths.specs.PathMoves.{child_of};
+ghost use Rattle.mirror_files.specs.Writes.{IsPartialName};
 
 use crate::disk::Disk;
 use batch_plan::target::Target;
@@ -41,7 +43,9 @@ impl<F: OpenFile + Drop> Original<F> {
 }
 
 /// The name of this number.
-pub(crate) fn partial_name(alloc: Global, number: u64) -> io::Result<String> {
+pub(crate) fn partial_name(alloc: Global, number: u64) -> io::Result<String>
+    ensures { IfOk result (λ name. IsPartialName (string_bytes name)) }
+{
     let mut name = String::from_str(alloc, PARTIAL)?;
     if number > 0 {
         name.push_str(format!(in alloc; ".{number}")?.as_str())?;
