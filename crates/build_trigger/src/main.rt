@@ -85,7 +85,7 @@ fn bursts_of<'n, 'p, O: Write + Drop, E: Write + Drop>(
     ensures places { IfOk result (λ b. map (λ place. place.now) b.places.items
         ≡ places_in matches.now) }
     ensures given { IfOk result (λ b. (b.folder.now ≡ folder.now)
-        × (filter_rule b.filter ≡ filter_rule filter) × (b.trigger ≡ []) × (b.out ≡ out)) }
+        × (filter_rule b.filter ≡ filter_rule filter.entry) × (b.trigger ≡ []) × (b.out ≡ out)) }
     ensures none { IfOk result (λ b. one_text (found_of matches.now) (codes "quiet") ≡ None
         → as_nanos b.quiet ≡ 500 * 10 ^ 6) }
     ensures number { IfOk result (λ b. (n : ℕ) → Gives matches.now (codes "quiet") n
