@@ -14,15 +14,14 @@ use std::time::Clock;
 /// How many calls are tried at most.
 const CALLS: u64 = 200;
 
-/// The mirror of a test, over files that a script rules.
-pub(crate) type TestMirror<R> = Mirror<FolderCopy<RealDisk<FakeFiles<R>>>, Vec<u8>, Vec<u8>>;
+/// The mirror of a test, over these files.
+pub(crate) type TestMirror<F> = Mirror<FolderCopy<RealDisk<F>>, Vec<u8>, Vec<u8>>;
 
-/// A mirror of the room.
-pub(crate) fn mirror_of<R: Files + Clock + Env + Abort + AllocGlobal + Copy + Drop>(
-    rt: R,
-    room: &Room<R>,
-    files: FakeFiles<R>,
-) -> TestMirror<R> {
+/// A mirror of the room over these files.
+pub(crate) fn mirror_of<
+    R: Files + Env + Abort + AllocGlobal + Copy + Drop,
+    F: Files + Clock + AllocGlobal + Copy + Drop,
+>(rt: R, room: &Room<R>, files: F) -> TestMirror<F> {
     let leave = Leave {
         delete: false,
         dry_run: false,
@@ -35,7 +34,7 @@ pub(crate) fn mirror_of<R: Files + Clock + Env + Abort + AllocGlobal + Copy + Dr
 }
 
 /// A batch that names all that stands in the room's folder.
-pub(crate) fn batch_of<R: Files + Clock + Env + Abort + AllocGlobal + Copy + Drop>(
+pub(crate) fn batch_of<R: Files + Env + Abort + AllocGlobal + Copy + Drop>(
     rt: R,
     room: &Room<R>,
 ) -> Vec<DebouncedEvent> {
@@ -49,31 +48,30 @@ pub(crate) fn batch_of<R: Files + Clock + Env + Abort + AllocGlobal + Copy + Dro
 #[test]
 fn a_call_that_fails_harms_nothing_and_is_made_again(rt: HostRuntime) {
     let id = process::id(rt.process());
-    let mut tried = 0;
+    let mut tried = 0u64;
     for number in 0..CALLS {
-        if !fails_and_recovers(rt, id, number) {
+        let files = FakeFiles::new(rt, "").expect(&rt, "memory");
+        if !fails_and_recovers(rt, id, number, &files, files) {
             break;
         }
-        tried += 1;
+        tried = tried.saturating_add(1);
     }
     // A look, an open file, reads, writes and a rename are among them.
     assert!(rt; tried > 20 && tried < CALLS);
 }
 
-/// Has one call fail while a batch is taken. Says whether so many were made.
-fn fails_and_recovers<R: Files + Clock + Env + Abort + AllocGlobal + Copy + Drop>(
-    rt: R,
-    id: u32,
-    number: u64,
-) -> bool {
+/// Has one call on the files, which the script rules, fail while a batch is taken. Says whether so many were made.
+fn fails_and_recovers<
+    R: Files + Env + Abort + AllocGlobal + Copy + Drop,
+    F: Files + Clock + AllocGlobal + Copy + Drop,
+>(rt: R, id: u32, number: u64, script: &FakeFiles<R>, files: F) -> bool {
     let room = Room::new(rt, "mirror_failures", id);
-    let files = FakeFiles::new(rt, "").expect(&rt, "memory");
     let mut mirror = mirror_of(rt, &room, files);
-    let before = files.calls();
-    files.fail_call(number);
+    let before = script.calls();
+    script.fail_call(number);
     assert!(&rt; mirror.take(Ok(batch_of(rt, &room))).is_ok());
-    let is_reached = files.calls() > before.saturating_add(number);
-    files.fail_call(u64::MAX);
+    let is_reached = script.calls() > before.saturating_add(number);
+    script.fail_call(u64::MAX);
     room.check_kept();
     room.check_whole();
     assert!(&rt; room.is_copied() || mirror.patience().is_some());
@@ -88,19 +86,21 @@ fn fails_and_recovers<R: Files + Clock + Env + Abort + AllocGlobal + Copy + Drop
 #[test]
 fn a_copy_that_can_not_be_written_stays(rt: HostRuntime) {
     let id = process::id(rt.process());
-    check_refused(rt, id, "change: ReadOnlyFilesystem");
-    check_refused(rt, id, "write: StorageFull");
-    check_refused(rt, id, "rename: CrossesDevices");
+    for script in [
+        "change: ReadOnlyFilesystem",
+        "write: StorageFull",
+        "rename: CrossesDevices",
+    ] {
+        check_refused(rt, id, FakeFiles::new(rt, script).expect(&rt, "memory"));
+    }
 }
 
-/// Has each such call fail: the copy's file stays, and the end says that not all could be done.
-fn check_refused<R: Files + Clock + Env + Abort + AllocGlobal + Copy + Drop>(
-    rt: R,
-    id: u32,
-    script: &'static str,
-) {
+/// Each such call on the files fails: the copy's file stays, and the end says that not all could be done.
+fn check_refused<
+    R: Files + Env + Abort + AllocGlobal + Copy + Drop,
+    F: Files + Clock + AllocGlobal + Copy + Drop,
+>(rt: R, id: u32, files: F) {
     let room = Room::new(rt, "mirror_refused", id);
-    let files = FakeFiles::new(rt, script).expect(&rt, "memory");
     let mut mirror = mirror_of(rt, &room, files);
     assert!(&rt; mirror.take(Ok(batch_of(rt, &room))).is_ok());
     assert!(&rt; mirror.patience().is_some());

@@ -6,7 +6,10 @@ use notify_types::event::{DebouncedEvent, Event, Flag};
 use notify_types::kind::EventKind;
 use report_loop::TakesReports;
 use std::alloc::{AllocError, Global};
-use std::process;
+use std::env::Env;
+use std::fs::Files;
+use std::process::{self, Abort};
+use std::time::Clock;
 
 /// A batch that asks to look at all anew, and names no path.
 fn request(alloc: Global) -> Result<Vec<DebouncedEvent>, AllocError> {
@@ -19,23 +22,30 @@ fn request(alloc: Global) -> Result<Vec<DebouncedEvent>, AllocError> {
 #[test]
 fn a_copy_is_right_after_a_request_to_look_at_all_anew(rt: HostRuntime) {
     let room = Room::new(rt, "mirror_anew", process::id(rt.process()));
-    let files = FakeFiles::new(rt, "").expect(&rt, "memory");
-    let mut mirror = mirror_of(rt, &room, files);
-    assert!(rt; mirror.take(Ok(batch_of(rt, &room))).is_ok());
-    assert!(rt; room.is_copied());
+    check_anew(rt, &room, FakeFiles::new(rt, "").expect(&rt, "memory"));
+}
+
+/// Changes the room without a report, and then has one ask for all.
+fn check_anew<
+    R: Files + Env + Abort + AllocGlobal + Copy + Drop,
+    F: Files + Clock + AllocGlobal + Copy + Drop,
+>(rt: R, room: &Room<R>, files: F) {
+    let mut mirror = mirror_of(rt, room, files);
+    assert!(&rt; mirror.take(Ok(batch_of(rt, room))).is_ok());
+    assert!(&rt; room.is_copied());
     // Nobody reports these changes.
     room.write("/from/a", "another one");
     room.write("/from/lib/c", "three");
     room.remove("/from/lib/b");
-    assert!(rt; room.is_copied());
+    assert!(&rt; room.is_copied());
     let batch = request(rt.alloc()).expect(&rt, "memory");
-    assert!(rt; mirror.take(Ok(batch)).is_ok());
-    assert!(rt; room.has("/to/a", "another one"));
-    assert!(rt; room.has("/to/lib/c", "three"));
-    assert!(rt; room.lacks("/to/lib/b"));
-    assert!(rt; room.has("/to/own", "own"));
-    assert!(rt; mirror.patience().is_none());
+    assert!(&rt; mirror.take(Ok(batch)).is_ok());
+    assert!(&rt; room.has("/to/a", "another one"));
+    assert!(&rt; room.has("/to/lib/c", "three"));
+    assert!(&rt; room.lacks("/to/lib/b"));
+    assert!(&rt; room.has("/to/own", "own"));
+    assert!(&rt; mirror.patience().is_none());
     // The copy isn't said to be whole if events were lost.
-    assert!(rt; mirror.end(0).is_ok());
-    assert!(rt; mirror.end(3).is_err());
+    assert!(&rt; mirror.end(0).is_ok());
+    assert!(&rt; mirror.end(3).is_err());
 }

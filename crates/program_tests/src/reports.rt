@@ -2,7 +2,7 @@
 //! makes of them, as its page says.
 use batch_plan::naming::name_path;
 use config_state::{Follower, Reloader};
-use journal_lines::{Form, Journal, Pattern, Patterns, Printer};
+use journal_lines::{Form, Journal, PathFilter, Pattern, Patterns, Printer};
 use notify_paths::path::PathBuf;
 use notify_types::event::{DebouncedEvent, Event, Flag};
 use notify_types::kind::EventKind;
@@ -138,26 +138,47 @@ fn a_journal_prints_a_request_to_read_anew_and_says_a_loss(rt: HostRuntime) {
     );
 }
 
-#[test]
-fn a_trigger_has_a_line_for_a_request_to_read_anew_and_says_a_loss(rt: HostRuntime) {
-    let (patterns, folder) = (patterns(&rt), folder(&rt));
+/// The bursts of a trigger over a folder.
+fn bursts_of<'p, R: Abort + AllocGlobal>(
+    rt: &R,
+    folder: &'p PathBuf,
+    filter: PathFilter<'p>,
+) -> Bursts<'static, 'p, Vec<u8>, Vec<u8>> {
     let mut places = Vec::new(rt.alloc());
-    places.push("/w").expect(&rt, "memory");
-    let mut bursts = Bursts {
+    places.push("/w").expect(rt, "memory");
+    Bursts {
         alloc: rt.alloc(),
         name: NAME,
         places,
-        folder: &folder,
+        folder,
         quiet: Duration::from_millis(500),
-        filter: patterns.filter(rt.alloc()).expect(&rt, "memory"),
+        filter,
         trigger: Trigger::new(rt.alloc()),
         out: Vec::new(rt.alloc()),
         err: Vec::new(rt.alloc()),
-    };
-    let lines = "Create(File) /w/a\nCreate(File) /w/a.o\npause\nrescan\npause";
-    let missed = follow(&rt, lines, "Remove(File) /w/a", &mut bursts).expect(&rt, "no fault");
+    }
+}
+
+/// Has the bursts follow what the lines give, as `follow`, and writes what waits then.
+fn write_bursts<R: Abort + AllocGlobal + Wait>(
+    rt: &R,
+    lines: &str,
+    last: &str,
+    bursts: &mut Bursts<'_, '_, Vec<u8>, Vec<u8>>,
+) -> Result<(), Fault> {
+    let missed = follow(rt, lines, last, bursts)?;
     write_missed(missed, NAME, &mut bursts.err);
-    bursts.write().expect(&rt, "no fault");
+    bursts.write()
+}
+
+#[test]
+fn a_trigger_has_a_line_for_a_request_to_read_anew_and_says_a_loss(rt: HostRuntime) {
+    let (patterns, folder) = (patterns(&rt), folder(&rt));
+    let filter = patterns.filter(rt.alloc()).expect(&rt, "memory");
+    let mut bursts = bursts_of(&rt, &folder, filter);
+    let lines = "Create(File) /w/a\nCreate(File) /w/a.o\npause\nrescan\npause";
+    let written = write_bursts(&rt, lines, "Remove(File) /w/a", &mut bursts);
+    assert!(rt; written.is_ok());
     assert_eq!(rt; text(&rt, &bursts.out), "1\t./a\n1\n1\t./a\n");
     assert_eq!(rt;
         text(&rt, &bursts.err),
