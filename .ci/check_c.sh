@@ -134,7 +134,7 @@ if has gcc; then
     check 'random calls, right and wrong' sh -c "gcc -std=gnu11 -O1 $warnings $sanitizers -I'$top/c' \
         '$top/c/test/random.c' libdebounce_c.a -o random && ./random 1 100000 && ./random 2 100000"
     cat said
-    { printf '#include "%s"\n' ndf.h ndf_words.h stdio.h string.h
+    { printf '#include "%s"\n' ndf.h ndf_words.h stdio.h string.h sys/stat.h
       echo 'int main(void) { uint64_t now = 0; const char *path = "/w/a";'
       sed -n '/^```c$/,/^```$/p' "$top/docs/C.md" | sed '/^```/d'
       echo '}'; } >page.c
@@ -168,6 +168,7 @@ if has python3 && [ -e libndf.so ]; then
         cat said
     fi
     check 'the class of Python' python3 "$top/python/test_ndf.py"
+    check 'file numbers as the Rust crate has them' python3 "$top/python/test_numbers.py"
     check 'the records lie in Python as in the library' sh -c "python3 '$top/python/layout.py' >layout.python"
     check 'the records of Python are those of the library' same_layout layout.python
 fi

@@ -19,6 +19,7 @@ sed 's,.*/,,' "$room/files" | sort -u >"$room/names"
 grep -v '^docs/\|^README' "$room/files" | tr '\n' '\0' | xargs -0 cat "$room/files" | grep -oaE '\w+' | sort -u >"$room/words"
 { grep -HoE '^( *(pub )?(abbrev|unfoldable|record|type|data)|pub) (pub )?[A-Za-z_0-9-]+' crates/*/specs/*.antt
   grep -rHoE --include='*.rt' '^ *(pub )?fn [a-z_0-9]+' crates/*/src; } | sed 's/:.* / /' >"$room/defined"
+cut -d ' ' -f 2 "$room/defined" | sort -u >"$room/definitions"
 grep '\.rt$\|\.antt$\|/data/.*\.md$' "$room/files" | tr '\n' '\0' | xargs -0 cat | squeezed >"$room/code"
 
 links() {
@@ -103,16 +104,40 @@ blocks() {
     done
 }
 
-# Each crate has its line in ARCHITECTURE.md, each wrong body its row there and in WRONG_BODIES.md, and
-# each label of a public call's clause is in the dictionary.
+# Each crate has its line in ARCHITECTURE.md, each label of a public call's clause is in the dictionary, and PROOFS.md
+# has the definitions that these clauses cite, as scripts/definitions prints them.
 rows() {
     sed -n 's/^\([a-z_0-9]\{1,\}\)[^#]*:.*/\1/p' crates.txt | while read -r crate; do
-        grep -q "^| \`$crate\` |" docs/ARCHITECTURE.md || echo "docs/ARCHITECTURE.md: no line for $crate"
+        grep -q "^- \`$crate\`: " docs/ARCHITECTURE.md || echo "docs/ARCHITECTURE.md: no line for $crate"
+    done
+    scripts/definitions >"$room/cited"
+    [ "$(wc -l <"$room/cited")" -ge 10 ] || echo 'scripts/definitions: fewer than 10 crates'
+    grep -vxFf docs/PROOFS.md "$room/cited" | sed 's/^/docs\/PROOFS.md lacks the line of scripts\/definitions: /'
+    scripts/calling | sed -n 's/^  \(needs \)\{0,1\}\([a-z_]*\): .*/`\2`/p' | sort -u | grep -vxF '`needs`' | grep -vxFf <(scripts/labels | grep -o '`[a-z_]*`') |
+        sed 's/^/scripts\/labels: nothing of /'
+}
+
+# Each wrong body says in its first line what it goes against: a definition or a label that is there, and in brackets
+# functions of its crate; and scripts/wrong_bodies prints it.
+bodies() {
+    scripts/wrong_bodies >"$room/bodies"
+    for kind in once tests; do
+        scripts/wrong_bodies --$kind >"$room/tried"
+        [ "$(wc -l <"$room/tried")" -ge 9 ] || echo "scripts/wrong_bodies --$kind: fewer than 9 lines"
+        names "$room/tried"
     done
     for edit in crates/*/must-fail/*.edit; do
-        grep -LF "\`$(basename "$edit" .edit)\`" docs/ARCHITECTURE.md docs/WRONG_BODIES.md | sed "s,\$,: no row for $edit,"
+        crate=${edit#crates/} && crate=${crate%%/*}
+        told=$(sed -n '1s/^# //p' "$edit")
+        [[ $told == *'`'*'`'*'(`'*'`)' || $told == *'`'*'`'*'`)' ]] || echo "$edit: its first line doesn't say what it goes against"
+        grep -qxF "$crate/$(basename "$edit" .edit): $told" "$room/bodies" || echo "scripts/wrong_bodies: nothing of $edit"
+        function=$(grep -oE '[A-Za-z_0-9:]+`\)$' <<<"$told" | tr -d '`)')
+        grep -rqE --include='*.rt' "\bfn ${function##*::}\b" crates/"$crate"/src || echo "$edit: $crate has no function ${function##*::}"
+        grep -oE '`[A-Za-z_0-9]+`' <<<"${told%(*}" | tr -d '`' | while read -r word; do
+            grep -qE "(^|[/ ])${word}\$" "$room/definitions" || grep -rqE --include='*.rt' "\b(ensures|requires|struct|trait|fn|ghost) $word\b" crates ||
+                echo "$edit: no definition, clause or function $word"
+        done
     done
-    scripts/calling | sed -n 's/^  \(needs \)\{0,1\}\([a-z_]*\): .*/`\2`/p' | sort -u | grep -vxF '`needs`' | grep -vxFf <(grep -o '`[a-z_]*`' docs/CONTRIBUTING.md)
 }
 
 # Lengths; the kit's line; the README's script is the one that the gate runs, and prints what stands there.
@@ -126,8 +151,11 @@ facts() {
     done
 }
 
-# Each function on the way of an event and of a tick is in the file that stands beside it.
+# Each function on the way of an event and of a tick is in the file that stands beside it, and none is left out: what
+# a function of the map calls, and what leads on, is in the map too (scripts/ways).
 ways() {
+    scripts/ways 2>"$room/counted"
+    [ "$(grep -c 'functions' "$room/counted")" = 2 ] || sed 's/^/scripts\/ways: /' "$room/counted"
     sed -n '/^## The way of an event/,/^## Where/s,^ *\([A-Za-z_:, ]*\)  *\(crates/[a-z_/]*\.rt\).*,\2 \1,p' docs/ARCHITECTURE.md | tr -d , >"$room/ways"
     [ "$(wc -l <"$room/ways")" -ge 30 ] || echo 'docs/ARCHITECTURE.md: the ways have fewer than 30 lines'
     while read -r file functions; do
@@ -142,7 +170,7 @@ ways() {
 printed() {
     scripts/calling >"$room/calls"
     tr -s ' \n' ' ' <crates/notify_debouncer_full/src/lib.rt | tr ';' '\n' | sed -n 's/.*pub use \([a-z_]*\)::.*/\1/p' |
-        sort -u | grep -vxE 'recommended|reports|runtime|crossbeam_channel' | while read -r crate; do
+        sort -u | grep -vxE 'recommended|queue_handler|reports|runtime|crossbeam_channel' | while read -r crate; do
         grep -qxF "== $crate" "$room/calls" || echo "scripts/calling: nothing of $crate"
     done
     scripts/calling Debouncer | grep -A3 -F 'Debouncer::finish(' | grep -q '^  ended: ' || echo 'scripts/calling: finish without its clauses'
@@ -162,7 +190,8 @@ for page in README.md docs/*.md docs/examples/*.md; do
     for kind in links names pointers sections blocks; do check "$page: $kind" $kind "$page"; done
 done
 check 'what the scripts of contracts and lemmas print' printed
-check 'crates, wrong bodies and labels' rows
+check 'crates, labels and definitions' rows
+check 'wrong bodies' bodies
 check 'the ways of an event and a tick' ways
 check 'widths of code and proofs' widths
 check 'lengths, and the script of the README' facts

@@ -150,6 +150,13 @@ typedef struct ndf_told_error {
     size_t first;
 } ndf_told_error;
 
+/* The number of a file: of two paths with one device and one inode each is a name of one file. */
+typedef struct ndf_file_number {
+    bool known;      /* whether the path has a number; else both are 0 */
+    uint64_t device; /* st_dev */
+    uint64_t inode;  /* st_ino */
+} ndf_file_number;
+
 typedef struct ndf_totals {
     uint64_t taken;   /* how many events were taken, */
     uint64_t given;   /* were emitted, */
@@ -158,6 +165,7 @@ typedef struct ndf_totals {
     uint64_t latest;  /* the greatest moment so far */
     uint64_t timeout;
     size_t errors;    /* how many errors are kept */
+    size_t numbers;   /* how many paths have a file number */
 } ndf_totals;
 
 /* Below, a text is a pointer that is never NULL and a length: pass "" and 0 for none. It is read during the call
@@ -177,17 +185,33 @@ uint32_t ndf_new_with_counts(ndf_handle *h, uint64_t timeout, uint64_t taken, ui
 void ndf_free(ndf_handle *h);
 
 /* Watches a path from now on, with what is below it if `recursive`. This is for ndf_mode alone: an event is taken
- * whether or not its path is watched.
+ * whether or not its path is watched. No file number is looked up: see ndf_number.
  * NDF_NOT_TEXT, exactly if the path isn't UTF-8; else NDF_NO_MEMORY. */
 uint32_t ndf_watch(ndf_handle *h, const char *path, size_t len, bool recursive);
 
-/* Watches a path no longer, nor any path below it.
+/* Watches a path no longer, nor any path below it; the file numbers there are forgotten.
  * NDF_NOT_TEXT, exactly if the path isn't UTF-8; else NDF_NO_MEMORY. */
 uint32_t ndf_unwatch(ndf_handle *h, const char *path, size_t len);
 
 /* Tells the mode of the first watched path at or above this one; without one it isn't recursive.
  * NDF_NOT_TEXT, exactly if the path isn't UTF-8; else NDF_NO_MEMORY. */
 uint32_t ndf_mode(ndf_handle *h, const char *path, size_t len, bool *recursive);
+
+/* The file at this path has this number from now on. Two halves of a rename that have no common tracker are joined if
+ * their files have one number, so say the number of what is there at the start, and before an event by which a path
+ * may come into being, or be written for the first time, that of its file, as fstat or stat tells it. It is forgotten
+ * once a removal or the first half of a rename is taken at the path or above it, once a second half is joined to a
+ * first half at the path or above it, by ndf_unwatch, and by ndf_forget.
+ * NDF_NOT_TEXT, exactly if the path isn't UTF-8; else NDF_NO_MEMORY. */
+uint32_t ndf_number(ndf_handle *h, const char *path, size_t len, uint64_t device, uint64_t inode);
+
+/* The path has no file number any longer, nor has what lies below it.
+ * NDF_NOT_TEXT, exactly if the path isn't UTF-8; else NDF_NO_MEMORY. */
+uint32_t ndf_forget(ndf_handle *h, const char *path, size_t len);
+
+/* Tells the file number of a path.
+ * NDF_NOT_TEXT, exactly if the path isn't UTF-8; else NDF_NO_MEMORY. */
+uint32_t ndf_number_of(ndf_handle *h, const char *path, size_t len, ndf_file_number *number);
 
 /* Takes an event. It waits at its first path until it is as old as the timeout, and is dropped, joined or merged
  * as docs/RULES.md says. After NDF_NO_MEMORY the event is lost: feed it again, or a rescan later.

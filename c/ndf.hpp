@@ -67,6 +67,21 @@ public:
         return recursive;
     }
 
+    // The file at the path has this number from now on, by which two halves of a rename find each other.
+    void set_number(std::string_view path, std::uint64_t device, std::uint64_t inode) {
+        done(ndf_number(&handle, at(path), path.size(), device, inode));
+    }
+
+    // The path has no number any longer, nor has what lies below it.
+    void forget(std::string_view path) { done(ndf_forget(&handle, at(path), path.size())); }
+
+    // The number of the file at the path: `known` says whether there is one.
+    ndf_file_number number_of(std::string_view path) {
+        ndf_file_number number{};
+        done(ndf_number_of(&handle, at(path), path.size(), &number));
+        return number;
+    }
+
     // Takes an event of as many paths as the change says.
     void feed(const ndf_change &change, std::string_view first = {}, std::string_view second = {}) {
         done(ndf_event(&handle, &change, at(first), first.size(), at(second), second.size()));

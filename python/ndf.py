@@ -81,9 +81,13 @@ class ToldError(ctypes.Structure):
     ]
 
 
+class Number(ctypes.Structure):
+    _fields_ = [("known", ctypes.c_bool), ("device", ctypes.c_uint64), ("inode", ctypes.c_uint64)]
+
+
 class Counts(ctypes.Structure):
     _fields_ = [(name, ctypes.c_uint64) for name in "taken given waiting visited latest timeout".split()]
-    _fields_ += [("errors", ctypes.c_size_t)]
+    _fields_ += [("errors", ctypes.c_size_t), ("numbers", ctypes.c_size_t)]
 
 
 def _load():
@@ -97,6 +101,9 @@ def _load():
         "ndf_watch": [*text, flag],
         "ndf_unwatch": text,
         "ndf_mode": [*text, ctypes.POINTER(flag)],
+        "ndf_number": [*text, ctypes.c_uint64, ctypes.c_uint64],
+        "ndf_forget": text,
+        "ndf_number_of": [*text, ctypes.POINTER(Number)],
         "ndf_event": [ctypes.POINTER(Change), *text, *text],
         "ndf_event_with": [ctypes.POINTER(Change), ctypes.POINTER(Attributes), *text * 4],
         "ndf_error": [ctypes.c_uint32, flag, *text, *text],
@@ -197,6 +204,22 @@ class Debouncer:
         path, recursive = _bytes(path), ctypes.c_bool()
         self._done(_lib.ndf_mode(self._handle, path, len(path), recursive))
         return recursive.value
+
+    def set_number(self, path, device, inode):
+        """The file at the path has this number from now on, by which two halves of a rename find each other."""
+        path = _bytes(path)
+        self._done(_lib.ndf_number(self._handle, path, len(path), device, inode))
+
+    def forget(self, path):
+        """The path has no number any longer, nor has what lies below it."""
+        path = _bytes(path)
+        self._done(_lib.ndf_forget(self._handle, path, len(path)))
+
+    def number_of(self, path):
+        """The device and the inode of the file at the path, or None."""
+        path, number = _bytes(path), Number()
+        self._done(_lib.ndf_number_of(self._handle, path, len(path), number))
+        return (number.device, number.inode) if number.known else None
 
     def feed(
         self, kind, *paths, moment, exists=False, tracker=None, rescan=False, info=None, source=None, process=None

@@ -35,6 +35,12 @@ with ndf.Debouncer(50) as debouncer:
     assert debouncer.errors() == [ndf.Error(0, "text", "/w"), ndf.Error(3, "", None)]
     assert debouncer.errors() == []
 
+    debouncer.set_number("/w/c", 1, 7)
+    debouncer.set_number("/w/c/1", 1, 8)
+    assert debouncer.number_of("/w/c") == (1, 7) and debouncer.counts().numbers == 2
+    debouncer.forget("/w")
+    assert debouncer.number_of("/w/c") is None and debouncer.counts().numbers == 0
+
     assert raises("not_text", debouncer.watch, b"/\xff")
     assert raises("no_kind", debouncer.feed, 41, moment=0)
     assert raises("too_many_paths", debouncer.feed, 0, "a", "b", "c", moment=0)

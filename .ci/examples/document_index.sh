@@ -81,16 +81,22 @@ for n in 1 2 3 4; do
     answers ghost || well=no
 done
 report 'document_index: a removal only removes' $well
-well=yes
-for n in 1 2 3 4; do
-    echo new >notes/q && hint notes/q 0.$n
+# comes_back PAUSE: what is away after the pause, and there again a little later, is found. If the round after the hint
+# comes while it is away, which a slow machine can bring about, then it isn't, for a minute: so that is tried again.
+comes_back() {
+    local found
+    echo new >notes/q && hint notes/q "$1"
     mv notes/q away
     sleep 0.3
     ask new >ghosts
     mv away notes/q
     sleep 2
-    [ "$(ask new)" = notes/q ] || well=no
-    rm notes/q && hint notes/q 1 && answers new || well=no
+    found=$(ask new)
+    rm notes/q && hint notes/q 1 && answers new && [ "$found" = notes/q ]
+}
+well=yes
+for n in 1 2 3 4; do
+    comes_back 0.$n || comes_back 0.$n || comes_back 0.$n || well=no
 done
 report 'document_index: what comes back is read' $well
 exec 3>&- 4<&- 5>&-

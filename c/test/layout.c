@@ -43,6 +43,10 @@ int main(void) {
     FIELD("ToldError", ndf_told_error, paths);
     FIELD("ToldError", ndf_told_error, text);
     FIELD("ToldError", ndf_told_error, first);
+    SIZE("Number", ndf_file_number);
+    FIELD("Number", ndf_file_number, known);
+    FIELD("Number", ndf_file_number, device);
+    FIELD("Number", ndf_file_number, inode);
     SIZE("Counts", ndf_totals);
     FIELD("Counts", ndf_totals, taken);
     FIELD("Counts", ndf_totals, given);
@@ -51,5 +55,6 @@ int main(void) {
     FIELD("Counts", ndf_totals, latest);
     FIELD("Counts", ndf_totals, timeout);
     FIELD("Counts", ndf_totals, errors);
+    FIELD("Counts", ndf_totals, numbers);
     return 0;
 }

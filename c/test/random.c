@@ -1,5 +1,6 @@
 /* random SEED CALLS: random calls, right and wrong, in any order, on three handles. Of each the code is foretold from
- * what was said before; so are the counts, and what a batch may hold. One request for memory in twenty is refused. */
+ * what was said before; so are the counts, the file number of each path, and what a batch may hold. One request for
+ * memory in twenty is refused. */
 #include "ndf.h"
 #include "refusing_heap.h"
 
@@ -8,13 +9,35 @@
 #include <string.h>
 
 #define HANDLES 3
+#define NUMBERS 64
+
+/* The parts of a path, each behind its length: the root is the part "/". */
+struct parts {
+    char bytes[128];
+    size_t len;
+};
+
+/* A path and the number of its file. */
+struct numbered {
+    struct parts path;
+    uint64_t inode;
+};
+
+/* The first half of a rename that was taken last. */
+struct half {
+    bool there, tracked, known;
+    struct parts path;
+    uint64_t tracker, inode;
+};
 
 /* What is known of a handle. */
 struct known {
     ndf_handle h;
     bool full;
     uint64_t taken, given, latest, timeout;
-    size_t unread, unread_errors, errors;
+    size_t unread, unread_errors, errors, many;
+    struct numbered numbers[NUMBERS];
+    struct half half;
 };
 
 static struct known all[HANDLES];
@@ -68,6 +91,61 @@ static struct text text(void) {
     return t;
 }
 
+static struct parts parts_of(const struct text *t) {
+    struct parts p = {.len = 0};
+    size_t at = 0;
+    if (t->len > 0 && t->bytes[0] == '/') p = (struct parts){{1, '/'}, 2};
+    for (bool first = true; at <= t->len; first = false) {
+        size_t end = at;
+        while (end < t->len && t->bytes[end] != '/') end++;
+        size_t len = end - at;
+        if (len > 0 && (first || len != 1 || t->bytes[at] != '.')) {
+            p.bytes[p.len++] = (char)len;
+            memcpy(p.bytes + p.len, t->bytes + at, len);
+            p.len += len;
+        }
+        at = end + 1;
+    }
+    return p;
+}
+
+static bool is_prefix(const struct parts *p, const struct parts *q) {
+    return p->len <= q->len && memcmp(p->bytes, q->bytes, p->len) == 0;
+}
+
+static struct numbered *number_at(struct known *k, const struct parts *p) {
+    for (size_t i = 0; i < k->many; i++)
+        if (k->numbers[i].path.len == p->len && is_prefix(p, &k->numbers[i].path)) return &k->numbers[i];
+    return NULL;
+}
+
+static void forget(struct known *k, const struct parts *p) {
+    size_t kept = 0;
+    for (size_t i = 0; i < k->many; i++)
+        if (!is_prefix(p, &k->numbers[i].path)) k->numbers[kept++] = k->numbers[i];
+    k->many = kept;
+}
+
+/* What an event that was taken makes of the numbers. */
+static void renumber(struct known *k, const ndf_change *c, const struct text *first) {
+    if (c->rescan || c->paths == 0) return;
+    struct parts p = parts_of(first);
+    bool is_any = c->kind == NDF_NAME_ANY;
+    if (c->kind >= NDF_REMOVE_ANY && c->kind <= NDF_REMOVE_OTHER) forget(k, &p);
+    if (c->kind == NDF_NAME_FROM || (is_any && !c->exists)) {
+        struct numbered *n = number_at(k, &p);
+        k->half = (struct half){true, c->tracked, n != NULL, p, c->tracker, n ? n->inode : 0};
+        forget(k, &p);
+    }
+    if (c->kind == NDF_NAME_TO || (is_any && c->exists)) {
+        struct numbered *n = number_at(k, &p);
+        struct half *h = &k->half;
+        bool is_tracked = h->tracked && c->tracked && h->tracker == c->tracker;
+        if (h->there && (is_tracked || (h->known && n && h->inode == n->inode))) forget(k, &h->path);
+        h->there = false;
+    }
+}
+
 /* Compares the code with the one that is foretold: a fault, or 0 if there is none, or want of memory, if one was
  * refused and the call may need some. Returns whether the call did what it says. */
 static bool answered(const char *name, struct known *k, uint32_t code, uint32_t fault, bool needs, long before) {
@@ -87,7 +165,7 @@ static void check_counts(struct known *k) {
     if (code != (k->full ? NDF_DONE : NDF_EMPTY)) fail("ndf_counts", code, k->full ? NDF_DONE : NDF_EMPTY);
     if (!k->full) return;
     if (t.taken != k->taken || t.given != k->given || t.latest != k->latest || t.timeout != k->timeout ||
-        t.errors != k->errors || t.waiting > t.taken - t.given)
+        t.errors != k->errors || t.numbers != k->many || t.waiting > t.taken - t.given)
         wrong("the counts are wrong");
 }
 
@@ -135,6 +213,7 @@ static void feed(struct known *k, long before) {
     if (answered("ndf_event", k, code, fault_of(&c, &a, t, k), needs, before)) {
         k->taken++;
         if (c.moment > k->latest) k->latest = c.moment;
+        renumber(k, &c, &t[0]);
     }
 }
 
@@ -208,18 +287,53 @@ static void watch(struct known *k, long before) {
     struct text path = text();
     uint32_t fault = path.is_text ? NDF_DONE : NDF_NOT_TEXT;
     bool recursive = one_in(2);
+    struct parts p = parts_of(&path);
     switch (below(3)) {
     case 0: answered("ndf_watch", k, ndf_watch(&k->h, path.bytes, path.len, recursive), fault, true, before); break;
-    case 1: answered("ndf_unwatch", k, ndf_unwatch(&k->h, path.bytes, path.len), fault, true, before); break;
+    case 1:
+        if (answered("ndf_unwatch", k, ndf_unwatch(&k->h, path.bytes, path.len), fault, true, before)) forget(k, &p);
+        break;
     default: answered("ndf_mode", k, ndf_mode(&k->h, path.bytes, path.len, &recursive), fault, true, before);
     }
+}
+
+static void say(struct known *k, long before) {
+    struct text path = text();
+    struct parts p = parts_of(&path);
+    uint32_t fault = path.is_text ? NDF_DONE : NDF_NOT_TEXT;
+    struct numbered *n = number_at(k, &p);
+    if (k->many == NUMBERS && n == NULL) return;
+    uint64_t inode = below(4);
+    if (!answered("ndf_number", k, ndf_number(&k->h, path.bytes, path.len, 1, inode), fault, true, before)) return;
+    if (n == NULL) n = &k->numbers[k->many++];
+    *n = (struct numbered){p, inode};
+}
+
+static void ask_number(struct known *k, long before) {
+    struct text path = text();
+    struct parts p = parts_of(&path);
+    uint32_t fault = path.is_text ? NDF_DONE : NDF_NOT_TEXT;
+    if (one_in(4)) {
+        if (answered("ndf_forget", k, ndf_forget(&k->h, path.bytes, path.len), fault, true, before)) forget(k, &p);
+        return;
+    }
+    ndf_file_number told, silent;
+    memset(&told, 'y', sizeof told);
+    silent = told;
+    if (!answered("ndf_number_of", k, ndf_number_of(&k->h, path.bytes, path.len, &told), fault, true, before)) {
+        if (memcmp(&told, &silent, sizeof told)) wrong("a refused ndf_number_of has told");
+        return;
+    }
+    struct numbered *n = number_at(k, &p);
+    if (told.known != (n != NULL) || told.inode != (n ? n->inode : 0) || told.device != (n ? 1 : 0))
+        wrong("a file number is wrong");
 }
 
 static void call(void) {
     struct known *k = &all[below(HANDLES)];
     left = one_in(20) ? (long)below(4) : -1;
     long before = refusals;
-    switch (below(400)) {
+    switch (below(460)) {
     case 0:
         ndf_free(&k->h);
         calls++;
@@ -234,7 +348,9 @@ static void call(void) {
     case 341 ... 355: note(k, before); break;
     case 356 ... 365: ask(k, before); break;
     case 366 ... 380: read_error(k, before); break;
-    default: watch(k, before);
+    case 381 ... 400: watch(k, before); break;
+    case 401 ... 440: say(k, before); break;
+    default: ask_number(k, before);
     }
     left = 0;
     check_counts(k);

@@ -62,6 +62,16 @@ static void story(void) {
     CALL(ndf_watch(&h, "/v", 2, false));
     CALL(ndf_mode(&h, "/w/x", 4, &recursive));
     if (!recursive) fail("a mode that isn't right");
+    ndf_file_number number;
+    CALL(ndf_number(&h, "/w/m", 4, 1, 7));
+    CALL(ndf_number(&h, "/w/m/1", 6, 1, 8));
+    CALL(ndf_number(&h, "/w/n", 4, 1, 9));
+    CALL(ndf_forget(&h, "/w/n", 4));
+    feed(NDF_NAME_FROM, 0, 0, "/w/m");
+    CALL(ndf_number(&h, "/w/o", 4, 1, 7));
+    feed(NDF_NAME_TO, 0, 0, "/w/o");
+    CALL(ndf_number_of(&h, "/w/o", 4, &number));
+    if (!number.known || number.inode != 7) fail("a number that isn't right");
     feed(NDF_CREATE_FILE, 0, 0, "/w/a");
     feed(NDF_DATA_ANY, 1, 0, "/w/a");
     feed(NDF_NAME_FROM, 2, 7, "/w/a");

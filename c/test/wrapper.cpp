@@ -56,6 +56,15 @@ int main() {
     } catch (const ndf::refused &refused) {
         check(refused.code == NDF_NOT_TEXT, "the code of a path that isn't UTF-8");
     }
+    second.set_number("/w/d", 1, 7);
+    second.feed(ndf_change{NDF_NAME_FROM, 1, false, false, false, 0, 80}, "/w/d");
+    check(!second.number_of("/w/d").known, "a number that went with its path");
+    second.set_number("/w/e", 1, 7);
+    second.feed(ndf_change{NDF_NAME_TO, 1, false, false, true, 0, 81}, "/w/e");
+    check(second.number_of("/w/e").inode == 7 && second.counts().numbers == 1, "a number that came with its path");
+    check(second.tick(200) == 2 && second.next() && second.next()->kind == NDF_NAME_BOTH, "a rename joined by numbers");
+    second.forget("/w");
+    check(second.counts().numbers == 0, "numbers that are forgotten");
     second = ndf::debouncer(std::chrono::nanoseconds(0));
     check(second.counts().waiting == 0, "a debouncer that was moved in");
     return 0;

@@ -2,14 +2,17 @@
 //! `while read`. docs/examples/build_trigger.md is its page.
 #![tactic(auto)]
 
-ghost use Rattle.std.specs.Prelude.{◌≡◌, ◌*◌, ◌^◌, ℕ, [], None, codes, map, option_map, IfErr, IfOk, IfSome, OnOk};
+ghost use Rattle.std.specs.Prelude.{◌≡◌, ◌⊎◌, ◌*◌, ◌^◌, ℕ, [], None, codes, map, option_map, IfErr, IfOk, IfSome, OnOk};
 ghost use Rattle.std.specs.Duration.{as_nanos};
 ghost use Rattle.clap.specs.Words.{first_value, found_of, one_text};
+ghost use Rattle.folder_reports.specs.Start.{IsStartFault};
 ghost use Rattle.journal_lines.specs.KeptView.{filter_rule};
 ghost use Rattle.notify_paths.specs.PathText.{parts_of};
 ghost use Rattle.trigger_lines.specs.Line.{only_of};
-ghost use Rattle.trigger_lines.specs.Printed.{PrintsAll};
-ghost use Rattle.watch_loop.specs.FollowsFolder.{folder_source};
+ghost use Rattle.trigger_lines.specs.Printed.{PrintsAll, PrintsSome};
+ghost use Rattle.notify_types.specs.declared.event.RecursiveMode.TheVariants.{Recursive};
+ghost use Rattle.watch_loop.specs.FollowsFolder.{OfReports, folder_source};
+ghost use Rattle.watch_loop.specs.WholeProgram.{IsTimeout};
 ghost use Rattle.watch_pace.specs.Words.{Gives};
 ghost use Rattle.watch_program.specs.Words.{places_in};
 ghost use Rattle.watch_program.specs.declared.fault.Fault.TheVariants.{Memory};
@@ -113,8 +116,18 @@ fn watch<R: DebouncerRuntime + AllocGlobal, O: Write + Drop, E: Write + Drop>(
     bursts: &mut Bursts<'_, '_, O, E>,
 ) -> Result<(), Fault>
     requires empty { bursts.old.trigger ≡ [] }
-    ensures printed { OnOk result (PrintsAll folder_source tt (filter_rule bursts.old.filter)
-        bursts.old.folder.now (O.contents bursts.old.out) (O.contents bursts.new.out)) }
+    // Of the reports of these folders, with the timeout that the words say.
+    ensures printed { OnOk result ((timeout : ℕ) × IsTimeout matches.now timeout
+        × OfReports timeout (map parts_of (places_in matches.now)) Recursive
+        (λ s. PrintsAll folder_source s (filter_rule bursts.old.filter) bursts.old.folder.now
+        (O.contents bursts.old.out) (O.contents bursts.new.out))) }
+    // The folders couldn't be watched; or it is so of what was reported until the fault came.
+    ensures begun { IfErr result (λ fault.
+        (IsStartFault fault × (O.contents bursts.new.out ≡ O.contents bursts.old.out))
+        ⊎ ((timeout : ℕ) × IsTimeout matches.now timeout
+        × OfReports timeout (map parts_of (places_in matches.now)) Recursive
+        (λ s. PrintsSome folder_source s (filter_rule bursts.old.filter) bursts.old.folder.now
+        (O.contents bursts.old.out) (O.contents bursts.new.out)))) }
 {
     let folders = folders_of(rt.alloc(), matches)?;
     let (mode, pace) = (RecursiveMode::Recursive, pace_of(matches));

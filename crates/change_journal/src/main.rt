@@ -2,10 +2,15 @@
 //! it is stopped. docs/examples/change_journal.md is its page.
 #![tactic(auto)]
 
-ghost use Rattle.std.specs.Prelude.{OnOk};
+ghost use Rattle.std.specs.Prelude.{◌≡◌, ◌⊎◌, ℕ, map, IfErr, OnOk};
+ghost use Rattle.folder_reports.specs.Start.{IsStartFault};
 ghost use Rattle.journal_lines.specs.KeptView.{filter_rule};
-ghost use Rattle.journal_lines.specs.Printed.{WritesAll};
-ghost use Rattle.watch_loop.specs.FollowsFolder.{folder_source};
+ghost use Rattle.journal_lines.specs.Printed.{WritesAll, WritesSome};
+ghost use Rattle.notify_paths.specs.PathText.{parts_of};
+ghost use Rattle.notify_types.specs.declared.event.RecursiveMode.TheVariants.{Recursive};
+ghost use Rattle.watch_loop.specs.FollowsFolder.{OfReports, folder_source};
+ghost use Rattle.watch_loop.specs.WholeProgram.{IsTimeout};
+ghost use Rattle.watch_program.specs.Words.{places_in};
 
 mod words;
 
@@ -54,9 +59,20 @@ fn watch<R: DebouncerRuntime + AllocGlobal, O: Write + Drop, E: Write + Drop>(
     complaints: Complaints<'_, E>,
     printer: &mut Printer<'_, '_, R, O, E>,
 ) -> Result<(), Fault>
-    ensures written { OnOk result (WritesAll folder_source tt printer.old.journal.form
+    // Of the reports of these folders, with the timeout that the words say.
+    ensures written { OnOk result ((timeout : ℕ) × IsTimeout matches.now timeout
+        × OfReports timeout (map parts_of (places_in matches.now)) Recursive
+        (λ s. WritesAll folder_source s printer.old.journal.form
         (filter_rule printer.old.filter) printer.old.journal.next (O.contents printer.old.out)
-        (O.contents printer.new.out)) }
+        (O.contents printer.new.out))) }
+    // The folders couldn't be watched; or it is so of what was reported until the fault came.
+    ensures begun { IfErr result (λ fault.
+        (IsStartFault fault × (O.contents printer.new.out ≡ O.contents printer.old.out))
+        ⊎ ((timeout : ℕ) × IsTimeout matches.now timeout
+        × OfReports timeout (map parts_of (places_in matches.now)) Recursive
+        (λ s. WritesSome folder_source s printer.old.journal.form
+        (filter_rule printer.old.filter) printer.old.journal.next (O.contents printer.old.out)
+        (O.contents printer.new.out)))) }
 {
     let folders = folders_of(rt.alloc(), matches)?;
     let (mode, pace) = (RecursiveMode::Recursive, pace_of(matches));

@@ -2,12 +2,15 @@
 //! changed, and prints the configuration in force. docs/examples/config_reloader.md is its page.
 #![tactic(auto)]
 
-ghost use Rattle.std.specs.Prelude.{OnOk};
-ghost use Rattle.config_state.specs.Followed.{ReadsToEnd};
-ghost use Rattle.watch_loop.specs.FollowsFolder.{folder_source};
+ghost use Rattle.std.specs.Prelude.{◌≡◌, ◌⊎◌, ◌∷◌, [], IfErr, OnOk};
+ghost use Rattle.std.specs.Duration.{as_nanos};
+ghost use Rattle.config_state.specs.Followed.{ReadsSome, ReadsToEnd, following};
+ghost use Rattle.folder_reports.specs.Start.{IsStartFault};
+ghost use Rattle.notify_types.specs.declared.event.RecursiveMode.TheVariants.{NonRecursive};
+ghost use Rattle.watch_loop.specs.FollowsFolder.{OfReports, folder_source};
 
 use clap::{ArgMatches, Command};
-use config_state::{Follower, Place, Reloader};
+use config_state::{Follower, Place, ReadsText, RealFiles, Reloader};
 use notify_debouncer_full::{DebouncerRuntime, PathBuf};
 use std::alloc::{AllocError, Global};
 use std::io::Write;
@@ -35,16 +38,24 @@ fn command_line<'a>(alloc: Global, name: &'a str) -> Result<Command<'a>, AllocEr
 
 /// Reads the file, and then whenever its folder's reports may be about it, or about what links there lead to. If
 /// events were missed, it is read anew at the end.
-fn watch<R: DebouncerRuntime + AllocGlobal, O: Write + Drop, E: Write + Drop>(
+fn watch<R: DebouncerRuntime + AllocGlobal, F: ReadsText, O: Write + Drop, E: Write + Drop>(
     rt: R,
     folder: &PathBuf,
     file: &PathBuf,
     pace: Pace<'_>,
     complaints: Complaints<'_, E>,
-    follower: &mut Follower<'_, R, O, E>,
+    follower: &mut Follower<'_, F, O, E>,
 ) -> Result<(), Fault>
-    ensures read { OnOk result (ReadsToEnd folder_source tt follower.old.file follower.old.reloader
-        (O.contents follower.old.out) follower.new.reloader (O.contents follower.new.out)) }
+    ensures read { OnOk result (OfReports (as_nanos pace.entry.timeout) (folder.now ∷ [])
+        NonRecursive (λ s. ReadsToEnd folder_source s F.gives follower.old.file
+        (following follower.old.files follower.old.reloader (O.contents follower.old.out))
+        (following follower.new.files follower.new.reloader (O.contents follower.new.out)))) }
+    // The folder couldn't be watched; or it is so of what was reported until the fault came.
+    ensures begun { IfErr result (λ fault. (IsStartFault fault × (follower.new ≡ follower.old))
+        ⊎ OfReports (as_nanos pace.entry.timeout) (folder.now ∷ []) NonRecursive
+        (λ s. ReadsSome folder_source s F.gives follower.old.file
+        (following follower.old.files follower.old.reloader (O.contents follower.old.out))
+        (following follower.new.files follower.new.reloader (O.contents follower.new.out)))) }
 {
     let missed = follow_file(rt, folder, file, pace, complaints, follower)?;
     write_missed(missed, NAME, &mut follower.err);
@@ -61,8 +72,9 @@ fn run<R: DebouncerRuntime + AllocGlobal, O: Write + Drop, E: Write + Drop>(
 ) -> Result<(), Fault> {
     let Place { folder, file } = Place::parse(rt.alloc(), place_of(matches))?;
     let mut follower = Follower {
-        rt,
+        alloc: rt.alloc(),
         name: NAME,
+        files: RealFiles::new(rt),
         file: file.clone()?,
         reloader: Reloader::new(),
         out,

@@ -1,118 +1,169 @@
--- A program whose calls read a file again reads it after each report that may be about it.
-use Rattle.std.proofs.Common.{◌≡◌, Bool, true, false, List, [], ◌∷◌, refl, ap, subst}
-use Rattle.std.specs.Prelude.{ℕ, Option, Some, None, Ok, Err, OnOk, MatchResult}
+-- A program whose calls read a file if they are asked reads it after each report that may be about it.
+use Rattle.std.proofs.Common.{◌≡◌, Bool, true, false, List, [], ◌∷◌, ◌++◌, refl, sym, ap, subst, inl, inr}
+use Rattle.std.specs.Prelude.{ℕ, not, ◌==◌, Option, Some, None, Result, Ok, Err, OnOk, OnErr, MatchResult, map}
 use Rattle.std.specs.List.{list_any}
-use Rattle.std.specs.declared.alloc.Global.{Global}
-use Rattle.std.specs.declared.vec.Vec.{Vec}
-use Rattle.notify_paths.specs.Errors.{ErrorValue}
 use Rattle.notify_paths.specs.Path.{PathValue}
-use Rattle.notify_types.specs.Event.{Timed}
-use Rattle.report_loop.specs.Loop.{Follows, Program, Source, Step}
-use Rattle.report_loop.specs.Gave.{CalledWith}
+use Rattle.watch_program.specs.declared.fault.Fault.{Fault}
+use Rattle.fault_runs.proofs.UntilLemmas.{CalledUntil, TookOn, after_both, called_whole, gave_all, took_some}
+use Rattle.report_loop.specs.Gave.{Gave}
+use Rattle.report_loop.specs.Loop.{Answer, Calls, Follows, Program, Source, Step}
 use Rattle.report_loop.proofs.GaveLemmas.{all_taken}
-use Rattle.config_state.specs.Followed.{Reads, ReadsAll, ReadsEach, ReadsIf, Stays}
+use Rattle.report_loop.proofs.SourceLemmas.{match_seen}
+use Rattle.config_state.specs.Reading.{GivesText}
+use Rattle.config_state.specs.Followed.{Following, Reads, ReadsEach, ReadsIf, ReadsSome, ReadsToEnd, asked_in, asks}
 use Rattle.config_state.specs.Touched.{touches}
-use Rattle.config_state.specs.declared.reloader.Reloader.{Reloader}
 
--- what is seen of a program, and what its calls make of that
-pub record IsFollower {P : Type 0} (program : Program P) (file : P → PathValue) (reloader : P → Reloader)
-    (out : P → Option (List ℕ)) : Type 0 where
-  pub begins : (p p' : P) → program.begins p (Ok tt) p' →
-      (file p' ≡ file p) × Reads (reloader p) (out p) (reloader p') (out p')
-  pub batch : (p p' : P) (batch : Vec Timed Global) → program.takes p (Ok batch) (Ok tt) p' →
-      (file p' ≡ file p)
-      × (list_any (touches (file p)) batch.items ≡ true → Reads (reloader p) (out p) (reloader p') (out p'))
-      × (list_any (touches (file p)) batch.items ≡ false → Stays (reloader p) (out p) (reloader p') (out p'))
-  pub errors : (p p' : P) (errors : Vec ErrorValue Global) → program.takes p (Err errors) (Ok tt) p' →
-      (file p' ≡ file p) × Stays (reloader p) (out p) (reloader p') (out p')
-  pub pass : (p p' : P) → program.passes p (Ok tt) p' →
-      (file p' ≡ file p) × Stays (reloader p) (out p) (reloader p') (out p')
+-- no success is a fault
+pub no_fault : {Q : Type 0} (fault : Fault) → ◌≡◌ {A = Answer} (Ok tt) (Err fault) → Q
+no_fault fault is = absurd (subst (λ r. MatchResult r (λ _. Unit {0}) (λ _. ⊥)) is tt)
+
+module _ {F : Type 0} (gives : GivesText F) (place : PathValue) where
+  -- an answer ends a run so
+  ends_so : (answer : Answer) (new : Following F) →
+      MatchResult answer (λ _. (answer ≡ Ok tt) × (new ≡ new)) (λ fault. (answer ≡ Err fault) × (new ≡ new))
+  ends_so (Ok done) new = (refl, refl)
+  ends_so (Err fault) new = (refl, refl)
+
+  -- one more after these
+  pub read_last : (asked : List Bool) (last : Bool) (old mid new : Following F) (answer : Answer) →
+      ReadsEach gives place asked old (Ok tt) mid → ReadsIf gives place last mid answer new →
+      ReadsEach gives place (asked ++ last ∷ []) old answer new
+  read_last [] last old mid new answer h k =
+      (answer, new, subst (λ x. ReadsIf gives place last x answer new) h.1 k, ends_so answer new)
+  read_last (one ∷ asked) last old mid new answer h k = (
+    h.0,
+    h.1,
+    h.2,
+    match_seen h.0 _ _ _ _ (λ _ more. read_last asked last h.1 mid new answer more k)
+        (λ fault stops. no_fault fault stops.0) h.3,
+  )
+
+  -- nothing more after these
+  pub read_none : (asked : List Bool) (old new : Following F) (answer : Answer) →
+      ReadsEach gives place asked old answer new → ReadsEach gives place (asked ++ false ∷ []) old answer new
+  read_none [] old new answer h = (Ok tt, new, (refl, h.1), (h.0, refl))
+  read_none (one ∷ asked) old new answer h = (
+    h.0,
+    h.1,
+    h.2,
+    match_seen h.0 _ _ _ _ (λ _ more. read_none asked h.1 new answer more) (λ fault stops. stops) h.3,
+  )
 
 -- one of the two cases is so
-pub reads_if : (touched : Bool) (old new : Reloader) (out out' : Option (List ℕ)) →
-    (touched ≡ true → Reads old out new out') → (touched ≡ false → Stays old out new out') →
-    ReadsIf touched old out new out'
-reads_if true old new out out' reads stays = reads refl
-reads_if false old new out out' reads stays = stays refl
+reads_if : {F : Type 0} (gives : GivesText F) (place : PathValue) (asked : Bool) (old new : Following F)
+    (answer : Answer) → (asked ≡ true → Reads gives place old answer new) →
+    (asked ≡ false → (answer ≡ Ok tt) × (new ≡ old)) → ReadsIf gives place asked old answer new
+reads_if gives place true old new answer reads stays = reads refl
+reads_if gives place false old new answer reads stays = stays refl
 
--- what is read from equal values on
-pub carried : (file file' : PathValue) (old old' end : Reloader) (out out' last : Option (List ℕ)) (steps : List Step) →
-    file' ≡ file → Stays old out old' out' → ReadsEach file' steps old' out' end last →
-    ReadsEach file steps old out end last
-carried file file' old old' end out out' last steps files stays h =
-    let a = subst (λ x. ReadsEach x steps old' out' end last) files h in
-    let b = subst (λ x. ReadsEach file steps x out' end last) stays.0 a in
-    subst (λ x. ReadsEach file steps old x end last) stays.1 b
-
--- the calls read the file after each of the steps that may be about it
-pub reads : {P : Type 0} (program : Program P) (file : P → PathValue) (reloader : P → Reloader)
-    (out : P → Option (List ℕ)) → IsFollower program file reloader out →
-    (steps : List Step) (p p' : P) → CalledWith program steps p p' →
-    ReadsEach (file p) steps (reloader p) (out p) (reloader p') (out p')
-reads program file reloader out is [] p p' called = (ap reloader called, ap out called)
-reads program file reloader out is (Some (Ok batch) ∷ steps) p p' called =
-    let q = called.0 in let does = is.batch p q batch called.1 in
-    let more = reads program file reloader out is steps q p' called.2 in (
-      reloader q,
-      out q,
-      reads_if (list_any (touches (file p)) batch.items) (reloader p) (reloader q) (out p) (out q) does.1 does.2,
-      carried (file p) (file q) (reloader q) (reloader q) (reloader p') (out q) (out q) (out p') steps does.0
-          (refl, refl) more,
-    )
-reads program file reloader out is (Some (Err errors) ∷ steps) p p' called =
-    let q = called.0 in let does = is.errors p q errors called.1 in
-    carried (file p) (file q) (reloader p) (reloader q) (reloader p') (out p) (out q) (out p') steps does.0 does.1
-    (reads program file reloader out is steps q p' called.2)
-reads program file reloader out is (None ∷ steps) p p' called =
-    let q = called.0 in let does = is.pass p q called.1 in
-    carried (file p) (file q) (reloader p) (reloader q) (reloader p') (out p) (out q) (out p') steps does.0 does.1
-    (reads program file reloader out is steps q p' called.2)
-
--- a program that followed a source to its end read the file at first, and after all that may be about it
-pub followed : {S P : Type 0} (source : Source S) (s : S) (program : Program P) (file : P → PathValue)
-    (reloader : P → Reloader) (out : P → Option (List ℕ)) → IsFollower program file reloader out →
-    (p p' : P) (missed : ℕ) → Follows source program s p (Ok missed) p' →
-    ReadsAll source s (file p) missed (reloader p) (out p) (reloader p') (out p')
-followed source s program file reloader out is p p' missed follows =
-    let all = all_taken source program s p p' missed follows in
-    let took = all.1 in let q = took.0 in
-    let first = is.begins p q took.2 in (
-      all.0,
-      reloader q,
-      out q,
-      took.1,
-      first.1,
-      carried (file p) (file q) (reloader q) (reloader q) (reloader p') (out q) (out q) (out p') all.0 first.0
-          (refl, refl) (reads program file reloader out is all.0 q p' took.3),
-    )
-
--- a program that reads the file after a report that may be about it, by what is seen of it
-abbrev pub follower_program : {P : Type 0} → (P → PathValue) → (P → Reloader) → (P → Option (List ℕ)) → Program P
-follower_program file reloader out = record {
-  begins = λ old answer new. (file new ≡ file old)
-      × OnOk answer (Reads (reloader old) (out old) (reloader new) (out new));
+-- a program that reads the file at first and after each report that may be about it, by what is seen of it
+abbrev pub follower_program : {F P : Type 0} → GivesText F → (P → PathValue) → (P → Following F) → Program P
+follower_program gives file of = record {
+  begins = λ old answer new. (file new ≡ file old) × ReadsIf gives (file old) true (of old) answer (of new);
   patience = λ program. None;
   takes = λ old report answer new. (file new ≡ file old)
       × MatchResult report
-      (λ batch. (list_any (touches (file old)) batch.items ≡ true → OnOk answer
-      (Reads (reloader old) (out old) (reloader new) (out new)))
-      × (list_any (touches (file old)) batch.items ≡ false →
-      Stays (reloader old) (out old) (reloader new) (out new)))
-      (λ errors. Stays (reloader old) (out old) (reloader new) (out new));
-  passes = λ old answer new. (file new ≡ file old) × Stays (reloader old) (out old) (reloader new) (out new);
+      (λ batch. (list_any (touches (file old)) batch.items ≡ true → Reads gives (file old) (of old) answer (of new))
+      × (list_any (touches (file old)) batch.items ≡ false → (answer ≡ Ok tt) × (of new ≡ of old)))
+      (λ errors. (answer ≡ Ok tt) × (of new ≡ of old));
+  passes = λ old answer new. (file new ≡ file old) × ReadsIf gives (file old) false (of old) answer (of new);
 }
 
--- such a program that followed a source to its end read the file at first, and after all that may be about it
-pub follower_followed : {S P : Type 0} (source : Source S) (s : S) (file : P → PathValue) (reloader : P → Reloader)
-    (out : P → Option (List ℕ)) (p p' : P) (missed : ℕ) →
-    Follows source (follower_program file reloader out) s p (Ok missed) p' →
-    ReadsAll source s (file p) missed (reloader p) (out p) (reloader p') (out p')
-follower_followed source s file reloader out p p' missed follows =
-    followed source s (follower_program file reloader out) file reloader out
-    (record {
-      begins = λ p q h. h;
-      batch = λ p q batch h. (h.0, h.1.0, h.1.1);
-      errors = λ p q errors h. h;
-      pass = λ p q h. h;
-    })
-    p p' missed follows
+module _ {F P : Type 0} (gives : GivesText F) (file : P → PathValue) (of : P → Following F) where
+  -- the program that is spoken of
+  abbrev Here : Program P
+  Here = follower_program gives file of
+
+  -- a call reads the file if the step asks for it
+  call_reads : (step : Step) (p p' : P) (answer : Answer) → Calls Here step p answer p' →
+      (file p' ≡ file p) × ReadsIf gives (file p) (asks (file p) step) (of p) answer (of p')
+  call_reads (Some (Ok batch)) p p' answer h = (
+    h.0,
+    reads_if gives (file p) (list_any (touches (file p)) batch.items) (of p) (of p') answer h.1.0 h.1.1,
+  )
+  call_reads (Some (Err errors)) p p' answer h = h
+  call_reads None p p' answer h = h
+
+  -- the calls leave the file
+  same_file : (steps : List Step) (p p' : P) (answer : Answer) → CalledUntil Here steps p answer p' →
+      file p' ≡ file p
+  same_file [] p p' answer called = ap file called.1
+  same_file (step ∷ steps) p p' answer called =
+      let q = called.1 in let does = call_reads step p q called.0 called.2 in
+      subst (λ x. file p' ≡ x) does.0
+      (after_both called.0 _ _ (λ _ more. same_file steps q p' answer more) (λ fault stops. ap file stops.2) called.3)
+
+  -- the calls read the file after each of the steps that asks for it
+  reads : (steps : List Step) (p p' : P) (answer : Answer) → CalledUntil Here steps p answer p' →
+      ReadsEach gives (file p) (map (asks (file p)) steps) (of p) answer (of p')
+  reads [] p p' answer called = (called.0, ap of called.1)
+  reads (step ∷ steps) p p' answer called =
+      let q = called.1 in let does = call_reads step p q called.0 called.2 in (
+        called.0,
+        of q,
+        does.1,
+        match_seen called.0 _ _ _ _
+            (λ _ more. subst (λ x. ReadsEach gives x (map (asks x) steps) (of q) answer (of p')) does.0
+            (reads steps q p' answer more))
+            (λ fault stops. (stops.1, ap of stops.2)) called.3,
+      )
+
+  -- from the file's first reading on
+  first_then : (steps : List Step) (p q p' : P) (answer : Answer) → Here.begins p (Ok tt) q →
+      CalledUntil Here steps q answer p' →
+      ReadsEach gives (file p) (true ∷ map (asks (file p)) steps) (of p) answer (of p')
+  first_then steps p q p' answer begun called = (
+    Ok tt,
+    of q,
+    begun.1,
+    subst (λ x. ReadsEach gives x (map (asks x) steps) (of q) answer (of p')) begun.0 (reads steps q p' answer called),
+  )
+
+  -- the readings after all that was given are those to the end; or until a fault came at the last
+  ended_by : {S : Type 0} (source : Source S) (s : S) (p : P) (missed : ℕ) (steps : List Step) (answer : Answer)
+      (end : Following F) → Gave source s steps missed →
+      ReadsEach gives (file p) (asked_in (file p) steps (not (missed == 0))) (of p) answer end →
+      MatchResult answer (λ _. ReadsToEnd source s gives (file p) (of p) end)
+      (λ fault. ReadsSome source s gives (file p) (of p) end)
+  ended_by source s p missed steps (Ok done) end gave each = (missed, steps, gave, each)
+  ended_by source s p missed steps (Err fault) end gave each =
+      (steps, not (missed == 0), Err fault, gave_all source s steps missed gave, each)
+
+  -- a program that followed a source to its end, and then read the file if some were lost, did so after all that was
+  -- reported; or until a fault came at that last reading
+  pub follower_followed : {S : Type 0} (source : Source S) (s : S) (p p' : P) (missed : ℕ) (answer : Answer)
+      (end : Following F) → Follows source Here s p (Ok missed) p' →
+      ReadsIf gives (file p') (not (missed == 0)) (of p') answer end →
+      MatchResult answer (λ _. ReadsToEnd source s gives (file p) (of p) end)
+      (λ fault. ReadsSome source s gives (file p) (of p) end)
+  follower_followed source s p p' missed answer end follows last =
+      let all = all_taken source Here s p p' missed follows in
+      let steps = all.0 in let took = all.1 in let q = took.0 in
+      let called = called_whole Here steps q p' took.3 in
+      let same = subst (λ x. file p' ≡ x) took.2.0 (same_file steps q p' (Ok tt) called) in
+      ended_by source s p missed steps answer end took.1
+      (read_last gives (file p) (true ∷ map (asks (file p)) steps) (not (missed == 0)) (of p) (of p') end answer
+      (first_then steps p q p' (Ok tt) took.2 called)
+      (subst (λ x. ReadsIf gives x (not (missed == 0)) (of p') answer end) same last))
+
+  -- what was read after a beginning, whatever it answered
+  begun_by : {S : Type 0} (source : Source S) (s : S) (p q p' : P) (begun : Answer) → Here.begins p begun q →
+      MatchResult begun (λ _. TookOn source Here s q p') (λ fault. p' ≡ q) →
+      ReadsSome source s gives (file p) (of p) (of p')
+  begun_by source s p q p' (Ok done) begins on = (
+    on.0,
+    false,
+    on.1,
+    on.2,
+    read_none gives (file p) (true ∷ map (asks (file p)) on.0) (of p) (of p') on.1
+        (first_then on.0 p q p' on.1 begins on.3),
+  )
+  begun_by source s p q p' (Err fault) begins stops =
+      ([], false, Err fault, inl tt, (Err fault, of q, begins.1, (refl, ap of stops)))
+
+  -- such a program that followed a source until a fault came read the file after all that was reported until then
+  pub follower_begun : {S : Type 0} (source : Source S) (s : S) (p p' : P) (answer : Result ℕ Fault) →
+      Follows source Here s p answer p' → ReadsSome source s gives (file p) (of p) (of p')
+  follower_begun source s p p' answer follows =
+      let took = took_some source Here s p p' answer follows in
+      begun_by source s p took.1 p' took.0 took.2 took.3

@@ -2,3 +2,4 @@ pub mod FollowedLemmas
 pub mod Touching
 pub mod ReadChanges
 pub mod EndReadings
+pub mod ReadingLaw

@@ -1,48 +1,63 @@
 -- What a program does that reads a file again whenever a report may be about it.
-use Rattle.std.specs.Prelude.{◌≡◌, ◌⊎◌, ℕ, Bool, true, false, not, ◌==◌, List, [], ◌∷◌, Option, None, Some, Ok, Err}
+use Rattle.std.specs.Prelude.{◌≡◌, ℕ, Bool, true, false, not, ◌==◌, List, [], ◌∷◌, ◌++◌, Option, None, Some, Ok, Err, MatchResult, map}
 use Rattle.std.specs.List.{list_any}
 use Rattle.notify_paths.specs.Path.{PathValue}
+use Rattle.fault_runs.specs.Until.{GaveSome}
 use Rattle.report_loop.specs.Gave.{Gave}
-use Rattle.report_loop.specs.Loop.{Source, Step}
-use Rattle.config_state.specs.InForce.{Follows, IsComplaint, Prints}
+use Rattle.report_loop.specs.Loop.{Answer, Source, Step}
+use Rattle.config_state.specs.Reading.{GivesText, Shows}
 use Rattle.config_state.specs.Touched.{touches}
 use Rattle.config_state.specs.declared.reloader.Reloader.{Reloader}
 
--- what is in force and what was printed stays
-abbrev pub Stays : Reloader → Option (List ℕ) → Reloader → Option (List ℕ) → Type 0
-Stays old out new out' = (new ≡ old) × (out' ≡ out)
+-- what reads the file, what is in force, and what was printed
+pub record Following (F : Type 0) : Type 0 where
+  pub files : F
+  pub reloader : Reloader
+  pub printed : Option (List ℕ)
 
--- a reading was taken: some text, of which what is in force follows; or none, and a complaint was printed
-abbrev pub Reads : Reloader → Option (List ℕ) → Reloader → Option (List ℕ) → Type 0
-Reads old out new out' =
-    ((text : List ℕ) × Prints out out' (Follows text old.in_force new.in_force))
-    ⊎ (Prints out out' IsComplaint × (new ≡ old))
+-- .. of these
+abbrev pub following : {F : Type 0} → F → Reloader → Option (List ℕ) → Following F
+following files reloader printed = record { files = files; reloader = reloader; printed = printed }
 
--- a reading was taken if the batch may be about the file, and else nothing was done
-abbrev pub ReadsIf : Bool → Reloader → Option (List ℕ) → Reloader → Option (List ℕ) → Type 0
-ReadsIf true old out new out' = Reads old out new out'
-ReadsIf false old out new out' = Stays old out new out'
+-- the file was read, and what it gave at that moment was taken
+abbrev pub Reads : {F : Type 0} → GivesText F → PathValue → Following F → Answer → Following F → Type 0
+Reads gives file old answer new =
+    (given : Option (List ℕ)) × gives old.files file given new.files
+    × Shows given old.reloader old.printed answer new.reloader new.printed
 
--- a reading was taken after each report that may be about the file, before the next report, and at no other time
-abbrev pub ReadsEach : PathValue → List Step → Reloader → Option (List ℕ) → Reloader → Option (List ℕ) → Type 0
-ReadsEach file [] old out new out' = Stays old out new out'
-ReadsEach file (Some (Ok batch) ∷ steps) old out new out' =
-    (between : Reloader) × (printed : Option (List ℕ))
-    × ReadsIf (list_any (touches file) batch.items) old out between printed
-    × ReadsEach file steps between printed new out'
-ReadsEach file (Some (Err errors) ∷ steps) old out new out' = ReadsEach file steps old out new out'
-ReadsEach file (None ∷ steps) old out new out' = ReadsEach file steps old out new out'
+-- .. if that was asked for, and else nothing was done
+abbrev pub ReadsIf : {F : Type 0} → GivesText F → PathValue → Bool → Following F → Answer → Following F → Type 0
+ReadsIf gives file true old answer new = Reads gives file old answer new
+ReadsIf gives file false old answer new = (answer ≡ Ok tt) × (new ≡ old)
 
--- the file was read at first, and after each report of the source that may be about it; so many were lost
-abbrev pub ReadsAll : {S : Type 0} → Source S → S → PathValue → ℕ → Reloader → Option (List ℕ) → Reloader →
-    Option (List ℕ) → Type 0
-ReadsAll source reports file lost old out new out' =
-    (steps : List Step) × (first : Reloader) × (printed : Option (List ℕ)) × Gave source reports steps lost
-    × Reads old out first printed × ReadsEach file steps first printed new out'
+-- .. for each of these, one after the other, until a fault came
+abbrev pub ReadsEach : {F : Type 0} → GivesText F → PathValue → List Bool → Following F → Answer → Following F →
+    Type 0
+ReadsEach gives file [] old answer new = (answer ≡ Ok tt) × (new ≡ old)
+ReadsEach {F} gives file (asked ∷ more) old answer new =
+    (first : Answer) × (between : Following F) × ReadsIf gives file asked old first between
+    × MatchResult first (λ _. ReadsEach gives file more between answer new)
+    (λ fault. (answer ≡ Err fault) × (new ≡ between))
 
--- and once more at the end if some were lost
-abbrev pub ReadsToEnd : {S : Type 0} → Source S → S → PathValue → Reloader → Option (List ℕ) → Reloader →
-    Option (List ℕ) → Type 0
-ReadsToEnd source reports file old out new out' =
-    (lost : ℕ) × (last : Reloader) × (printed : Option (List ℕ))
-    × ReadsAll source reports file lost old out last printed × ReadsIf (not (lost == 0)) last printed new out'
+-- a report asks for a reading if it may be about the file; errors and a pause don't
+abbrev pub asks : PathValue → Step → Bool
+asks file (Some (Ok batch)) = list_any (touches file) batch.items
+asks file (Some (Err errors)) = false
+asks file None = false
+
+-- what asks for readings, in order: the beginning, each report, and the end if some were lost
+abbrev pub asked_in : PathValue → List Step → Bool → List Bool
+asked_in file steps some_lost = true ∷ (map (asks file) steps ++ some_lost ∷ [])
+
+-- the file was read at first, after each report of the source that may be about it and before the next one, and at the
+-- end if some were lost; and at no other time
+abbrev pub ReadsToEnd : {S F : Type 0} → Source S → S → GivesText F → PathValue → Following F → Following F → Type 0
+ReadsToEnd source reports gives file old new =
+    (lost : ℕ) × (steps : List Step) × Gave source reports steps lost
+    × ReadsEach gives file (asked_in file steps (not (lost == 0))) old (Ok tt) new
+
+-- so it was with what the source gave until a fault came, which can have come at the last of these readings
+abbrev pub ReadsSome : {S F : Type 0} → Source S → S → GivesText F → PathValue → Following F → Following F → Type 0
+ReadsSome source reports gives file old new =
+    (steps : List Step) × (some_lost : Bool) × (answer : Answer) × GaveSome source reports steps
+    × ReadsEach gives file (asked_in file steps some_lost) old answer new

@@ -1,6 +1,7 @@
 -- The configuration in force, and what is printed of it.
 use Rattle.std.specs.Prelude.{◌≡◌, ◌⊎◌, ◌≤◌, ℕ, List, Option, None, Some, IsSomeAnd, codes}
 use Rattle.std.specs.Io.KnownBytes.{Appends}
+use Rattle.whole_output.specs.Output.{WritesFront}
 use Rattle.toml.specs.Data.{Members, members_depth}
 use Rattle.toml.specs.Parse.{parse_document}
 use Rattle.toml.specs.View.{table_view}
@@ -39,3 +40,12 @@ Follows text old new lines = IsLoaded text new lines ⊎ (IsRefused text lines �
 -- what was written is some lines of which this holds
 abbrev pub Prints : Option (List ℕ) → Option (List ℕ) → (List ℕ → Type 0) → Type 0
 Prints old new Holding = (lines : List ℕ) × (Appends old new lines × Holding lines)
+
+-- a beginning of such lines was
+abbrev pub PrintsFront : Option (List ℕ) → Option (List ℕ) → (List ℕ → Type 0) → Type 0
+PrintsFront old new Holding = (lines : List ℕ) × (WritesFront old lines new × Holding lines)
+
+-- what is in force after a reading, and lines that say so; a file that can't be read is as one whose text is refused
+abbrev pub Becomes : Option (List ℕ) → Option Config → Option Config → List ℕ → Type 0
+Becomes (Some text) old new lines = Follows text old new lines
+Becomes None old new lines = IsComplaint lines × (new ≡ old)

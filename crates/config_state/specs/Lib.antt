@@ -4,4 +4,6 @@ pub mod Paragraph
 pub mod InForce
 pub mod Reloads
 pub mod Places
+pub mod Reading
 pub mod Followed
+pub mod Readings

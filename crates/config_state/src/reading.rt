@@ -1,7 +1,8 @@
 //! What a reading of the file comes to.
-ghost use Rattle.std.specs.Prelude.{◌≡◌, ◌⊎◌, IfErr, IfOk, OnOk};
-ghost use Rattle.std.specs.String.{string_bytes};
-ghost use Rattle.config_state.specs.InForce.{Follows, IsComplaint, Prints};
+ghost use Rattle.std.specs.Prelude.{◌≡◌, ◌⊎◌, None, Some, IfErr, IfOk};
+ghost use Rattle.config_state.specs.InForce.{IsComplaint};
+ghost use Rattle.config_state.specs.Reading.{Shows, given_by};
+ghost use Rattle.config_state.specs.declared.reloader.Reloader.{Reloader};
 ghost use Rattle.watch_program.specs.declared.fault.Fault.TheVariants.{Memory, OutputFailed};
 
 use crate::printed::paragraph;
@@ -12,25 +13,47 @@ use std::io::{ErrorKind, Write};
 use watch_program::{Fault, write_now};
 
 /// Takes the file's text, or the error with which it could not be read, and prints what
-/// [`Reloader::reload`] says of the text. A file that can't be read is as one whose text is refused.
+/// [`Reloader::reload`] says of the text. A file that can't be read is as one whose text is refused. After an error a
+/// beginning of the lines was printed, or nothing was done.
 pub fn take_reading<O: Write>(
     alloc: Global,
     reloader: &mut Reloader,
     reading: io::Result<String>,
     out: &mut O,
 ) -> Result<(), Fault>
-    ensures read { IfOk reading (λ text. OnOk result
-        (Prints (O.contents out.old) (O.contents out.new)
-        (Follows (string_bytes text) reloader.old.in_force reloader.new.in_force))) }
-    ensures unread { IfErr reading (λ _. OnOk result
-        (Prints (O.contents out.old) (O.contents out.new) IsComplaint)) }
+    ensures read { Shows (given_by reading) reloader.old (O.contents out.old) result
+        reloader.new (O.contents out.new) }
     ensures unchanged { IfErr reading (λ _. reloader.new ≡ reloader.old) }
     ensures err { IfErr result (λ e. (e ≡ Memory) ⊎ (e ≡ OutputFailed)) }
 {
-    let lines = match reading {
-        Ok(text) => reloader.reload(alloc, text.as_str())?,
-        Err(error) => unread(alloc, &error)?,
-    };
+    match reading {
+        Ok(text) => take_text(alloc, reloader, text.as_str(), out),
+        Err(error) => print_unread(alloc, &error, out),
+    }
+}
+
+/// Takes the file's text.
+fn take_text<O: Write>(
+    alloc: Global,
+    reloader: &mut Reloader,
+    text: &str,
+    out: &mut O,
+) -> Result<(), Fault>
+    ensures read { Shows (Some text.now) reloader.old (O.contents out.old) result
+        reloader.new (O.contents out.new) }
+    ensures err { IfErr result (λ e. (e ≡ Memory) ⊎ (e ≡ OutputFailed)) }
+{
+    let lines = reloader.reload(alloc, text)?;
+    write_now(lines.as_slice(), out)
+}
+
+/// Prints that the file could not be read, so that what is in force stays.
+fn print_unread<O: Write>(alloc: Global, error: &io::Error, out: &mut O) -> Result<(), Fault>
+    ensures read { (in_force : Reloader) → Shows None in_force (O.contents out.old) result in_force
+        (O.contents out.new) }
+    ensures err { IfErr result (λ e. (e ≡ Memory) ⊎ (e ≡ OutputFailed)) }
+{
+    let lines = unread(alloc, error)?;
     write_now(lines.as_slice(), out)
 }
 

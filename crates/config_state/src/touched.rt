@@ -2,9 +2,11 @@
 ghost use Rattle.std.specs.Prelude.{◌≡◌, ◌↔◌, IsTrue};
 ghost use Rattle.std.specs.List.{list_any};
 ghost use Rattle.notify_paths.specs.Path.{is_prefix};
+ghost use Rattle.config_state.specs.Readings.{ReadingsFollowChanges};
 ghost use Rattle.config_state.specs.Reloads.{RunsReadEachChange, RunsReadEachChangeByEnd};
 ghost use Rattle.config_state.specs.Touched.{touches, Touches, HasChange};
 
+use crate::files::ReadsText;
 use file_id_cache::cache::FileIdCache;
 use notify_paths::path::PathBuf;
 use notify_types::event::DebouncedEvent;
@@ -61,3 +63,15 @@ pub fn law_of_reloads<C: FileIdCache<A>, A: Allocator>()
 pub fn law_of_reloads_by_end<C: FileIdCache<A>, A: Allocator>()
     ensures { RunsReadEachChangeByEnd C.rules }
 {}
+
+/// Does nothing. By its contract each change of a file that a debouncer accepts, in a run as of [`law_of_reloads`], is
+/// followed by a reading of a program that takes each batch and then the outlook, and reads the file as a [`Follower`]
+/// does: at first, and after each batch that may be about the file. Or a later removal took the file or a folder above it
+/// away.
+///
+/// [`Follower`]: crate::Follower
+pub fn law_of_readings<C: FileIdCache<A>, A: Allocator, F: ReadsText>()
+    ensures { ReadingsFollowChanges C.rules F.gives }
+{
+    law_of_reloads_by_end::<C, A>();
+}

@@ -1,8 +1,7 @@
 -- What each step under the lock does to the history.
 use Rattle.std.proofs.Common.{◌≡◌, inl, inr, ℕ, ◌+◌, Bool, true, false, if◌then◌else◌, List, [], ◌∷◌, ◌++◌, Option, Some, None, Result, Ok, Err, OnOk, OnErr, IfErr, IfOk, sym, refl, ap, ◌∙◌, subst, ⊎_elim, append_assoc, append-nil, arith}
-use Rattle.std.proofs.Math.Nat.{mod-add-mod}
 use Rattle.std.specs.Option.{option_or, option_map}
-use Rattle.std.specs.Prelude.{◌%◌, ◌^◌, is_some, unwrap_or}
+use Rattle.std.specs.Prelude.{◌-◌, ◌^◌, min, is_some, unwrap_or}
 use Rattle.std.specs.declared.vec.Vec.{Vec}
 use Rattle.notify_paths.specs.Errors.{ErrorValue, out_of_memory}
 use Rattle.notify_paths.specs.Path.{PathValue}
@@ -95,6 +94,10 @@ kept_journal timeout (Some es) p out log none first opened rest = ap (λ (l : Hi
 kept_journal timeout None p out log none first opened rest = sym (whole_journal timeout false log
     (subst (λ (k : Option Entries). BeginsAs timeout (is_some k) log) none opened))
 
+-- a count that goes no further than its top, after one more
+capped : (n count all top : ℕ) → count ≡ min n top → all ≡ n + 1 → min (count + 1) top ≡ min all top
+capped n count all top is more = omega arith
+
 -- the part that begins once all entries are out
 abbrev emptied : Option Entries → Option Entries
 emptied k = option_map (λ es. []) k
@@ -122,7 +125,7 @@ module _ {C : Type 0} where
               (rest_more old.journal old.part (entries_of out) (entries_of log) e led.rest);
           legal = subst (λ (l : Entries). IsLegal l new.core.state) (sym entries)
               (IsLegal-append (entries_of log) old.core.state new.core.state e led.legal accepts);
-          missed = led.missed ∙ ap (λ n. n % 2 ^ 64) (sym missed);
+          missed = led.missed ∙ ap (λ n. min n (2 ^ 64 - 1)) (sym missed);
         },
         λ none. done.2 ∙ ap (λ (p : Option Entries). with_entry p e) (whole none),
       )
@@ -264,7 +267,7 @@ module _ {C : Type 0} where
 
   -- .. and by what is missed
   pub miss_stands : (book : Kept C) (count : ℕ) (out log : History) → Stands book count out log
-      → Stands book ((count + 1) % 2 ^ 64) out (log ++ Missed ∷ [])
+      → Stands book (min (count + 1) (2 ^ 64 - 1)) out (log ++ Missed ∷ [])
   miss_stands book count out log (led, whole) =
       let more : History = Missed ∷ [] in
       let entries : entries_of (log ++ more) ≡ entries_of log = entries_append log more ∙ append-nil (entries_of log) in
@@ -273,8 +276,7 @@ module _ {C : Type 0} where
           opened = begins_more _ _ log more led.opened;
           rest = subst (λ (l : Entries). IsRest (kept_entries book) (entries_of out) l) (sym entries) led.rest;
           legal = subst (λ (l : Entries). IsLegal l book.core.state) (sym entries) led.legal;
-          missed = ap (λ n. (n + 1) % 2 ^ 64) led.missed ∙ mod-add-mod (missed_in log) (2 ^ 64) 1
-              ∙ ap (λ n. n % 2 ^ 64) (sym missed);
+          missed = capped (missed_in log) count (missed_in (log ++ more)) (2 ^ 64 - 1) led.missed missed;
         },
         whole,
       )
@@ -291,7 +293,7 @@ module _ {C : Type 0} where
 
       by : (k : Option Entries) (l : History) → BeginsAs old.core.state.timeout (is_some k) l
           → IsRest k (entries_of out) (entries_of l) → IsLegal (entries_of l) old.core.state → count
-          ≡ missed_in l % 2 ^ 64
+          ≡ min (missed_in l) (2 ^ 64 - 1)
           → (LeadsTo (record old { journal = None; part = emptied k }) count (entries_of (all_out (emptied k) out l)) l
           × (all_out (emptied k) out l ≡ [] → emptied k ≡ None))
           × (entries_of (all_out (emptied k) out l) ≡ entries_of out ++ unwrap_or k [])

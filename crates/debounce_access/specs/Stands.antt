@@ -1,5 +1,5 @@
 -- The history of a book under its lock, and what each that reaches the book knows of it.
-use Rattle.std.specs.Prelude.{◌≡◌, ◌%◌, ◌^◌, ℕ, Bool, true, List, [], ◌∷◌, ◌++◌, Option, Some, None, is_some}
+use Rattle.std.specs.Prelude.{◌≡◌, ◌-◌, ◌^◌, min, ℕ, Bool, true, List, [], ◌∷◌, ◌++◌, Option, Some, None, is_some}
 use Rattle.atomic_table.specs.Seated.{TableId}
 use Rattle.told_lock.specs.Passes.{Pass, view}
 use Rattle.debounce_book.specs.Book.{Kept, kept_entries}
@@ -18,12 +18,13 @@ abbrev pub IsRest : Option (List EntryValue) → List EntryValue → List EntryV
 IsRest None parts all = parts ≡ []
 IsRest (Some kept) parts all = parts ++ kept ≡ all
 
--- the history leads to this book, out of whose journal these parts were taken, and to this count of what was missed
+-- the history leads to this book, out of whose journal these parts were taken, and to this count of what was missed,
+-- which counts no further than 2^64 - 1
 pub record LeadsTo {C : Type 0} (book : Kept C) (count : ℕ) (parts : List EntryValue) (log : History) : Type 0 where
   pub opened : BeginsAs book.core.state.timeout (is_some (kept_entries book)) log
   pub rest : IsRest (kept_entries book) parts (entries_of log)
   pub legal : IsLegal (entries_of log) book.core.state
-  pub missed : count ≡ missed_in log % 2 ^ 64
+  pub missed : count ≡ min (missed_in log) (2 ^ 64 - 1)
 
 -- .. where the entries of this beginning of it were taken out. A journal of which nothing was is whole
 abbrev pub Stands : {C : Type 0} → Kept C → ℕ → History → History → Type 0

@@ -136,7 +136,7 @@ impl<C: Drop, A: Allocator> Access<C, A> {
     {
         let Access { lock, pass } = self;
         let (guard, mut held) = lock.take(rt, pass);
-        held.missed = held.missed.wrapping_add(1);
+        held.missed = held.missed.saturating_add(1);
         held.made = Shown::of(&Made::Missed);
         lock.give::<Goes>(guard, pass, held);
     }

@@ -8,7 +8,7 @@ use told_lock::lock::Lock;
 use told_lock::shown::Shown;
 
 /// A book, how much was missed, and the last step that `Goes` gave back, also if it was refused: from it follows
-/// what the history gains. After 2^64 - 1 the count begins again at 0.
+/// what the history gains. The count goes no further than 2^64 - 1.
 #[derive(Drop)]
 pub struct Locked<C: Drop, A: Allocator> {
     /// Boxed, as the lock moves what it guards.

@@ -4,22 +4,23 @@ use Rattle.std.specs.Prelude.{◌≡◌, ◌⊎◌, ◌+◌, ⊤, ℕ, Bool, tru
 use Rattle.notify_types.specs.Event.{Timed}
 use Rattle.notify_paths.specs.Errors.{ErrorValue}
 use Rattle.notify_paths.specs.PathText.{parts_of}
-use Rattle.debounce_model.specs.Cache.{no_numbers}
 use Rattle.debounce_model.specs.Calls.{recursive_mode}
 use Rattle.debounce_model.specs.Step.{IsTaken}
 use Rattle.debounce_model.specs.Tick.{is_due}
+use Rattle.numbered_core.specs.Numbers.{number_at, said_numbers}
 use Rattle.debounce_desk.specs.Answers.{Answers}
-use Rattle.debounce_desk.specs.Calls.{Makes, Notes, Unwatches, Watches}
+use Rattle.debounce_desk.specs.Calls.{Forgets, Makes, Notes, Says, Unwatches, Watches}
 use Rattle.debounce_desk.specs.Codes.{fault_code}
 use Rattle.debounce_desk.specs.Desk.{DeskValue, IsAsked, IsForeseen, IsOpened, IsTicked}
 use Rattle.debounce_desk.specs.Faults.{batch_fault, error_fault, errors_fault, event_fault, event_needs, next_error_fault, next_fault, no_fault, text_fault}
-use Rattle.debounce_desk.specs.Said.{error_of, event_of, mode_of}
-use Rattle.debounce_desk.specs.Tells.{LeavesErrorTold, LeavesTold, Tells, TellsCounts, TellsError, error_texts, texts_of, written}
+use Rattle.debounce_desk.specs.Said.{error_of, event_of, id_of, mode_of}
+use Rattle.debounce_desk.specs.Tells.{LeavesErrorTold, LeavesTold, Tells, TellsCounts, TellsError, TellsNumber, error_texts, texts_of, written}
 use Rattle.debounce_desk.specs.declared.fault.Fault.{Fault}
 use Rattle.debounce_desk.specs.declared.fault.Fault.TheVariants.{NoMemory}
 use Rattle.debounce_desk.specs.declared.records.Attributes.{Attributes}
 use Rattle.debounce_desk.specs.declared.records.Change.{Change}
 use Rattle.debounce_desk.specs.declared.records.Counts.{Counts}
+use Rattle.debounce_desk.specs.declared.records.Number.{Number}
 use Rattle.debounce_desk.specs.declared.records.Told.{Told}
 use Rattle.debounce_desk.specs.declared.records.ToldError.{ToldError}
 
@@ -45,12 +46,27 @@ abbrev pub IsModeTold : ℕ → List ℕ → Bool → Bool → Option DeskValue 
 IsModeTold code path before after = Answers code (λ s. text_fault path) (λ s. true) (λ s t.
     (mode_of after ≡ recursive_mode s.core.state (parts_of path)) × (t ≡ s)) (λ f. after ≡ before)
 
+-- the path has this file number
+abbrev pub IsNumbered : ℕ → List ℕ → ℕ → ℕ → Option DeskValue → Option DeskValue → Type 0
+IsNumbered code path device inode = Answers code (λ s. text_fault path) (λ s. true)
+    (Makes (Says (parts_of path) (id_of device inode))) (λ f. ⊤)
+
+-- the path has no file number, nor has what lies below it
+abbrev pub IsForgotten : ℕ → List ℕ → Option DeskValue → Option DeskValue → Type 0
+IsForgotten code path = Answers code (λ s. text_fault path) (λ s. true)
+    (Makes (Forgets (parts_of path))) (λ f. ⊤)
+
+-- the file number of a path was told
+abbrev pub IsNumberTold : ℕ → List ℕ → Number → Number → Option DeskValue → Option DeskValue → Type 0
+IsNumberTold code path before after = Answers code (λ s. text_fault path) (λ s. true) (λ s t.
+    TellsNumber (number_at s.core.cache (parts_of path)) after × (t ≡ s)) (λ f. after ≡ before)
+
 -- the event was taken: what `Makes` says of one that is fed, written out
 abbrev pub IsFed : ℕ → Change → Attributes → List ℕ → List ℕ → List ℕ → List ℕ → Option DeskValue → Option DeskValue
     → Type 0
 IsFed code c a first second info source =
     Answers code (event_fault c a first second info source) (λ s. event_needs c a) (λ s t.
-    IsTaken no_numbers s.core (event_of c a first second info source) c.moment c.exists t.core
+    IsTaken said_numbers s.core (event_of c a first second info source) c.moment c.exists t.core
     × (t ≡ record s { core = t.core })) (λ f. ⊤)
 
 -- the error was kept

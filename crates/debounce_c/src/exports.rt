@@ -1,6 +1,6 @@
 //! The functions that C calls.
 ghost use Rattle.std.specs.Prelude.{◌≡◌, [], None, Some};
-ghost use Rattle.debounce_c.specs.Exports.{AreCountsTold, IsErrorTold, IsErrorsAnswered, IsFed, IsMade, IsModeTold, IsNoted, IsOutlookAnswered, IsTickAnswered, IsTold, IsUnwatched, IsWatched};
+ghost use Rattle.debounce_c.specs.Exports.{AreCountsTold, IsErrorTold, IsErrorsAnswered, IsFed, IsForgotten, IsMade, IsModeTold, IsNoted, IsNumberTold, IsNumbered, IsOutlookAnswered, IsTickAnswered, IsTold, IsUnwatched, IsWatched};
 ghost use Rattle.debounce_desk.specs.Faults.{counts_fault};
 ghost use Rattle.debounce_desk.specs.Said.{no_attributes};
 
@@ -8,7 +8,7 @@ use crate::handle::Handle;
 use debounce_desk::calls;
 use debounce_desk::desk::Desk;
 use debounce_desk::fault::{Fault, code_of};
-use debounce_desk::records::{Attributes, Change, Counts, Told, ToldError};
+use debounce_desk::records::{Attributes, Change, Counts, Number, Told, ToldError};
 use std::alloc::Global;
 
 /// Makes a debouncer that waits for nothing, and emits an event once it is as old as the timeout, in
@@ -93,6 +93,56 @@ pub extern "C" fn ndf_mode(h: &mut Handle, alloc: Global, path: &[u8], recursive
         return Fault::Empty.code();
     };
     let code = code_of(calls::tell_mode(&mut desk, alloc, path, recursive));
+    h.put(desk);
+    code
+}
+
+/// The path's file has this number from now on.
+#[unsafe(no_mangle)]
+pub extern "C" fn ndf_number(
+    h: &mut Handle,
+    alloc: Global,
+    path: &[u8],
+    device: u64,
+    inode: u64,
+) -> u32
+    ensures { IsNumbered result path.now device inode h.old.sealed.desk h.new.sealed.desk }
+{
+    let Some(mut desk) = h.take(alloc) else {
+        return Fault::Empty.code();
+    };
+    let code = code_of(calls::set_number(&mut desk, alloc, path, device, inode));
+    h.put(desk);
+    code
+}
+
+/// The path has no file number any longer, nor has what lies below it.
+#[unsafe(no_mangle)]
+pub extern "C" fn ndf_forget(h: &mut Handle, alloc: Global, path: &[u8]) -> u32
+    ensures { IsForgotten result path.now h.old.sealed.desk h.new.sealed.desk }
+{
+    let Some(mut desk) = h.take(alloc) else {
+        return Fault::Empty.code();
+    };
+    let code = code_of(calls::forget(&mut desk, alloc, path));
+    h.put(desk);
+    code
+}
+
+/// Tells the number of a path's file.
+#[unsafe(no_mangle)]
+pub extern "C" fn ndf_number_of(
+    h: &mut Handle,
+    alloc: Global,
+    path: &[u8],
+    told: &mut Number,
+) -> u32
+    ensures { IsNumberTold result path.now told.old told.new h.old.sealed.desk h.new.sealed.desk }
+{
+    let Some(mut desk) = h.take(alloc) else {
+        return Fault::Empty.code();
+    };
+    let code = code_of(calls::tell_number(&mut desk, alloc, path, told));
     h.put(desk);
     code
 }

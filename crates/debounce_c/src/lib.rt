@@ -16,4 +16,5 @@
 
 pub mod exports;
 pub mod handle;
+pub mod programs;
 mod sealed;

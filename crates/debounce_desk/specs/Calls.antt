@@ -1,24 +1,26 @@
 -- What C's calls make of a debouncer, and what calls that were made in turn are to its core: a run, of which the laws
 -- hold. Assumes nothing: these are definitions.
-use Rattle.std.specs.Prelude.{◌≡◌, ℕ, Bool, true, false, List, [], ◌∷◌, ◌++◌}
+use Rattle.std.specs.Prelude.{◌≡◌, ℕ, Bool, true, false, not, List, [], ◌∷◌, ◌++◌}
+use Rattle.std.specs.List.{list_all}
 use Rattle.notify_paths.specs.Errors.{ErrorValue}
 use Rattle.notify_paths.specs.Path.{PathValue}
 use Rattle.notify_types.specs.Event.{EventValue}
 use Rattle.notify_types.specs.declared.event.RecursiveMode.{RecursiveMode}
-use Rattle.debounce_model.specs.Cache.{no_numbers}
 use Rattle.debounce_model.specs.Command.{CommandValue, EventCommand, ErrorCommand, RootCommand, UnrootCommand, ErrorsCommand, TickCommand, ReplyValue, TakenReply, NotedReply, RootedReply, UnrootedReply, ErrorsReply, BatchReply}
 use Rattle.debounce_model.specs.Flood.{FloodsNowhere}
 use Rattle.debounce_model.specs.Founded.{IsNoneInvented}
 use Rattle.debounce_model.specs.Kept.{has_rename, is_kept}
 use Rattle.debounce_model.specs.PathsLaw.{LeavesRawPaths}
-use Rattle.debounce_model.specs.Run.{Run}
+use Rattle.debounce_model.specs.Run.{Run, Step}
 use Rattle.debounce_model.specs.Soon.{is_soon}
-use Rattle.debounce_model.specs.State.{with_error, with_state}
+use Rattle.debounce_model.specs.State.{Core, with_error, with_state}
 use Rattle.debounce_model.specs.Step.{IsRooted, IsTaken, IsUnrooted}
+use Rattle.debounce_model.specs.declared.file_id.FileId.{FileId}
+use Rattle.numbered_core.specs.Numbers.{Numbers, said_numbers, with_number, with_numbers, without_numbers}
 use Rattle.debounce_desk.specs.Desk.{DeskValue, IsAsked, IsOpened, IsTicked}
 
 -- a call that did what it says: it fed an event, kept an error, watched or unwatched a path, asked for the errors,
--- made a tick; or it read what there was, as all others do
+-- made a tick; it said a file number, or took out those at a path; or it read what there was, as all others do
 pub data CallValue : Type 0 where
   Feeds : (event : EventValue) → (now : ℕ) → (exists : Bool) → CallValue
   Notes : (error : ErrorValue) → CallValue
@@ -26,17 +28,23 @@ pub data CallValue : Type 0 where
   Unwatches : (path : PathValue) → CallValue
   Asks : CallValue
   Ticks : (now : ℕ) → CallValue
+  Says : (path : PathValue) → (id : FileId) → CallValue
+  Forgets : (path : PathValue) → CallValue
   Reads : CallValue
 
 -- what a call makes of a debouncer
 abbrev pub Makes : CallValue → DeskValue → DeskValue → Type 0
 Makes (Feeds event now exists) s t =
-    IsTaken no_numbers s.core event now exists t.core × (t ≡ record s { core = t.core })
+    IsTaken said_numbers s.core event now exists t.core × (t ≡ record s { core = t.core })
 Makes (Notes error) s t = t ≡ record s { core = with_state s.core (with_error s.core.state error) }
-Makes (Watches path mode) s t = IsRooted no_numbers s.core path mode t.core × (t ≡ record s { core = t.core })
-Makes (Unwatches path) s t = IsUnrooted no_numbers s.core path t.core × (t ≡ record s { core = t.core })
+Makes (Watches path mode) s t = IsRooted said_numbers s.core path mode t.core × (t ≡ record s { core = t.core })
+Makes (Unwatches path) s t = IsUnrooted said_numbers s.core path t.core × (t ≡ record s { core = t.core })
 Makes Asks s t = (many : ℕ) × IsAsked s many t
 Makes (Ticks now) s t = (many : ℕ) × IsTicked s now many t
+Makes (Says path id) s t =
+    t ≡ record s { core = with_numbers s.core (with_number s.core.cache path id) }
+Makes (Forgets path) s t =
+    t ≡ record s { core = with_numbers s.core (without_numbers s.core.cache path) }
 Makes Reads s t = t.core ≡ s.core
 
 -- the core's command that a call is, if it is one
@@ -47,6 +55,8 @@ command_of (Watches path mode) = RootCommand path mode ∷ []
 command_of (Unwatches path) = UnrootCommand path ∷ []
 command_of Asks = ErrorsCommand ∷ []
 command_of (Ticks now) = TickCommand now ∷ []
+command_of (Says path id) = []
+command_of (Forgets path) = []
 command_of Reads = []
 
 -- the core's reply to it, by what the call left: of a tick the batch that C reads then, of a call for the errors those
@@ -57,6 +67,8 @@ reply_to (Watches path mode) t = RootedReply ∷ []
 reply_to (Unwatches path) t = UnrootedReply ∷ []
 reply_to Asks t = ErrorsReply t.errors ∷ []
 reply_to (Ticks now) t = BatchReply t.batch ∷ []
+reply_to (Says path id) t = []
+reply_to (Forgets path) t = []
 reply_to Reads t = []
 
 -- the core's commands that calls are
@@ -71,10 +83,35 @@ MakesAll (call ∷ calls) replies s t =
     (m : DeskValue) × (rest : List ReplyValue)
     × (replies ≡ reply_to call m ++ rest) × Makes call s m × MakesAll calls rest m t
 
--- calls that were made in turn are a run of the core
+-- a call that changes the numbers
+abbrev pub changes_numbers : CallValue → Bool
+changes_numbers (Says path id) = true
+changes_numbers (Forgets path) = true
+changes_numbers call = false
+
+-- calls that were made in turn, none of which changed the numbers, are a run of the core
 abbrev pub CallsAreARun : Type 0
-CallsAreARun = (calls : List CallValue) (replies : List ReplyValue) (s t : DeskValue) → MakesAll calls replies s t →
-    Run no_numbers s.core (commands_of calls) replies t.core
+CallsAreARun = (calls : List CallValue) (replies : List ReplyValue) (s t : DeskValue) →
+    list_all (λ call. not (changes_numbers call)) calls ≡ true → MakesAll calls replies s t →
+    Run said_numbers s.core (commands_of calls) replies t.core
+
+-- only the numbers may have changed
+abbrev pub IsRenumbered : Core Numbers → Core Numbers → Type 0
+IsRenumbered s t = t ≡ with_numbers s t.cache
+
+-- a run between whose steps, and at whose end, the numbers may change
+abbrev pub RunsBetween : Core Numbers → List CommandValue → List ReplyValue → Core Numbers → Type 0
+RunsBetween s [] [] t = IsRenumbered s t
+RunsBetween s [] (reply ∷ replies) t = ⊥
+RunsBetween s (command ∷ commands) [] t = ⊥
+RunsBetween s (command ∷ commands) (reply ∷ replies) t =
+    (k m : Core Numbers)
+    × IsRenumbered s k × Step said_numbers k command reply m × RunsBetween m commands replies t
+
+-- calls that were made in turn are such a run
+abbrev pub CallsAreARunBetween : Type 0
+CallsAreARunBetween = (calls : List CallValue) (replies : List ReplyValue) (s t : DeskValue) →
+    MakesAll calls replies s t → RunsBetween s.core (commands_of calls) replies t.core
 
 -- of all calls of a debouncer, from the one that made it
 abbrev pub OfCalls : (List CommandValue → List ReplyValue → DeskValue → DeskValue → Type 0) → Type 0

@@ -5,12 +5,12 @@ use Rattle.notify_paths.specs.Errors.{ErrorValue}
 use Rattle.notify_types.specs.Event.{Timed}
 use Rattle.debounce_model.specs.State.{Core, counted_state, with_state, without_errors}
 use Rattle.debounce_model.specs.Tick.{IsBatch, IsOnlyBatch, IsOutlook, IsOnlyOutlook, after_tick}
-use Rattle.file_id_cache.specs.declared.cache.NoCache.{NoCache}
+use Rattle.numbered_core.specs.Numbers.{Numbers}
 
--- a debouncer without file numbers; the last batch, of which so many events were read; and the errors that were
--- last asked for, of which so many were read
+-- a debouncer, with the file numbers that C said; the last batch, of which so many events were read; and the errors
+-- that were last asked for, of which so many were read
 pub record DeskValue : Type 0 where
-  pub core : Core NoCache
+  pub core : Core Numbers
   pub batch : List Timed
   pub read : ℕ
   pub errors : List ErrorValue
@@ -19,6 +19,7 @@ pub record DeskValue : Type 0 where
 -- a debouncer that waits for nothing, with nothing to be read
 pub record IsOpened (timeout taken given : ℕ) (t : DeskValue) : Type 0 where
   pub state : t.core.state ≡ counted_state timeout taken given
+  pub numbers : t.core.cache ≡ []
   pub answer : t.core.answer ≡ None
   pub visited : t.core.visited ≡ 0
   pub batch : t.batch ≡ []

@@ -12,6 +12,7 @@ use Rattle.notify_types.specs.declared.kind.EventKind.{EventKind}
 use Rattle.notify_types.specs.declared.kind.EventKind.TheVariants as kind
 use Rattle.notify_types.specs.Event.{EventValue}
 use Rattle.notify_types.specs.Kinds.{kinds}
+use Rattle.debounce_model.specs.declared.file_id.FileId.{FileId}
 use Rattle.debounce_desk.specs.declared.records.Attributes.{Attributes}
 use Rattle.debounce_desk.specs.declared.records.Change.{Change}
 
@@ -64,6 +65,10 @@ error_kind_of number text =
 -- the error that C means
 abbrev pub error_of : ℕ → Bool → List ℕ → List ℕ → ErrorValue
 error_of number has_path text path = record { kind = error_kind_of number text; paths = path_if has_path path }
+
+-- the file number that C means
+abbrev pub id_of : ℕ → ℕ → FileId
+id_of device inode = record { device = device; number = inode }
 
 -- no further attributes
 abbrev pub no_attributes : Attributes

@@ -6,10 +6,12 @@ use Rattle.notify_paths.specs.PathText.{text_of}
 use Rattle.notify_types.specs.Event.{Timed}
 use Rattle.notify_types.specs.KindNumbers.{kind_number}
 use Rattle.debounce_model.specs.State.{waiting}
+use Rattle.debounce_model.specs.declared.file_id.FileId.{FileId}
 use Rattle.debounce_desk.specs.Desk.{DeskValue}
 use Rattle.debounce_desk.specs.declared.fault.Fault.{Fault}
 use Rattle.debounce_desk.specs.declared.fault.Fault.TheVariants.{TooShort}
 use Rattle.debounce_desk.specs.declared.records.Counts.{Counts}
+use Rattle.debounce_desk.specs.declared.records.Number.{Number}
 use Rattle.debounce_desk.specs.declared.records.Told.{Told}
 use Rattle.debounce_desk.specs.declared.records.ToldError.{ToldError}
 
@@ -97,6 +99,22 @@ abbrev pub LeavesErrorTold : Fault → Option ErrorValue → ToldError → ToldE
 LeavesErrorTold TooShort e before after = IfSome e (λ e. TellsError e after)
 LeavesErrorTold f e before after = after ≡ before
 
+-- the device of a file number, if there is one
+abbrev pub device_of : Option FileId → ℕ
+device_of None = 0
+device_of (Some id) = id.device
+
+-- the number on its device
+abbrev pub inode_of : Option FileId → ℕ
+inode_of None = 0
+inode_of (Some id) = word id.number
+
+-- a file number, if there is one
+pub record TellsNumber (id : Option FileId) (t : Number) : Type 0 where
+  pub known : t.known ≡ is_some id
+  pub device : t.device ≡ device_of id
+  pub inode : t.inode ≡ inode_of id
+
 -- the counts of a debouncer
 pub record TellsCounts (s : DeskValue) (t : Counts) : Type 0 where
   pub taken : t.taken ≡ s.core.state.taken
@@ -106,3 +124,4 @@ pub record TellsCounts (s : DeskValue) (t : Counts) : Type 0 where
   pub latest : t.latest ≡ word s.core.state.latest
   pub timeout : t.timeout ≡ word s.core.state.timeout
   pub errors : t.errors ≡ length s.core.state.errors
+  pub numbers : t.numbers ≡ length s.core.cache

@@ -3,29 +3,30 @@ ghost use Rattle.std.specs.Prelude.{◌≡◌, ◌+◌, ⊤, Some, true, false, 
 ghost use Rattle.notify_paths.specs.PathText.{parts_of};
 ghost use Rattle.notify_types.specs.Event.{Timed};
 ghost use Rattle.notify_paths.specs.Errors.{ErrorValue};
-ghost use Rattle.debounce_model.specs.Cache.{no_numbers};
 ghost use Rattle.debounce_model.specs.Calls.{recursive_mode};
 ghost use Rattle.debounce_model.specs.State.{with_state, with_error};
 ghost use Rattle.debounce_model.specs.Step.{IsTaken, IsRooted, IsUnrooted};
 ghost use Rattle.debounce_model.specs.Tick.{is_due};
+ghost use Rattle.numbered_core.specs.Numbers.{number_at, said_numbers, with_number, with_numbers, without_numbers};
 ghost use Rattle.debounce_desk.specs.Answers.{Outcome};
 ghost use Rattle.debounce_desk.specs.Desk.{IsAsked, IsForeseen, IsTicked};
 ghost use Rattle.debounce_desk.specs.Faults.{batch_fault, error_fault, errors_fault, event_fault, event_needs, next_error_fault, next_fault, text_fault};
-ghost use Rattle.debounce_desk.specs.Said.{error_of, event_of, mode_of};
-ghost use Rattle.debounce_desk.specs.Tells.{LeavesErrorTold, LeavesTold, Tells, TellsError, error_texts, texts_of, written};
+ghost use Rattle.debounce_desk.specs.Said.{error_of, event_of, id_of, mode_of};
+ghost use Rattle.debounce_desk.specs.Tells.{LeavesErrorTold, LeavesTold, Tells, TellsError, TellsNumber, error_texts, texts_of, written};
 
 use crate::desk::Desk;
 use crate::fault::Fault;
 use crate::reading::{are_texts, error_of, event_of, is_text, is_text_if, mode_of, path_of};
-use crate::records::{Attributes, Change, Told, ToldError};
-use crate::telling::{tell, tell_error};
+use crate::records::{Attributes, Change, Number, Told, ToldError};
+use crate::telling::{number_told, tell, tell_error};
+use debounce_model::file_id::FileId;
 use notify_types::event::RecursiveMode;
 use std::alloc::Global;
 
 /// Watches a path.
 pub fn watch(desk: &mut Desk, alloc: Global, bytes: &[u8], recursive: bool) -> Result<(), Fault>
     ensures { Outcome result (text_fault bytes.now) true (λ t.
-        IsRooted no_numbers desk.old.core (parts_of bytes.now) (mode_of recursive) t.core
+        IsRooted said_numbers desk.old.core (parts_of bytes.now) (mode_of recursive) t.core
         × (t ≡ record desk.old { core = t.core })) (λ f. ⊤) desk.old desk.new }
 {
     if !is_text(bytes) {
@@ -40,7 +41,7 @@ pub fn watch(desk: &mut Desk, alloc: Global, bytes: &[u8], recursive: bool) -> R
 /// Watches a path no longer.
 pub fn unwatch(desk: &mut Desk, alloc: Global, bytes: &[u8]) -> Result<(), Fault>
     ensures { Outcome result (text_fault bytes.now) true (λ t.
-        IsUnrooted no_numbers desk.old.core (parts_of bytes.now) t.core
+        IsUnrooted said_numbers desk.old.core (parts_of bytes.now) t.core
         × (t ≡ record desk.old { core = t.core })) (λ f. ⊤) desk.old desk.new }
 {
     if !is_text(bytes) {
@@ -69,6 +70,74 @@ pub fn tell_mode(
     match path_of(alloc, bytes) {
         Ok(path) => {
             *recursive = is_recursive(desk.mode(&path));
+            Ok(())
+        }
+        Err(fault) => Err(fault),
+    }
+}
+
+/// The path has this number from now on.
+pub fn set_number(
+    desk: &mut Desk,
+    alloc: Global,
+    bytes: &[u8],
+    device: u64,
+    inode: u64,
+) -> Result<(), Fault>
+    ensures { Outcome result (text_fault bytes.now) true (λ t. t ≡ record desk.old {
+      core = with_numbers desk.old.core
+          (with_number desk.old.core.cache (parts_of bytes.now) (id_of device inode));
+    }) (λ f. ⊤) desk.old desk.new }
+{
+    if !is_text(bytes) {
+        return Err(Fault::NotText);
+    }
+    let id = FileId {
+        device,
+        number: inode as u128,
+    };
+    match path_of(alloc, bytes) {
+        Ok(path) => desk.set_number(path, id),
+        Err(fault) => Err(fault),
+    }
+}
+
+/// The path has no number any longer, nor has what lies below it.
+pub fn forget(desk: &mut Desk, alloc: Global, bytes: &[u8]) -> Result<(), Fault>
+    ensures { Outcome result (text_fault bytes.now) true (λ t. t ≡ record desk.old {
+      core = with_numbers desk.old.core
+          (without_numbers desk.old.core.cache (parts_of bytes.now));
+    }) (λ f. ⊤) desk.old desk.new }
+{
+    if !is_text(bytes) {
+        return Err(Fault::NotText);
+    }
+    match path_of(alloc, bytes) {
+        Ok(path) => {
+            desk.forget(&path);
+            Ok(())
+        }
+        Err(fault) => Err(fault),
+    }
+}
+
+/// Tells the number of a path.
+pub fn tell_number(
+    desk: &mut Desk,
+    alloc: Global,
+    bytes: &[u8],
+    told: &mut Number,
+) -> Result<(), Fault>
+    ensures { Outcome result (text_fault bytes.now) true (λ t.
+        TellsNumber (number_at desk.old.core.cache (parts_of bytes.now)) told.new
+        × (t ≡ desk.old)) (λ f. told.new ≡ told.old) desk.old desk.new }
+{
+    if !is_text(bytes) {
+        return Err(Fault::NotText);
+    }
+    match path_of(alloc, bytes) {
+        Ok(path) => {
+            *told = number_told(desk.number(&path));
             Ok(())
         }
         Err(fault) => Err(fault),
@@ -125,7 +194,7 @@ pub fn feed(
 ) -> Result<(), Fault>
     ensures { Outcome result
         (event_fault change.now attributes.now first.now second.now info.now source.now desk.old)
-        (event_needs change.now attributes.now) (λ t. IsTaken no_numbers desk.old.core
+        (event_needs change.now attributes.now) (λ t. IsTaken said_numbers desk.old.core
         (event_of change.now attributes.now first.now second.now info.now source.now)
         change.now.moment change.now.exists t.core
         × (t ≡ record desk.old { core = t.core })) (λ f. ⊤) desk.old desk.new }

@@ -1,12 +1,12 @@
 //! What a handle holds: a debouncer, and the batch and the errors that C reads.
 ghost use Rattle.std.specs.Prelude.{◌≡◌, ◌≢◌, ◌<◌, ◌≤◌, ◌+◌, ◌-◌, ◌^◌, ◌==◌, length, nat_lt, slice_get, IfOk, IfErr, OnOk, true, false};
 ghost use Rattle.std.specs.Option.{option_copied};
-ghost use Rattle.debounce_model.specs.Cache.{no_numbers};
 ghost use Rattle.debounce_model.specs.Calls.{recursive_mode};
 ghost use Rattle.debounce_model.specs.Memory.{takes_no_memory};
 ghost use Rattle.debounce_model.specs.State.{with_error, with_state};
 ghost use Rattle.debounce_model.specs.Step.{IsTaken, IsRooted, IsUnrooted};
 ghost use Rattle.debounce_model.specs.Tick.{is_due};
+ghost use Rattle.numbered_core.specs.Numbers.{number_at, said_numbers, with_number, with_numbers, without_numbers};
 ghost use Rattle.debounce_desk.specs.Desk.{IsAsked, IsForeseen, IsOpened, IsTicked};
 ghost use Rattle.debounce_desk.specs.Tells.{TellsCounts};
 ghost use Rattle.debounce_desk.specs.declared.fault.Fault.TheVariants.{NoMemory};
@@ -14,20 +14,20 @@ ghost use Rattle.debounce_desk.specs.declared.fault.Fault.TheVariants.{NoMemory}
 use crate::fault::Fault;
 use crate::records::Counts;
 use crate::telling::word;
-use debounce_core::data::DebounceDataInner;
-use file_id_cache::cache::NoCache;
+use debounce_model::file_id::FileId;
 use notify_paths::error::Error;
 use notify_paths::path::PathBuf;
 use notify_types::event::{DebouncedEvent, Event, RecursiveMode};
 use notify_types::time::Moment;
+use numbered_core::numbered::NumberedCore;
 use std::alloc::Global;
 use std::marker::Model;
 
-/// A debouncer without file numbers; its last batch, and the errors that were last asked for, of each of which so
+/// A debouncer, with the file numbers that C said; its last batch, and the errors that were last asked for, of each of which so
 /// many were read.
 #[derive(Drop)]
 pub struct Desk {
-    core: DebounceDataInner<NoCache>,
+    core: NumberedCore,
     batch: Vec<DebouncedEvent>,
     read: usize,
     errors: Vec<Error>,
@@ -55,7 +55,7 @@ impl Desk {
         ensures { IsOpened timeout taken given result }
     {
         Desk {
-            core: DebounceDataInner::with_counts(alloc, NoCache::new(), timeout, taken, given),
+            core: NumberedCore::with_counts(alloc, timeout, taken, given),
             batch: Vec::new(alloc),
             read: 0,
             errors: Vec::new(alloc),
@@ -73,7 +73,8 @@ impl Desk {
     /// Takes an event.
     pub fn take(&mut self, event: Event, now: Moment, exists: bool) -> Result<(), Fault>
         requires { self.old.core.state.taken ≢ 2 ^ 64 - 1 }
-        ensures ok { OnOk result (IsTaken no_numbers self.old.core event now exists self.new.core) }
+        ensures ok { OnOk result
+            (IsTaken said_numbers self.old.core event now exists self.new.core) }
         ensures rest { OnOk result (self.new ≡ record self.old { core = self.new.core }) }
         ensures err { IfErr result (λ f. (f ≡ NoMemory)
             × (takes_no_memory true self.old.core.state event exists ≡ false)) }
@@ -101,7 +102,7 @@ impl Desk {
     /// Watches a path.
     pub fn watch(&mut self, path: &PathBuf, mode: RecursiveMode) -> Result<(), Fault>
         ensures ok { OnOk result
-            (IsRooted no_numbers self.old.core path.now mode self.new.core) }
+            (IsRooted said_numbers self.old.core path.now mode self.new.core) }
         ensures rest { OnOk result (self.new ≡ record self.old { core = self.new.core }) }
         ensures err { IfErr result (λ f. (f ≡ NoMemory) × (self.new ≡ self.old)) }
     {
@@ -113,7 +114,7 @@ impl Desk {
 
     /// Watches a path no longer.
     pub fn unwatch(&mut self, path: &PathBuf) -> Result<(), Fault>
-        ensures ok { OnOk result (IsUnrooted no_numbers self.old.core path.now self.new.core) }
+        ensures ok { OnOk result (IsUnrooted said_numbers self.old.core path.now self.new.core) }
         ensures rest { OnOk result (self.new ≡ record self.old { core = self.new.core }) }
         ensures err { IfErr result (λ f. (f ≡ NoMemory) × (self.new ≡ self.old)) }
     {
@@ -121,6 +122,35 @@ impl Desk {
             Ok(()) => Ok(()),
             Err(_) => Err(Fault::NoMemory),
         }
+    }
+
+    /// The path has this number from now on.
+    pub fn set_number(&mut self, path: PathBuf, id: FileId) -> Result<(), Fault>
+        ensures ok { OnOk result (self.new ≡ record self.old {
+          core = with_numbers self.old.core (with_number self.old.core.cache path id);
+        }) }
+        ensures err { IfErr result (λ f. (f ≡ NoMemory) × (self.new ≡ self.old)) }
+    {
+        match self.core.set_number(path, id) {
+            Ok(()) => Ok(()),
+            Err(_) => Err(Fault::NoMemory),
+        }
+    }
+
+    /// The path has no number any longer, nor has what lies below it.
+    pub fn forget(&mut self, path: &PathBuf)
+        ensures { self.new ≡ record self.old {
+          core = with_numbers self.old.core (without_numbers self.old.core.cache path.now);
+        } }
+    {
+        self.core.forget(path);
+    }
+
+    /// The number of the path, if it has one.
+    pub fn number(&self, path: &PathBuf) -> Option<FileId>
+        ensures { result ≡ number_at self.now.core.cache path.now }
+    {
+        self.core.number(path)
     }
 
     /// The mode in which a path is watched.
@@ -142,6 +172,7 @@ impl Desk {
             latest: word(self.core.latest()),
             timeout: word(self.core.timeout()),
             errors: self.core.pending_errors().len(),
+            numbers: self.core.numbers(),
         }
     }
 

@@ -64,6 +64,16 @@ pub struct ToldError {
     pub first: usize,
 }
 
+/// The number of a path's file, as C is told it.
+#[repr(C)]
+#[derive(Clone, Copy)]
+pub struct Number {
+    /// Whether the path has one.
+    pub known: bool,
+    pub device: u64,
+    pub inode: u64,
+}
+
 /// What a debouncer has counted.
 #[repr(C)]
 #[derive(Clone, Copy)]
@@ -77,6 +87,7 @@ pub struct Counts {
     /// The greatest moment so far, and the timeout, in nanoseconds.
     pub latest: u64,
     pub timeout: u64,
-    /// How many errors are kept.
+    /// How many errors are kept, and how many paths have a file number.
     pub errors: usize,
+    pub numbers: usize,
 }

@@ -2,10 +2,11 @@
 ghost use Rattle.std.specs.Prelude.{◌≡◌, ◌≤◌, [], ◌∷◌, length, not, nat_lt, true, false, unwrap_or, string_bytes};
 ghost use Rattle.std.specs.Option.{option_map};
 ghost use Rattle.notify_paths.specs.ErrorView.{kind_value};
-ghost use Rattle.debounce_desk.specs.Tells.{Tells, TellsError, error_texts, kind_text, text_at, texts_of, total, word, written};
+ghost use Rattle.debounce_desk.specs.Tells.{Tells, TellsError, TellsNumber, error_texts, kind_text, text_at, texts_of, total, word, written};
 
 use crate::numbers::{error_number, number_of};
-use crate::records::{Told, ToldError};
+use crate::records::{Number, Told, ToldError};
+use debounce_model::file_id::FileId;
 use notify_paths::error::{Error, ErrorKind};
 use notify_paths::path::PathBuf;
 use notify_types::event::DebouncedEvent;
@@ -16,6 +17,24 @@ pub fn word(number: Moment) -> u64
     ensures { result ≡ word number }
 {
     u64::try_from(number).unwrap_or(u64::MAX)
+}
+
+/// What is told of a file number.
+pub fn number_told(id: Option<FileId>) -> Number
+    ensures { TellsNumber id result }
+{
+    match id {
+        Some(id) => Number {
+            known: true,
+            device: id.device,
+            inode: word(id.number),
+        },
+        None => Number {
+            known: false,
+            device: 0,
+            inode: 0,
+        },
+    }
 }
 
 /// Tells an event, and writes its texts to the start of the buffer, if they fit.

@@ -1,2 +1,3 @@
 pub mod Rest
 pub mod Start
+pub mod Waits

@@ -1,5 +1,5 @@
 -- What is left when a debouncer ends.
-use Rattle.std.specs.Prelude.{◌≡◌, List, [], ◌∷◌, ◌++◌, Ok, Err}
+use Rattle.std.specs.Prelude.{◌≡◌, ◌+◌, ◌-◌, ◌^◌, ℕ, min, List, [], ◌∷◌, ◌++◌, Ok, Err}
 use Rattle.std.specs.declared.alloc.Global.{Global}
 use Rattle.std.specs.declared.vec.Vec.{Vec}
 use Rattle.notify_paths.specs.Errors.{ErrorValue}
@@ -7,6 +7,12 @@ use Rattle.notify_types.specs.Event.{Timed}
 use Rattle.notify_watch.specs.Handler.{Outcome}
 use Rattle.debounce_model.specs.State.{State}
 use Rattle.debounce_model.specs.Tick.{IsOutlook}
+use Rattle.debounce_book.specs.Book.{Kept}
+use Rattle.debounce_book.specs.Journal.{EntryValue}
+use Rattle.debounce_access.specs.Happened.{History}
+use Rattle.file_id_cache.specs.declared.cache.NoCache.{NoCache}
+use Rattle.notify_debouncer_full.specs.Emitted.{EndsReports}
+use Rattle.report_loop.specs.declared.source.Rest.{Rest}
 
 -- the reports are one batch of these events, or none if there are no events
 abbrev pub IsBatchOf : List Timed → List (Outcome Global) → Type 0
@@ -24,8 +30,23 @@ Waits state reports =
     (events : List Timed) × (batch : List (Outcome Global)) × (errors : List (Outcome Global))
     × IsOutlook state events × IsBatchOf events batch × IsListOf state.errors errors × (reports ≡ batch ++ errors)
 
--- the reports are what was emitted and not given, and then what waits in the debouncer that ended
-abbrev pub IsLeft : List (Outcome Global) → Type 0
-IsLeft reports =
-    (emitted : List (Outcome Global)) × (waiting : List (Outcome Global)) × (state : State) × Waits state waiting
-    × (reports ≡ emitted ++ waiting)
+-- what a debouncer that ended left as reports: what is left in its queue, and then what waits in its book; and how much
+-- was missed, or could not be put into the queue, counted to 2^64 - 1
+pub record IsRestOf {C : Type 0} (book : Kept C) (queue : List (Outcome Global)) (missed unsent : ℕ) (rest : Rest)
+    : Type 0 where
+  pub waiting : List (Outcome Global)
+  pub waits : Waits book.core.state waiting
+  pub reports : rest.reports.items ≡ queue ++ waiting
+  pub missed_is : rest.missed ≡ min (missed + unsent) (2 ^ 64 - 1)
+
+-- what is left when the debouncer ends of which this was seen, and whose queue gave this: one history goes on from what
+-- was seen, what was emitted in it was given or is left in the queue, each once and in order, it leads to the book, and
+-- the reports are those of this queue and this book
+pub record IsLeft (seen : History) (given : List (Outcome Global)) (rest : Rest) : Type 0 where
+  pub book : Kept NoCache
+  pub parts : List EntryValue
+  pub queue : List (Outcome Global)
+  pub missed : ℕ
+  pub unsent : ℕ
+  pub ended : EndsReports seen parts given queue unsent book missed
+  pub rest_is : IsRestOf book queue missed unsent rest

@@ -50,7 +50,9 @@ impl InputEnd {
     }
 
     /// Whether it has.
-    pub(crate) fn has_come(&self) -> bool {
+    pub(crate) fn has_come(&self) -> bool
+        ensures { result ≡ true → is_some self.now.ended ≡ true }
+    {
         match &self.ended {
             Some(ended) => ended.load(Ordering::SeqCst),
             None => false,

@@ -8,6 +8,7 @@
 //! ```
 #![tactic(auto)]
 
+mod folder_watch;
 mod hint_reader;
 mod input_end;
 mod live;
@@ -15,5 +16,6 @@ mod reports;
 mod rest;
 mod waiting;
 
+pub use folder_watch::FolderWatch;
 pub use reports::FolderReports;
 pub use waiting::Waiting;

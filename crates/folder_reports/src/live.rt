@@ -1,18 +1,19 @@
 //! A debouncer that watches folders, until a program's life is over.
-ghost use Rattle.std.specs.Prelude.{◌≡◌, ◌≤◌, ◌<◌, ◌+◌, ◌*◌, ◌^◌, ◌⊎◌, min, None, IsSome, IfErr, IfOk, IfSome};
+ghost use Rattle.std.specs.Prelude.{◌≡◌, ◌≤◌, ◌<◌, ◌+◌, ◌*◌, ◌^◌, ◌⊎◌, ◌∷◌, [], min, false, None, IsSome, IfErr, IfOk, IfSome, OnOk};
 ghost use Rattle.std.specs.Duration.{as_nanos};
 ghost use Rattle.std.specs.Time.{FitsClock, instant_nanos};
-ghost use Rattle.folder_reports.specs.Rest.{IsLeft};
+ghost use Rattle.debounce_access.specs.Happened.{Opened};
+ghost use Rattle.folder_reports.specs.Start.{AddsRoot};
+ghost use Rattle.notify_debouncer_full.specs.Emitted.{IsTied};
 ghost use Rattle.watch_program.specs.declared.fault.Fault.TheVariants.{CannotWatch, Memory, NoThread, NotThere};
 
+use crate::folder_watch::Watching;
 use crate::hint_reader::{start_hints, start_skipping};
 use crate::input_end::InputEnd;
-use crate::rest::rest_of;
 use crate::waiting::Waiting;
 use notify_debouncer_full::{
-    ClosedCount, Config, DebouncerRuntime, PathBuf, RecommendedReports, RecursiveMode, Reports,
+    Config, DebouncerRuntime, PathBuf, RecommendedReports, RecursiveMode, Reports,
 };
-use report_loop::Rest;
 use std::time::{Clock, Duration, Instant};
 use watch_program::{Fault, HintWords, Pace};
 
@@ -32,6 +33,9 @@ pub(crate) struct Live<R: DebouncerRuntime> {
 impl<R: DebouncerRuntime + AllocGlobal> Live<R> {
     /// Starts the debouncer, which watches nothing yet. The life begins with this call.
     pub(crate) fn start(rt: R, pace: Pace<'_>) -> Result<Live<R>, Fault>
+        ensures opened { IfOk result (λ live. live.reports.debouncer.seen
+            ≡ Opened (as_nanos pace.entry.timeout) false ∷ []) }
+        ensures given { IfOk result (λ live. live.reports.queue.given ≡ []) }
         ensures err { IfErr result (λ e. (e ≡ Memory) ⊎ (e ≡ NoThread)) }
     {
         let config = Config::default()
@@ -65,6 +69,9 @@ impl<R: DebouncerRuntime + AllocGlobal> Live<R> {
 
     /// Watches the folder from now on.
     pub(crate) fn watch(&mut self, folder: &PathBuf, mode: RecursiveMode) -> Result<(), Fault>
+        ensures ok { OnOk result (AddsRoot self.old.reports.debouncer.seen folder.now mode
+            self.new.reports.debouncer.seen) }
+        ensures queue { self.new.reports.queue ≡ self.old.reports.queue }
         ensures err { IfErr result (λ e. (e ≡ Memory) ⊎ ((e ≡ NotThere) ⊎ (e ≡ CannotWatch))) }
     {
         match self.reports.watch(folder, mode) {
@@ -115,39 +122,20 @@ impl<R: DebouncerRuntime + AllocGlobal> Live<R> {
         start_skipping(self.rt, self.rt.alloc(), self.input.share()?)
     }
 
-    /// Returns the wait for what is reported.
-    pub(crate) fn waiting(&self) -> Waiting<'_, R> {
-        Waiting::new(&self.rt, self.reports.queue(), self.end, &self.input)
-    }
-
-    /// How many names of the folders are left out, since they aren't UTF-8.
-    pub(crate) fn names_left_out(&self) -> u64 {
-        self.reports.debouncer().watcher().names_left_out()
-    }
-
-    /// How many folders lie so deep that what is in them is left out.
-    pub(crate) fn folders_too_deep(&self) -> u64 {
-        self.reports.debouncer().watcher().folders_too_deep()
-    }
-
-    /// Returns what tells how many paths can't be looked at, also after the end.
-    pub(crate) fn closed(&self) -> Result<ClosedCount, Fault>
-        ensures err { IfErr result (λ e. e ≡ Memory) }
+    /// Returns the debouncer, and the wait for its reports.
+    pub(crate) fn apart(self) -> (Watching<R>, Waiting<R>)
+        ensures tied { IsTied result.0.began result.1.queue }
+        ensures seen { result.0.seen ≡ self.reports.debouncer.seen }
+        ensures given { result.1.queue.given ≡ self.reports.queue.given }
     {
-        match self.reports.debouncer().watcher().closed_count() {
-            Ok(closed) => Ok(closed),
-            Err(_) => Err(Fault::Memory),
-        }
-    }
-
-    /// Stops the watcher and the debouncer, waits until both have ended, and returns what was not given
-    /// yet.
-    pub(crate) fn finish(self) -> Result<Rest, Fault>
-        ensures ok { IfOk result (λ rest. IsLeft rest.reports.items) }
-        ensures err { IfErr result (λ e. e ≡ Memory) }
-    {
-        let rt = self.rt;
-        rest_of(&rt, self.reports.finish())
+        let Live {
+            rt,
+            reports,
+            end,
+            input,
+        } = self;
+        let (debouncer, queue) = reports.apart();
+        (debouncer, Waiting::new(rt, queue, end, input))
     }
 }
 

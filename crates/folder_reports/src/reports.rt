@@ -1,15 +1,21 @@
 //! What is reported of a folder.
-ghost use Rattle.std.specs.Prelude.{◌≡◌, ◌≢◌, IfErr, IfOk};
-ghost use Rattle.folder_reports.specs.Start.{IsStartFault};
+ghost use Rattle.std.specs.Prelude.{◌≡◌, ◌≢◌, ◌⊎◌, ◌++◌, ◌∷◌, [], true, false, None, IfErr, IfOk, OnOk};
+ghost use Rattle.std.specs.Duration.{as_nanos};
+ghost use Rattle.std.specs.Option.{option_to_list};
+ghost use Rattle.notify_types.specs.declared.event.RecursiveMode.TheVariants.{NonRecursive};
+ghost use Rattle.folder_reports.specs.Start.{AddsRoots, IsOpened, IsStartFault};
 ghost use Rattle.folder_reports.specs.Rest.{IsLeft};
+ghost use Rattle.notify_debouncer_full.specs.Emitted.{IsTied};
 ghost use Rattle.watch_program.specs.declared.fault.Fault.TheVariants.{CannotWatch, Memory, NotThere, NotWatched};
 
+use crate::folder_watch::FolderWatch;
 use crate::hint_reader::check_hints;
 use crate::live::Live;
 use crate::waiting::Waiting;
 use notify_debouncer_full::{DebounceEventResult, DebouncerRuntime, PathBuf, RecursiveMode};
 use report_loop::Rest;
 use std::io::Write;
+use std::marker::Model;
 use std::slice;
 use std::time::Duration;
 use watch_program::{Complaints, Fault, Pace};
@@ -17,8 +23,17 @@ use watch_program::{Complaints, Fault, Pace};
 /// The reports of a folder, until a program's life is over.
 #[derive(Drop)]
 pub struct FolderReports<'n, R: DebouncerRuntime, E: Drop> {
-    live: Live<R>,
-    complaints: Complaints<'n, E>,
+    watch: FolderWatch<'n, R, E>,
+    waiting: Waiting<R>,
+    ghost tied: { IsTied watch.debouncer.began waiting.queue },
+}
+
+impl<'n, R: DebouncerRuntime, E: Drop> Model for FolderReports<'n, R, E> {
+    ghost use Rattle.folder_reports.specs.Start.{Followed};
+
+    ghost Value = { Followed };
+
+    ghost view = { λ r. record { seen = r.watch.debouncer.seen; awaited = r.waiting } };
 }
 
 impl<'n, R: DebouncerRuntime + AllocGlobal, E: Write + Drop> FolderReports<'n, R, E> {
@@ -33,6 +48,7 @@ impl<'n, R: DebouncerRuntime + AllocGlobal, E: Write + Drop> FolderReports<'n, R
         pace: Pace<'_>,
         complaints: Complaints<'n, E>,
     ) -> Result<FolderReports<'n, R, E>, Fault>
+        ensures ok { IfOk result (IsOpened (as_nanos pace.entry.timeout) (folder.now ∷ []) mode) }
         ensures err { IfErr result IsStartFault }
         ensures unsaid { IfErr result (λ e. e ≢ NotWatched) }
     {
@@ -40,7 +56,7 @@ impl<'n, R: DebouncerRuntime + AllocGlobal, E: Write + Drop> FolderReports<'n, R
         let mut live = Live::start(rt, pace)?;
         live.watch(folder, mode)?;
         live.start_reading(slice::from_ref(folder), pace)?;
-        Ok(FolderReports { live, complaints })
+        Ok(FolderReports::of(rt, live, complaints))
     }
 
     /// Watches the file's folder, as `start`, with what is in it. A link at the file's path is followed: what is
@@ -52,6 +68,8 @@ impl<'n, R: DebouncerRuntime + AllocGlobal, E: Write + Drop> FolderReports<'n, R
         pace: Pace<'_>,
         complaints: Complaints<'n, E>,
     ) -> Result<FolderReports<'n, R, E>, Fault>
+        ensures ok { IfOk result (IsOpened (as_nanos pace.entry.timeout) (folder.now ∷ [])
+            NonRecursive) }
         ensures err { IfErr result IsStartFault }
         ensures unsaid { IfErr result (λ e. e ≢ NotWatched) }
     {
@@ -60,7 +78,7 @@ impl<'n, R: DebouncerRuntime + AllocGlobal, E: Write + Drop> FolderReports<'n, R
         live.follow(file)?;
         live.watch(folder, RecursiveMode::NonRecursive)?;
         live.start_reading(slice::from_ref(folder), pace)?;
-        Ok(FolderReports { live, complaints })
+        Ok(FolderReports::of(rt, live, complaints))
     }
 
     /// Watches each of the folders from now on, in order, as `start`. One of them that can't be watched is said
@@ -72,71 +90,109 @@ impl<'n, R: DebouncerRuntime + AllocGlobal, E: Write + Drop> FolderReports<'n, R
         pace: Pace<'_>,
         mut complaints: Complaints<'n, E>,
     ) -> Result<FolderReports<'n, R, E>, Fault>
+        ensures ok { IfOk result (IsOpened (as_nanos pace.entry.timeout) folders.now mode) }
         ensures err { IfErr result IsStartFault }
         ensures said { IfErr result (λ e. (e ≢ NotThere) × (e ≢ CannotWatch)) }
     {
         check_hints(&rt, pace.hints)?;
         let mut live = Live::start(rt, pace)?;
-        for folder in folders {
-            if let Err(fault) = live.watch(folder, mode) {
-                return Err(complaints.refuse(fault, folder.as_str()));
-            }
-        }
+        watch_each(&mut live, folders, mode, &mut complaints)?;
         live.start_reading(folders, pace)?;
-        Ok(FolderReports { live, complaints })
+        Ok(FolderReports::of(rt, live, complaints))
+    }
+
+    /// The reports of what is watched.
+    fn of(rt: R, live: Live<R>, complaints: Complaints<'n, E>) -> FolderReports<'n, R, E>
+        ensures seen { result.seen ≡ live.reports.debouncer.seen }
+        ensures given { result.awaited.queue.given ≡ live.reports.queue.given }
+    {
+        let (debouncer, waiting) = live.apart();
+        let watch = FolderWatch::new(rt, debouncer, complaints);
+        FolderReports { watch, waiting }
     }
 
     /// Returns how many names of the folder are left out, since they aren't UTF-8, as far as it was looked at
     /// (`PollWatcher::names_left_out`).
     pub fn names_left_out(&self) -> u64 {
-        self.live.names_left_out()
+        self.watch.names_left_out()
     }
 
     /// Returns how many folders lie so deep that what is in them is left out, as far as was looked at
     /// (`PollWatcher::folders_too_deep`).
     pub fn folders_too_deep(&self) -> u64 {
-        self.live.folders_too_deep()
+        self.watch.folders_too_deep()
     }
 
     /// Says how many names are left out, and how many folders lie too deep, each once, if any is
     /// (`NAME: 3 names are not UTF-8 and are left out`,
     /// `NAME: 2 folders lie 64 levels deep, and what is in them is left out`).
-    pub fn say_left_out(&mut self) {
-        let names = self.live.names_left_out();
-        self.complaints.leave_out(names);
-        let folders = self.live.folders_too_deep();
-        self.complaints.leave_deep(folders);
+    pub fn say_left_out(&mut self)
+        ensures same { self.new ≡ self.old }
+    {
+        self.watch.say_left_out();
     }
 
     /// Waits for the next report. `None` says that the life is over, as by the end of the input, or that the
     /// clock can't be read.
-    pub fn next(&mut self) -> Option<DebounceEventResult> {
+    pub fn next(&mut self) -> Option<DebounceEventResult>
+        ensures seen { self.new.seen ≡ self.old.seen }
+        ensures given { self.new.awaited.queue.given
+            ≡ self.old.awaited.queue.given ++ option_to_list result }
+        ensures over { result ≡ None
+            → (self.old.awaited.has_end ≡ true) ⊎ (self.new.awaited.queue.is_open ≡ false) }
+    {
         self.say_left_out();
-        self.live.waiting().next()
+        self.waiting.next()
     }
 
     /// Waits so long for the next report. `None` says that none came, or what it says of `next`.
-    pub fn next_within(&mut self, pause: Duration) -> Option<DebounceEventResult> {
+    pub fn next_within(&mut self, pause: Duration) -> Option<DebounceEventResult>
+        ensures seen { self.new.seen ≡ self.old.seen }
+        ensures given { self.new.awaited.queue.given
+            ≡ self.old.awaited.queue.given ++ option_to_list result }
+    {
         self.say_left_out();
-        self.live.waiting().next_within(pause)
+        self.waiting.next_within(pause)
     }
 
-    /// Returns what waits for these reports, as `report_loop::hand_on` takes it.
-    pub fn waiting(&self) -> Waiting<'_, R> {
-        self.live.waiting()
+    /// Returns what waits for these reports, as `report_loop::hand_on` takes it, and what is watched, which ends with it.
+    pub fn apart(self) -> (Waiting<R>, FolderWatch<'n, R, E>)
+        ensures tied { IsTied result.1.debouncer.began result.0.queue }
+        ensures seen { result.1.debouncer.seen ≡ self.entry.seen }
+        ensures awaited { result.0 ≡ self.entry.awaited }
+    {
+        let FolderReports { watch, waiting } = self;
+        (waiting, watch)
     }
 
     /// Stops the watcher and the debouncer, waits until both have ended, and returns what was not given
     /// yet. Nothing is lost but what is counted as missed. How many paths the last look couldn't look at is noted
     /// (`Complaints::counting`).
-    pub fn finish(mut self) -> Result<Rest, Fault>
-        ensures ok { IfOk result (λ rest. IsLeft rest.reports.items) }
+    pub fn finish(self) -> Result<Rest, Fault>
+        ensures ok { IfOk result (IsLeft self.entry.seen self.entry.awaited.queue.given) }
         ensures err { IfErr result (λ e. e ≡ Memory) }
     {
-        self.say_left_out();
-        let closed = self.live.closed()?;
-        let rest = self.live.finish();
-        self.complaints.note_closed(closed.get());
-        rest
+        let FolderReports { watch, waiting } = self;
+        watch.finish(waiting)
     }
+}
+
+/// Watches each of the folders, in order. One that can't be watched is said, and ends it.
+fn watch_each<R: DebouncerRuntime + AllocGlobal, E: Write + Drop>(
+    live: &mut Live<R>,
+    folders: &[PathBuf],
+    mode: RecursiveMode,
+    complaints: &mut Complaints<'_, E>,
+) -> Result<(), Fault>
+    ensures ok { OnOk result (AddsRoots live.old.reports.debouncer.seen folders.now mode
+        live.new.reports.debouncer.seen) }
+    ensures queue { live.new.reports.queue ≡ live.old.reports.queue }
+    ensures err { IfErr result (λ e. (e ≡ Memory) ⊎ (e ≡ NotWatched)) }
+{
+    for folder in folders {
+        if let Err(fault) = live.watch(folder, mode) {
+            return Err(complaints.refuse(fault, folder.as_str()));
+        }
+    }
+    Ok(())
 }

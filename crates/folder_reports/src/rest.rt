@@ -2,7 +2,7 @@
 ghost use Rattle.std.specs.Prelude.{◌≡◌, ◌++◌, List, IfErr, IfOk, OnOk};
 ghost use Rattle.std.specs.declared.alloc.Global.{Global};
 ghost use Rattle.notify_watch.specs.Handler.{Outcome};
-ghost use Rattle.folder_reports.specs.Rest.{IsBatchOf, IsLeft, IsListOf, Waits};
+ghost use Rattle.folder_reports.specs.Rest.{IsBatchOf, IsListOf, IsRestOf, Waits};
 ghost use Rattle.watch_program.specs.declared.fault.Fault.TheVariants.{Memory};
 
 use notify_debouncer_full::{
@@ -10,32 +10,24 @@ use notify_debouncer_full::{
 };
 use report_loop::Rest;
 use std::alloc::{AllocError, Global};
-use std::sync::Wait;
 use watch_program::Fault;
 
 /// What was emitted and not given, and then what waits.
-pub(crate) fn rest_of<R: Wait + AllocGlobal>(rt: &R, last: LastReports) -> Result<Rest, Fault>
-    ensures ok { IfOk result (λ rest. IsLeft rest.reports.items) }
+pub(crate) fn rest_of(alloc: Global, last: LastReports) -> Result<Rest, Fault>
+    ensures ok { IfOk result (IsRestOf last.book last.queue.items last.missed last.unsent) }
     ensures err { IfErr result (λ e. e ≡ Memory) }
 {
-    let mut reports = emitted(rt, &last)?;
-    push_waiting(rt.alloc(), &mut reports, &last.book)?;
+    let LastReports {
+        queue: mut reports,
+        book,
+        missed,
+        unsent,
+    } = last;
+    push_waiting(alloc, &mut reports, &book)?;
     Ok(Rest {
         reports,
-        missed: last.missed.saturating_add(last.unsent),
+        missed: missed.saturating_add(unsent),
     })
-}
-
-/// What was emitted and not given.
-fn emitted<R: Wait + AllocGlobal>(
-    rt: &R,
-    last: &LastReports,
-) -> Result<Vec<DebounceEventResult>, AllocError> {
-    let mut reports = Vec::new(rt.alloc());
-    for report in last.queue.try_iter(rt) {
-        reports.push(report)?;
-    }
-    Ok(reports)
 }
 
 /// Appends what waits: the events, and then the errors.

@@ -1,36 +1,54 @@
 //! The wait for what is reported, until a program's life is over.
-ghost use Rattle.std.specs.Prelude.{◌≡◌, ◌≢◌, ◌≤◌, ◌<◌, ◌+◌, ◌-◌, None, IfSome, IsSome};
+ghost use Rattle.std.specs.Prelude.{◌≡◌, ◌≢◌, ◌⊎◌, ◌≤◌, ◌<◌, ◌+◌, ◌-◌, ◌++◌, true, false, None, IfSome, IsSome, ◌||◌, is_some};
 ghost use Rattle.std.specs.Duration.{as_nanos};
+ghost use Rattle.std.specs.Option.{option_to_list};
 ghost use Rattle.std.specs.Time.{instant_nanos};
-ghost use Rattle.report_loop.specs.declared.source.Given.TheVariants.{Nothing};
+ghost use Rattle.folder_reports.specs.Waits.{given_in};
+ghost use Rattle.report_loop.specs.declared.source.Given.TheVariants.{Nothing, Over};
 
 use crate::input_end::InputEnd;
-use crossbeam_channel::Receiver;
-use notify_debouncer_full::DebounceEventResult;
+use notify_debouncer_full::{DebounceEventResult, ReportQueue};
 use report_loop::{Given, GivesReports};
+use std::marker::Model;
 use std::sync::Wait;
 use std::time::{Clock, Duration, Instant};
 
-/// The wait for what is reported of a folder, until a program's life is over: `FolderReports::waiting`.
+/// The wait for what is reported of a folder, until a program's life is over: `FolderReports::apart`. It owns the
+/// queue of the reports.
 ///
 /// It asks for no more than a wait needs: in a method of a trait, a call that may wait has a proof only over
 /// bounds of the kit's own.
 #[derive(Drop)]
-pub struct Waiting<'a, R: Wait + Clock> {
-    rt: &'a R,
-    queue: &'a Receiver<DebounceEventResult>,
+pub struct Waiting<R: Wait + Clock + Drop> {
+    rt: R,
+    queue: ReportQueue<DebounceEventResult>,
     end: Option<Instant>,
-    input: &'a InputEnd,
+    input: InputEnd,
 }
 
-impl<'a, R: Wait + Clock> Waiting<'a, R> {
+impl<R: Wait + Clock + Drop> Model for Waiting<R> {
+    ghost use Rattle.std.specs.Prelude.{is_some, ◌||◌};
+    ghost use Rattle.folder_reports.specs.Waits.{Awaited};
+
+    ghost Value = { Awaited };
+
+    ghost view = { λ w. record {
+      queue = w.queue;
+      has_end = (is_some w.end || is_some w.input.ended);
+    } };
+}
+
+impl<R: Wait + Clock + Copy + Drop> Waiting<R> {
     /// Waits for what comes by the queue until the end, if there is one, and while the input goes on.
     pub(crate) fn new(
-        rt: &'a R,
-        queue: &'a Receiver<DebounceEventResult>,
+        rt: R,
+        queue: ReportQueue<DebounceEventResult>,
         end: Option<Instant>,
-        input: &'a InputEnd,
-    ) -> Waiting<'a, R> {
+        input: InputEnd,
+    ) -> Waiting<R>
+        ensures queue { result.queue ≡ queue }
+        ensures end { result.has_end ≡ (is_some end || is_some input.ended) }
+    {
         Waiting {
             rt,
             queue,
@@ -39,58 +57,89 @@ impl<'a, R: Wait + Clock> Waiting<'a, R> {
         }
     }
 
+    /// Returns the queue.
+    pub(crate) fn into_queue(self) -> ReportQueue<DebounceEventResult>
+        ensures { result ≡ self.queue }
+    {
+        self.queue
+    }
+
     /// Waits for the next report. `None` says that the life is over, as by the end of the input, or that the
     /// clock can't be read.
-    pub(crate) fn next(&self) -> Option<DebounceEventResult> {
+    pub(crate) fn next(&mut self) -> Option<DebounceEventResult>
+        ensures end { self.new.has_end ≡ self.old.has_end }
+        ensures lock { self.new.queue.lock ≡ self.old.queue.lock }
+        ensures given { self.new.queue.given ≡ self.old.queue.given ++ option_to_list result }
+        ensures over { result ≡ None
+            → (self.old.has_end ≡ true) ⊎ (self.new.queue.is_open ≡ false) }
+    {
         let left = match self.end {
             None => None,
-            Some(end) => Some(left(self.rt, end)?),
+            Some(end) => Some(left(&self.rt, end)?),
         };
         self.wait_while(left)
     }
 
     /// Waits so long for the next report. `None` says that none came, or what it says of `next`.
-    pub(crate) fn next_within(&self, pause: Duration) -> Option<DebounceEventResult> {
+    pub(crate) fn next_within(&mut self, pause: Duration) -> Option<DebounceEventResult>
+        ensures end { self.new.has_end ≡ self.old.has_end }
+        ensures lock { self.new.queue.lock ≡ self.old.queue.lock }
+        ensures given { self.new.queue.given ≡ self.old.queue.given ++ option_to_list result }
+    {
         let pause = match self.end {
             None => pause,
-            Some(end) => pause.min(left(self.rt, end)?),
+            Some(end) => pause.min(left(&self.rt, end)?),
         };
         self.wait_while(Some(pause))
     }
 
     /// Waits for the next report, so long at most if that is said, and only while the input goes on.
-    fn wait_while(&self, pause: Option<Duration>) -> Option<DebounceEventResult> {
+    fn wait_while(&mut self, pause: Option<Duration>) -> Option<DebounceEventResult>
+        ensures end { self.new.has_end ≡ self.old.has_end }
+        ensures lock { self.new.queue.lock ≡ self.old.queue.lock }
+        ensures given { self.new.queue.given ≡ self.old.queue.given ++ option_to_list result }
+        ensures over { result ≡ None → pause ≡ None
+            → (self.old.has_end ≡ true) ⊎ (self.new.queue.is_open ≡ false) }
+    {
+        let rt = self.rt;
         let mut left = pause;
-        for _ in self.rt.forever() {
+        for _ in rt.forever() {
             if self.input.has_come() {
                 return None;
             }
             let Some(nap) = self.input.nap(left) else {
-                return self.queue.recv(self.rt).ok();
+                return self.queue.next(&rt);
             };
-            let report = self.queue.recv_timeout(self.rt, nap).ok();
+            let report = self.queue.next_within(&rt, nap);
             if report.is_some() || left == Some(nap) {
                 return report;
             }
             left = left_after(left, nap);
         }
-        None
+        unreachable!()
     }
 
-    /// Returns whether the life is over, or the clock can't be read.
-    fn is_over(&self) -> bool {
-        if self.input.has_come() {
+    /// Returns whether the life is over, or the clock can't be read, or no more can come.
+    fn is_over(&self) -> bool
+        ensures { result ≡ true → (self.now.has_end ≡ true) ⊎ (self.now.queue.is_open ≡ false) }
+    {
+        if self.input.has_come() || !self.queue.is_open() {
             return true;
         }
         match self.end {
             None => false,
-            Some(end) => left(self.rt, end).is_none(),
+            Some(end) => left(&self.rt, end).is_none(),
         }
     }
 
     /// Waits for the next report, so long at most if that is said.
-    fn give(&self, pause: Option<Duration>) -> Given
-        ensures { result ≡ Nothing → IsSome pause }
+    fn give(&mut self, pause: Option<Duration>) -> Given
+        ensures nothing { result ≡ Nothing → IsSome pause }
+        ensures over { result ≡ Over
+            → (self.old.has_end ≡ true) ⊎ (self.new.queue.is_open ≡ false) }
+        ensures end { self.new.has_end ≡ self.old.has_end }
+        ensures lock { self.new.queue.lock ≡ self.old.queue.lock }
+        ensures given { self.new.queue.given ≡ self.old.queue.given ++ given_in result }
     {
         let report = match pause {
             None => self.next(),
@@ -104,9 +153,10 @@ impl<'a, R: Wait + Clock> Waiting<'a, R> {
     }
 }
 
-impl<R: Wait + Clock> GivesReports for Waiting<'_, R> {
-    // What a channel carries is in no contract: that each report comes once, in order, is tested.
-    ghost gives = { λ before pause given after. given ≡ Nothing → IsSome pause };
+impl<R: Wait + Clock + Copy + Drop> GivesReports for Waiting<R> {
+    ghost use Rattle.folder_reports.specs.Waits.{GivesOne};
+
+    ghost gives = { λ before pause given after. GivesOne before pause given after };
 
     fn wait(&mut self, pause: Option<Duration>) -> Given {
         self.give(pause)

@@ -1,10 +1,11 @@
 -- What a program prints of what is reported to it.
-use Rattle.std.specs.Prelude.{◌≡◌, ℕ, List, [], ◌∷◌, Option, None, Some, Ok, Err}
+use Rattle.std.specs.Prelude.{◌≡◌, ◌⊎◌, ℕ, List, [], ◌∷◌, Option, None, Some, Ok, Err}
 use Rattle.notify_types.specs.Event.{Timed}
+use Rattle.fault_runs.specs.Until.{GaveSome}
 use Rattle.report_loop.specs.Gave.{Gave}
 use Rattle.report_loop.specs.Loop.{Source, Step}
 use Rattle.journal_lines.specs.Kept.{Rule, passing}
-use Rattle.journal_lines.specs.Lines.{WritesTimed, after}
+use Rattle.journal_lines.specs.Lines.{BeginsTimed, WritesTimed, after}
 use Rattle.journal_lines.specs.declared.form.Form.{Form}
 
 -- of each batch the entries of what passes were written, numbered through from this number on, and nothing else
@@ -16,7 +17,22 @@ WritesEach form rule seq (Some (Ok batch) ∷ steps) old new =
 WritesEach form rule seq (Some (Err errors) ∷ steps) old new = WritesEach form rule seq steps old new
 WritesEach form rule seq (None ∷ steps) old new = WritesEach form rule seq steps old new
 
+-- .. and of the last of these perhaps a beginning alone
+abbrev pub BeginsEach : Form → Rule → ℕ → List Step → Option (List ℕ) → Option (List ℕ) → Type 0
+BeginsEach form rule seq [] old new = new ≡ old
+BeginsEach form rule seq (Some (Ok batch) ∷ steps) old new =
+    ((between : Option (List ℕ)) × WritesTimed form seq (passing rule batch.items) old between
+    × BeginsEach form rule (after seq (passing rule batch.items)) steps between new)
+    ⊎ ((steps ≡ []) × BeginsTimed form seq (passing rule batch.items) old new)
+BeginsEach form rule seq (Some (Err errors) ∷ steps) old new = BeginsEach form rule seq steps old new
+BeginsEach form rule seq (None ∷ steps) old new = BeginsEach form rule seq steps old new
+
 -- the entries of all that the source gave were written
 abbrev pub WritesAll : {S : Type 0} → Source S → S → Form → Rule → ℕ → Option (List ℕ) → Option (List ℕ) → Type 0
 WritesAll source reports form rule seq old new =
     (lost : ℕ) × (steps : List Step) × Gave source reports steps lost × WritesEach form rule seq steps old new
+
+-- the entries of what the source gave until a fault came were written, and of the last that it gave perhaps a beginning
+abbrev pub WritesSome : {S : Type 0} → Source S → S → Form → Rule → ℕ → Option (List ℕ) → Option (List ℕ) → Type 0
+WritesSome source reports form rule seq old new =
+    (steps : List Step) × GaveSome source reports steps × BeginsEach form rule seq steps old new

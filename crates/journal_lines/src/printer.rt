@@ -1,8 +1,8 @@
 //! A program that prints a journal of what is reported.
-ghost use Rattle.std.specs.Prelude.{◌≡◌, IfErr, IfOk, OnOk, MatchResult};
+ghost use Rattle.std.specs.Prelude.{◌≡◌, IfErr, IfOk, OnErr, OnOk, MatchResult};
 ghost use Rattle.journal_lines.specs.Kept.{passing};
 ghost use Rattle.journal_lines.specs.KeptView.{filter_rule};
-ghost use Rattle.journal_lines.specs.Lines.{WritesTimed, after};
+ghost use Rattle.journal_lines.specs.Lines.{BeginsTimed, WritesTimed, after};
 
 use crate::filter::PathFilter;
 use crate::journal::Journal;
@@ -42,6 +42,10 @@ impl<R: Clock + Drop, O: Write + Drop, E: Write + Drop> Printer<'_, '_, R, O, E>
             WritesTimed self.old.journal.form self.old.journal.next
             (passing (filter_rule self.old.filter) batch.items)
             (O.contents self.old.out) (O.contents self.new.out))) }
+        ensures begun { OnErr result (IfOk report (λ batch.
+            BeginsTimed self.old.journal.form self.old.journal.next
+            (passing (filter_rule self.old.filter) batch.items)
+            (O.contents self.old.out) (O.contents self.new.out))) }
         ensures next { OnOk result (IfOk report (λ batch.
             self.new.journal ≡ record self.old.journal {
               next = after self.old.journal.next
@@ -71,9 +75,11 @@ impl<R: Clock + Drop, O: Write + Drop, E: Write + Drop> TakesReports for Printer
 
     ghost takes = { λ old report answer new. (filter_rule new.filter ≡ filter_rule old.filter)
         × MatchResult report
-        (λ batch. OnOk answer ((new.journal ≡ record old.journal {
+        (λ batch. MatchResult answer (λ _. (new.journal ≡ record old.journal {
           next = after old.journal.next (passing (filter_rule old.filter) batch.items);
         }) × WritesTimed old.journal.form old.journal.next
+        (passing (filter_rule old.filter) batch.items) (O.contents old.out) (O.contents new.out))
+        (λ _. BeginsTimed old.journal.form old.journal.next
         (passing (filter_rule old.filter) batch.items) (O.contents old.out) (O.contents new.out)))
         (λ _. (new.journal ≡ old.journal) × (O.contents new.out ≡ O.contents old.out)) };
 

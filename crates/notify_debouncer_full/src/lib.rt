@@ -21,6 +21,7 @@
 //! stands.
 #![tactic(auto)]
 
+mod queue_handler;
 mod recommended;
 mod reports;
 mod runtime;
@@ -70,11 +71,14 @@ pub use poll_roots::polled::Polled;
 pub use poll_rounds::folders::Folders;
 pub use poll_rounds::list::list;
 pub use poll_rounds::round::poll_round;
+pub use queue_handler::QueueHandler;
 pub use real_folders::noting::NotingFolders;
 pub use real_folders::real::RealFolders;
 pub use recommended::{
     RecommendedCache, RecommendedDebouncer, RecommendedWatcher, new_debouncer,
     new_debouncer_with_config,
 };
-pub use reports::{LastReports, RecommendedReports, Reports};
+pub use report_queue::queue::{QueueRest, ReportQueue, report_queue};
+pub use report_queue::sender::ReportSender;
+pub use reports::{LastReports, QueueingDebouncer, RecommendedReports, Reports};
 pub use runtime::{DebouncerAllocator, DebouncerRuntime};

@@ -1,6 +1,7 @@
 //! What a running debouncer reports, one report after the other.
-ghost use Rattle.std.specs.Prelude.{◌≡◌, ◌↔◌, true, false, IfErr, IfOk, IfSome, IsErrOf, OnOk};
+ghost use Rattle.std.specs.Prelude.{◌≡◌, ◌↔◌, ◌++◌, [], true, false, IfErr, IfOk, IfSome, IsErrOf, OnOk};
 ghost use Rattle.std.specs.Duration.{as_nanos};
+ghost use Rattle.std.specs.Option.{option_to_list};
 ghost use Rattle.notify_paths.specs.Errors.{out_of_memory};
 ghost use Rattle.debounce_model.specs.Command.{RootCommand, UnrootCommand, RootedReply, UnrootedReply};
 ghost use Rattle.debounce_model.specs.State.{State};
@@ -9,17 +10,15 @@ ghost use Rattle.debounce_book.specs.Journal.{IsLegal};
 ghost use Rattle.debounce_access.specs.Adds.{Adds};
 ghost use Rattle.debounce_access.specs.Happened.{accepted, entries_of};
 ghost use Rattle.debounce_access.specs.Stands.{IsStarted, RunsOn};
-ghost use Rattle.debounce_turns.specs.Ended.{IsEnded};
-ghost use Rattle.debounce_turns.specs.declared.left.Forgotten.{Forgotten};
 ghost use Rattle.debounce_shell.specs.Start.{IsStartError, IsTooSlow, too_slow};
 ghost use Rattle.debounce_turns.specs.Watched.{AsksFirst, ListsFirst};
+ghost use Rattle.notify_debouncer_full.specs.Emitted.{EndsReports, IsTied};
 
+use crate::queue_handler::QueueHandler;
 use crate::recommended::{RecommendedCache, RecommendedWatcher};
 use crate::runtime::{DebouncerAllocator, DebouncerRuntime};
-use crossbeam_channel::{Receiver, Sender, unbounded};
 use debounce_book::book::Book;
-use debounce_shell::debouncer::{Debouncer, new_debouncer_opt};
-use debounce_shell::send_to::{SendTo, Unsent};
+use debounce_shell::debouncer::{Debouncer, new_told_debouncer};
 use debounce_turns::feed::Feed;
 use notify_paths::error::{Error, ErrorKind};
 use notify_paths::path::PathBuf;
@@ -27,10 +26,11 @@ use notify_types::event::{DebouncedEvent, RecursiveMode};
 use notify_watch::config::Config;
 use notify_watch::handler::DebounceEventResult;
 use notify_watch::watcher::{ListingWatcher, Watcher};
+use report_queue::queue::{QueueRest, ReportQueue, report_queue};
 use std::alloc::Global;
 use std::time::Duration;
 
-/// A debouncer without a cache whose batches and errors wait in a channel, of no bound, until they are
+/// A debouncer without a cache whose batches and errors wait in a queue, of no bound, until they are
 /// asked for.
 ///
 /// ```text
@@ -40,17 +40,27 @@ use std::time::Duration;
 /// while let Some(report) = reports.next() { .. }
 /// ```
 ///
-/// What a channel carries is in no contract. That each batch comes out once, in the order in which it
-/// was emitted, and that `finish` leaves out none, is tested.
+/// Clauses see its debouncer, and what its queue has given. At the end what was given, and then what is left, is
+/// what was emitted, each report once and in order: `finish` says so, unless some could not be put into the queue.
 ///
 /// Dropping it asks the debouncer to end, as a drop of a `Debouncer` does.
 #[derive(Drop)]
 pub struct Reports<T: Drop, R: DebouncerRuntime, A: DebouncerAllocator = Global> {
     rt: R,
-    debouncer: Debouncer<T, RecommendedCache, R, A>,
-    queue: Receiver<DebounceEventResult<A>, A>,
-    unsent: Unsent<A>,
+    debouncer: QueueingDebouncer<T, R, A>,
+    queue: ReportQueue<DebounceEventResult<A>, A>,
+    // The handler puts into this queue, and had put in nothing before the debouncer was started.
+    ghost tied: { IsTied debouncer.began queue },
 }
+
+/// A debouncer whose handler puts what is emitted into a queue.
+pub type QueueingDebouncer<T, R, A = Global> = Debouncer<
+    T,
+    RecommendedCache,
+    R,
+    A,
+    QueueHandler<R, A>,
+>;
 
 /// Reports over a [`RecommendedWatcher`].
 pub type RecommendedReports<R, A = Global> = Reports<RecommendedWatcher<R, A>, R, A>;
@@ -59,13 +69,14 @@ pub type RecommendedReports<R, A = Global> = Reports<RecommendedWatcher<R, A>, R
 #[derive(Drop)]
 pub struct LastReports<A: DebouncerAllocator = Global> {
     /// What was emitted and not asked for, in its order. No more comes.
-    pub queue: Receiver<DebounceEventResult<A>, A>,
+    pub queue: Vec<DebounceEventResult<A>, A>,
     /// The debouncer's book. In it is what was never emitted: its `outlook` is what waits, in the order
     /// of a batch, and `core().pending_errors()` are the errors.
     pub book: Book<RecommendedCache, A>,
     /// How many events and errors of the watcher were refused.
     pub missed: u64,
-    /// How many batches and lists of errors could not be sent into the channel.
+    /// How many batches and lists of errors could not be put into the queue, since an allocation failed. It counts
+    /// no further than 2^64 - 1.
     pub unsent: u64,
 }
 
@@ -89,20 +100,22 @@ impl<
         requires takes { (feed : _) → T.takes feed }
         ensures rate { IsTooSlow timeout tick_rate → IsErrOf result too_slow }
         ensures opened { IfOk result (λ r. IsStarted r.debouncer (as_nanos timeout) false) }
+        ensures given { IfOk result (λ r. r.queue.given ≡ []) }
         ensures err { IfErr result (IsStartError T.refuses timeout tick_rate) }
     {
         if is_too_slow(timeout, tick_rate) {
             return Err(Error::new(alloc, ErrorKind::Generic(String::new(alloc))));
         }
-        let (sender, queue) = channel(alloc)?;
-        let (handler, unsent) = SendTo::counted(rt, alloc, sender)?;
+        let Ok((sender, queue)) = report_queue(alloc) else {
+            return Err(Error::out_of_memory(alloc));
+        };
+        let handler = QueueHandler::new(rt, sender);
         let cache = RecommendedCache::new();
-        let debouncer = new_debouncer_opt(rt, alloc, timeout, tick_rate, handler, cache, config)?;
+        let debouncer = new_told_debouncer(rt, alloc, timeout, tick_rate, handler, cache, config)?;
         Ok(Reports {
             rt,
             debouncer,
             queue,
-            unsent,
         })
     }
 
@@ -115,6 +128,7 @@ impl<
         ensures seen { RunsOn self.old.debouncer self.new.debouncer }
         ensures ok { OnOk result (Adds self.old.debouncer.seen
             (accepted (RootCommand path.now mode) RootedReply) self.new.debouncer.seen) }
+        ensures queue { self.new.queue ≡ self.old.queue }
     {
         self.debouncer.watch(path, mode)
     }
@@ -127,30 +141,43 @@ impl<
         ensures seen { RunsOn self.old.debouncer self.new.debouncer }
         ensures ok { OnOk result (Adds self.old.debouncer.seen
             (accepted (UnrootCommand path.now) UnrootedReply) self.new.debouncer.seen) }
+        ensures queue { self.new.queue ≡ self.old.queue }
     {
         self.debouncer.unwatch(path)
     }
 
+    /// Drops a root, and the roots below it, and leaves the watcher as it is. It is as `Debouncer::remove_root`.
+    pub fn remove_root(&mut self, path: &PathBuf<A>) -> Result<(), Error<A>>
+        ensures seen { RunsOn self.old.debouncer self.new.debouncer }
+        ensures watcher { self.new.debouncer.watcher ≡ self.old.debouncer.watcher }
+        ensures ok { OnOk result (Adds self.old.debouncer.seen
+            (accepted (UnrootCommand path.now) UnrootedReply) self.new.debouncer.seen) }
+        ensures queue { self.new.queue ≡ self.old.queue }
+        ensures err { IfErr result (λ e. e ≡ out_of_memory) }
+    {
+        self.debouncer.remove_root(path)
+    }
+
     /// Stops the watcher and the debouncer as `Debouncer::finish` does, waits until both have ended, and
-    /// returns all that was not asked for: first what is in the channel, and then what was never
+    /// returns all that was not asked for: first what is in the queue, and then what was never
     /// emitted. Nothing is lost but what was counted as missed or unsent.
     pub fn finish(self) -> LastReports<A>
-        ensures ended { (left : Forgotten) × IsEnded (λ _ _. Unit {0}) left self.debouncer.seen
-            self.debouncer.parts result.book result.missed }
+        ensures ended { EndsReports self.debouncer.seen self.debouncer.parts self.queue.given
+            result.queue.items result.unsent result.book result.missed }
         ensures legal { IfSome result.book.journal (λ es. IsLegal es result.book.core.state) }
     {
         let Reports {
-            rt: _,
+            rt,
             debouncer,
             queue,
-            unsent,
         } = self;
-        let (book, missed) = debouncer.finish();
+        let (book, missed, handler) = debouncer.finish_left();
+        let QueueRest { reports, unsent } = queue.close(&rt, handler.into_sender());
         LastReports {
-            queue,
+            queue: reports,
             book,
             missed,
-            unsent: unsent.count(),
+            unsent,
         }
     }
 }
@@ -173,6 +200,7 @@ impl<
         ensures seen { RunsOn self.old.debouncer self.new.debouncer }
         ensures ok { OnOk result (Adds self.old.debouncer.seen
             (accepted (RootCommand path.now mode) RootedReply) self.new.debouncer.seen) }
+        ensures queue { self.new.queue ≡ self.old.queue }
     {
         self.debouncer.watch_listed(path, mode)
     }
@@ -181,30 +209,72 @@ impl<
 impl<T: Drop, R: DebouncerRuntime, A: DebouncerAllocator> Reports<T, R, A> {
     /// Waits for the next batch or the next errors. `None` says that no more can come, since the
     /// debouncer's thread has ended.
-    pub fn next(&self) -> Option<DebounceEventResult<A>> {
-        self.queue.recv(&self.rt).ok()
+    pub fn next(&mut self) -> Option<DebounceEventResult<A>>
+        ensures debouncer { self.new.debouncer ≡ self.old.debouncer }
+        ensures given { self.new.queue.given ≡ self.old.queue.given ++ option_to_list result }
+    {
+        self.queue.next(&self.rt)
     }
 
     /// Waits so long for the next batch or the next errors. `None` says that nothing came.
-    pub fn next_within(&self, duration: Duration) -> Option<DebounceEventResult<A>> {
-        self.queue.recv_timeout(&self.rt, duration).ok()
+    pub fn next_within(&mut self, duration: Duration) -> Option<DebounceEventResult<A>>
+        ensures debouncer { self.new.debouncer ≡ self.old.debouncer }
+        ensures given { self.new.queue.given ≡ self.old.queue.given ++ option_to_list result }
+    {
+        self.queue.next_within(&self.rt, duration)
     }
 
-    /// Returns the channel by which the reports come, for whoever waits otherwise than by `next` and
-    /// `next_within`. What is received from it isn't given by them.
-    pub fn queue(&self) -> &Receiver<DebounceEventResult<A>, A>
-        ensures { result.now ≡ self.now.queue }
+    /// Returns the next batch or the next errors if there are any, and doesn't wait for them.
+    pub fn try_next(&mut self) -> Option<DebounceEventResult<A>>
+        ensures debouncer { self.new.debouncer ≡ self.old.debouncer }
+        ensures given { self.new.queue.given ≡ self.old.queue.given ++ option_to_list result }
     {
-        &self.queue
+        self.queue.try_next(&self.rt)
+    }
+
+    /// Returns the debouncer and the queue by which its reports come, for whoever waits otherwise than by these
+    /// calls. `of` puts them together again.
+    pub fn apart(
+        self,
+    ) -> (
+        QueueingDebouncer<T, R, A>,
+        ReportQueue<DebounceEventResult<A>, A>,
+    )
+        ensures same { (result.0 ≡ self.debouncer) × (result.1 ≡ self.queue) }
+        ensures tied { IsTied result.0.began result.1 }
+    {
+        let Reports {
+            rt: _,
+            debouncer,
+            queue,
+        } = self;
+        (debouncer, queue)
+    }
+
+    /// Puts a debouncer and its queue together.
+    pub fn of(
+        rt: R,
+        debouncer: QueueingDebouncer<T, R, A>,
+        queue: ReportQueue<DebounceEventResult<A>, A>,
+    ) -> Reports<T, R, A>
+        requires { IsTied debouncer.began queue }
+        ensures { (result.debouncer ≡ debouncer) × (result.queue ≡ queue) }
+    {
+        Reports {
+            rt,
+            debouncer,
+            queue,
+        }
     }
 
     /// Returns what waits to be emitted, as `Debouncer::outlook`. What was emitted and waits in the
-    /// channel isn't among it.
+    /// queue isn't among it.
     pub fn outlook(&mut self) -> Result<Vec<DebouncedEvent<A>, A>, Error<A>>
         ensures seen { RunsOn self.old.debouncer self.new.debouncer }
         ensures watcher { self.new.debouncer.watcher ≡ self.old.debouncer.watcher }
         ensures outlook { IfOk result (λ batch. (s : State) × IsOutlook s batch.items
             × IsLegal (entries_of self.new.debouncer.seen) s) }
+        ensures queue { self.new.queue ≡ self.old.queue }
         ensures err { IfErr result (λ e. e ≡ out_of_memory) }
     {
         self.debouncer.outlook()
@@ -215,14 +285,17 @@ impl<T: Drop, R: DebouncerRuntime, A: DebouncerAllocator> Reports<T, R, A> {
         self.debouncer.missed()
     }
 
-    /// Returns how many batches and lists of errors were emitted and could not be sent into the channel,
+    /// Returns how many batches and lists of errors were emitted and could not be put into the queue,
     /// since an allocation failed.
-    pub fn unsent(&self) -> u64 {
-        self.unsent.count()
+    pub fn unsent(&mut self) -> u64
+        ensures debouncer { self.new.debouncer ≡ self.old.debouncer }
+        ensures queue { self.new.queue ≡ self.old.queue }
+    {
+        self.queue.unsent(&self.rt)
     }
 
     /// Returns the debouncer, to ask it.
-    pub fn debouncer(&self) -> &Debouncer<T, RecommendedCache, R, A>
+    pub fn debouncer(&self) -> &QueueingDebouncer<T, R, A>
         ensures { result.now ≡ self.now.debouncer }
     {
         &self.debouncer
@@ -237,16 +310,4 @@ fn is_too_slow(timeout: Duration, tick_rate: Option<Duration>) -> bool
         Some(rate) => timeout.as_nanos() < rate.as_nanos(),
         None => false,
     }
-}
-
-type Channel<A> = (
-    Sender<DebounceEventResult<A>, A>,
-    Receiver<DebounceEventResult<A>, A>,
-);
-
-/// A channel of no bound.
-fn channel<A: DebouncerAllocator>(alloc: A) -> Result<Channel<A>, Error<A>>
-    ensures { IfErr result (λ e. e ≡ out_of_memory) }
-{
-    unbounded(alloc).map_err(|_| Error::out_of_memory(alloc))
 }

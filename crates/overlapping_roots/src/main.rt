@@ -11,7 +11,6 @@ use notify_debouncer_full::{
 };
 use path_sets::PathSet;
 use std::env;
-use std::sync::Wait;
 use std::time::Duration;
 
 /// The folders, and what says that the end has come.
@@ -98,9 +97,9 @@ fn follow(
     unless_missing(reports.watch(&roots.other, RecursiveMode::Recursive))
 }
 
-fn end(rt: &(impl Print + Eprint + Wait), paths: &mut PathSet, last: &LastReports) -> Result<()> {
-    for report in last.queue.try_iter(rt) {
-        play(rt, paths, &report)?;
+fn end(rt: &(impl Print + Eprint), paths: &mut PathSet, last: &LastReports) -> Result<()> {
+    for report in &last.queue {
+        play(rt, paths, report)?;
     }
     paths.play(last.book.outlook()?.as_slice())?;
     if last.missed > 0 || last.unsent > 0 {

@@ -9,7 +9,6 @@ use notify_debouncer_full::{
 };
 use path_sets::PathSet;
 use std::env;
-use std::sync::Wait;
 use std::time::Duration;
 
 fn folder_of(rt: &HostRuntime) -> Result<PathBuf> {
@@ -69,9 +68,9 @@ fn mirror(
     Ok(())
 }
 
-fn end(rt: &(impl Print + Eprint + Wait), paths: &mut PathSet, last: &LastReports) -> Result<()> {
-    for report in last.queue.try_iter(rt) {
-        follow(rt, paths, &report)?;
+fn end(rt: &(impl Print + Eprint), paths: &mut PathSet, last: &LastReports) -> Result<()> {
+    for report in &last.queue {
+        follow(rt, paths, report)?;
     }
     paths.play(last.book.outlook()?.as_slice())?;
     for error in last.book.core().pending_errors() {

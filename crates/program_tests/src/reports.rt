@@ -1,7 +1,7 @@
 //! Reports that the watcher that polls never makes by itself: a loss, and a request to read all anew. What each program
 //! makes of them, as its page says.
 use batch_plan::naming::name_path;
-use config_state::{Follower, Reloader};
+use config_state::{Follower, RealFiles, Reloader};
 use journal_lines::{Form, Journal, PathFilter, Pattern, Patterns, Printer};
 use notify_paths::path::PathBuf;
 use notify_types::event::{DebouncedEvent, Event, Flag};
@@ -194,8 +194,9 @@ fn readings(text: &str) -> usize {
 #[test]
 fn a_configuration_is_read_anew_if_that_is_asked_for_and_after_a_loss(rt: HostRuntime) {
     let mut follower = Follower {
-        rt,
+        alloc: rt.alloc(),
         name: NAME,
+        files: RealFiles::new(rt),
         file: PathBuf::parse(rt.alloc(), "/w/none/f.toml").expect(&rt, "memory"),
         reloader: Reloader::new(),
         out: Vec::new(rt.alloc()),

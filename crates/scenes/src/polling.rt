@@ -12,7 +12,6 @@ use path_sets::PathSet;
 use refusing_allocator::TestHeap;
 use std::alloc::{AllocError, Global};
 use std::io;
-use std::sync::Wait;
 use std::time::Duration;
 
 /// A watcher that polls.
@@ -149,7 +148,7 @@ const TURNS: u64 = 20_000;
 /// What is reported next. `None` says that nothing comes.
 fn next<T: Drop, R: Host, A: TestHeap>(
     scene: &Scene<R, A>,
-    reports: &Reports<T, R>,
+    reports: &mut Reports<T, R>,
 ) -> Option<DebounceEventResult> {
     // By a clock that stands no wait would be over.
     if scene.stage.clock.stands() {
@@ -161,12 +160,13 @@ fn next<T: Drop, R: Host, A: TestHeap>(
 /// What is reported within so many turns.
 fn next_in<T: Drop, R: Host, A: TestHeap>(
     scene: &Scene<R, A>,
-    reports: &Reports<T, R>,
+    reports: &mut Reports<T, R>,
     turns: u64,
 ) -> Option<DebounceEventResult> {
     for _ in 0..turns {
-        if let Ok(report) = reports.queue().try_recv(&scene.rt) {
-            return Some(report);
+        let report = reports.try_next();
+        if report.is_some() {
+            return report;
         }
         sleep_a_turn(&scene.rt);
     }
@@ -176,7 +176,7 @@ fn next_in<T: Drop, R: Host, A: TestHeap>(
 /// Prints whether nothing is reported for so many turns.
 fn tell_quiet<T: Drop, R: Host, A: TestHeap>(
     scene: &mut Scene<R, A>,
-    reports: &Reports<T, R>,
+    reports: &mut Reports<T, R>,
     line: &str,
     word: &str,
 ) -> io::Result<()> {
@@ -189,7 +189,7 @@ fn tell_quiet<T: Drop, R: Host, A: TestHeap>(
 /// Prints what is reported next.
 fn tell_next<T: Drop, R: Host, A: TestHeap>(
     scene: &mut Scene<R, A>,
-    reports: &Reports<T, R>,
+    reports: &mut Reports<T, R>,
     line: &str,
 ) -> io::Result<()> {
     let report = next(scene, reports);
@@ -205,7 +205,7 @@ fn tell_next<T: Drop, R: Host, A: TestHeap>(
 /// Prints whether a batch comes, after errors of rounds that were made before.
 fn tell_batch<T: Drop, R: Host, A: TestHeap>(
     scene: &mut Scene<R, A>,
-    reports: &Reports<T, R>,
+    reports: &mut Reports<T, R>,
     line: &str,
 ) -> io::Result<()> {
     for _ in 0..LIMIT {
@@ -221,7 +221,7 @@ fn tell_batch<T: Drop, R: Host, A: TestHeap>(
 /// Prints the last letters of the paths of the next events, in order: so many, or fewer if no more come.
 fn tell_letters<T: Drop, R: Host, A: TestHeap>(
     scene: &mut Scene<R, A>,
-    reports: &Reports<T, R>,
+    reports: &mut Reports<T, R>,
     line: &str,
 ) -> io::Result<()> {
     let (_verb, word) = split(line);
@@ -301,9 +301,9 @@ fn tell_last<R: Host, A: TestHeap>(
 }
 
 /// The paths of a reader who began with nothing and was given all that is left.
-fn read_paths(rt: &(impl AllocGlobal + Wait), last: &LastReports) -> io::Result<Vec<PathBuf>> {
+fn read_paths(rt: &impl AllocGlobal, last: &LastReports) -> io::Result<Vec<PathBuf>> {
     let mut paths = PathSet::new(rt.alloc());
-    let read = read_all(rt, last, &mut paths);
+    let read = read_all(last, &mut paths);
     let list = given(paths.to_list());
     drop(paths);
     read?;
@@ -311,8 +311,8 @@ fn read_paths(rt: &(impl AllocGlobal + Wait), last: &LastReports) -> io::Result<
 }
 
 /// Gives a reader what is left.
-fn read_all(rt: &impl Wait, last: &LastReports, paths: &mut PathSet) -> io::Result<()> {
-    for report in last.queue.try_iter(rt) {
+fn read_all(last: &LastReports, paths: &mut PathSet) -> io::Result<()> {
+    for report in &last.queue {
         if let Ok(batch) = report {
             given(paths.play(batch.as_slice()))?;
         }

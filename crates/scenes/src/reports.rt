@@ -59,7 +59,7 @@ fn watch<T: Watcher<Feed<NoCache, R, A>, R, A>, R: Host, A: TestHeap>(
 /// refused.
 fn counts<T: Drop, R: Host, A: TestHeap>(
     scene: &mut Scene<R, A>,
-    reports: &Reports<T, R, A>,
+    reports: &mut Reports<T, R, A>,
 ) -> io::Result<()> {
     scene.count("unsent", reports.unsent())?;
     scene.count("missed", reports.missed())?;

@@ -3,6 +3,8 @@ use Rattle.std.specs.Prelude.{◌≡◌, ℕ, List, [], ◌∷◌, ◌++◌, Opt
 use Rattle.std.specs.Io.KnownBytes.{Appends}
 use Rattle.notify_paths.specs.Path.{PathValue}
 use Rattle.notify_types.specs.Event.{Timed}
+use Rattle.whole_output.specs.Output.{WritesFront}
+use Rattle.fault_runs.specs.Until.{GaveSome}
 use Rattle.report_loop.specs.Gave.{Gave}
 use Rattle.report_loop.specs.Loop.{Source, Step}
 use Rattle.journal_lines.specs.Kept.{Rule, passing}
@@ -42,3 +44,9 @@ Prints rule folder steps before after =
 abbrev pub PrintsAll : {S : Type 0} → Source S → S → Rule → PathValue → Option (List ℕ) → Option (List ℕ) → Type 0
 PrintsAll source reports rule folder before after =
     (lost : ℕ) × (steps : List Step) × Gave source reports steps lost × Prints rule folder steps before after
+
+-- of what the source gave until a fault came a beginning of the lines was printed
+abbrev pub PrintsSome : {S : Type 0} → Source S → S → Rule → PathValue → Option (List ℕ) → Option (List ℕ) → Type 0
+PrintsSome source reports rule folder before after =
+    (steps : List Step) × GaveSome source reports steps
+    × WritesFront before (printed folder (lines_for rule steps)) after

@@ -98,8 +98,10 @@ impl<O: Write + Drop, E: Write + Drop> TakesReports for Bursts<'_, '_, O, E> {
     ghost passes = { λ before answer after.
         (filter_rule after.filter ≡ filter_rule before.filter)
         × (after.folder.now ≡ before.folder.now) × (after.trigger ≡ [])
-        × OnOk answer (Appends (O.contents before.out) (O.contents after.out)
-        (written_of before.folder.now before.trigger)) };
+        × MatchResult answer (λ _. Appends (O.contents before.out) (O.contents after.out)
+        (written_of before.folder.now before.trigger))
+        (λ _. WritesFront (O.contents before.out) (written_of before.folder.now before.trigger)
+        (O.contents after.out)) };
 
     fn begin(&mut self) -> Result<(), Fault> {
         for place in &self.places {

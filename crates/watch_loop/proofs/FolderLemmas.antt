@@ -1,64 +1,118 @@
 -- A folder that is followed: by calls, by a part of a program, and to its end.
-use Rattle.std.proofs.Common.{◌≡◌, List, inl, inr, refl, subst}
-use Rattle.std.specs.Prelude.{ℕ, Option, Result, Ok, Err, MatchResult, OnOk, IsSome}
+use Rattle.std.proofs.Common.{◌≡◌, ◌∙◌, List, [], ◌∷◌, inl, inr, ap, refl, subst}
+use Rattle.std.specs.Prelude.{ℕ, Option, Result, Ok, Err, MatchResult, OnOk}
 use Rattle.std.specs.declared.time.Duration.{Duration}
 use Rattle.watch_program.specs.declared.fault.Fault.{Fault}
 use Rattle.report_loop.specs.declared.source.Given.{Given}
-use Rattle.report_loop.specs.declared.source.Given.TheVariants.{Nothing}
 use Rattle.report_loop.specs.declared.source.Rest.{Rest}
-use Rattle.report_loop.specs.Loop.{DoesAll, Follows, Gives, Program, Step, TakesRest}
+use Rattle.report_loop.specs.Loop.{Answer, DoesAll, Follows, Gives, Program, Step, TakesRest}
 use Rattle.report_loop.proofs.SourceLemmas.{all_said}
-use Rattle.watch_loop.specs.FollowsFolder.{FollowsFolder, folder_source}
+use Rattle.notify_paths.specs.Path.{PathValue}
+use Rattle.notify_types.specs.declared.event.RecursiveMode.{RecursiveMode}
+use Rattle.debounce_access.specs.Happened.{History}
+use Rattle.folder_reports.specs.Start.{Followed}
+use Rattle.folder_reports.specs.Waits.{Awaited, GivesOne}
+use Rattle.watch_loop.specs.FollowsFolder.{FollowsFolder, OfReports, folder_source}
 
--- what gives reports as a folder's source may
-abbrev pub Says : {S : Type 0} → Gives S → Type 0
-Says {S} gives = (s s' : S) (pause : Option Duration) (given : Given) → gives s pause given s' →
-    given ≡ Nothing → IsSome pause
+-- what gives reports as a wait for a folder's does
+abbrev pub Says : Gives Awaited → Type 0
+Says gives = (s s' : Awaited) (pause : Option Duration) (given : Given) → gives s pause given s' →
+    GivesOne s pause given s'
+
+-- what is followed that has this history and this wait
+abbrev pub followed : History → Awaited → Followed
+followed seen awaited = record { seen = seen; awaited = awaited }
+
+-- .. is that of which it is the history and the wait
+pub is_followed : (s : Followed) (seen : History) (awaited : Awaited) → seen ≡ s.seen → awaited ≡ s.awaited →
+    followed seen awaited ≡ s
+is_followed s seen awaited h k = ap (λ x. followed x awaited) h ∙ ap (λ x. followed s.seen x) k
 
 -- the program began, and was called until it answered a fault
-pub failed_on : {S P : Type 0} (gives : Gives S) (program : Program P) → Says gives → (p p1 p' : P) (s s' : S)
-    (fault : Fault) (answer : Result ℕ Fault) → program.begins p (Ok tt) p1 →
+pub failed_on : {P : Type 0} (gives : Gives Awaited) (program : Program P) → Says gives → (whole : Followed) →
+    (seen : History) (s s' : Awaited) → followed seen s ≡ whole → (p p1 p' : P) (fault : Fault) →
+    (answer : Result ℕ Fault) → program.begins p (Ok tt) p1 →
     ((steps : List Step) × DoesAll gives program steps s p1 (Err fault) s' p') → answer ≡ Err fault →
-    Follows folder_source program tt p answer p'
-failed_on gives program says p p1 p' s s' fault answer begun done is = (
-  Ok tt,
-  p1,
-  begun,
-  (
-    done.0,
-    Err fault,
-    tt,
-    p',
-    all_said (λ _. tt) gives folder_source.gives program says done.0 s s' p1 p' (Err fault) done.1,
-    (is, refl),
-  ),
-)
+    Follows folder_source program whole p answer p'
+failed_on gives program says whole seen s s' same p p1 p' fault answer begun done is =
+    subst (λ x. Follows folder_source program x p answer p') same (
+      Ok tt,
+      p1,
+      begun,
+      (
+        done.0,
+        Err fault,
+        followed seen s',
+        p',
+        all_said (followed seen) gives folder_source.gives program
+            (λ s s' pause given h. (refl, says s s' pause given h)) done.0 s s' p1 p' (Err fault) done.1,
+        (is, refl),
+      ),
+    )
 
 -- the program began, was called until the life was over, and took what was left
-pub went_on : {S P : Type 0} (gives : Gives S) (program : Program P) → Says gives → (p p1 p2 p' : P) (s s' : S)
-    (rest : Result Rest Fault) (answer : Result ℕ Fault) → program.begins p (Ok tt) p1 →
-    ((steps : List Step) × DoesAll gives program steps s p1 (Ok tt) s' p2) → folder_source.ends tt rest →
-    TakesRest program rest p2 answer p' → Follows folder_source program tt p answer p'
-went_on gives program says p p1 p2 p' s s' rest answer begun done ends takes = (
-  Ok tt,
-  p1,
-  begun,
-  (
-    done.0,
-    Ok tt,
-    tt,
-    p2,
-    all_said (λ _. tt) gives folder_source.gives program says done.0 s s' p1 p2 (Ok tt) done.1,
-    (rest, ends, takes),
-  ),
-)
+pub went_on : {P : Type 0} (gives : Gives Awaited) (program : Program P) → Says gives → (whole : Followed) →
+    (seen : History) (s s' : Awaited) → followed seen s ≡ whole → (p p1 p2 p' : P) (rest : Result Rest Fault) →
+    (answer : Result ℕ Fault) → program.begins p (Ok tt) p1 →
+    ((steps : List Step) × DoesAll gives program steps s p1 (Ok tt) s' p2) →
+    folder_source.ends (followed seen s') rest → TakesRest program rest p2 answer p' →
+    Follows folder_source program whole p answer p'
+went_on gives program says whole seen s s' same p p1 p2 p' rest answer begun done ends takes =
+    subst (λ x. Follows folder_source program x p answer p') same (
+      Ok tt,
+      p1,
+      begun,
+      (
+        done.0,
+        Ok tt,
+        followed seen s',
+        p2,
+        all_said (followed seen) gives folder_source.gives program
+            (λ s s' pause given h. (refl, says s s' pause given h)) done.0 s s' p1 p2 (Ok tt) done.1,
+        (rest, ends, takes),
+      ),
+    )
 
--- a run that went well is one of a program that followed the folder
-pub well_followed : {P : Type 0} (program : Program P) (p p' : P) (missed : ℕ) →
-    FollowsFolder program p (Ok missed) p' → Follows folder_source program tt p (Ok missed) p'
-well_followed program p p' missed (inl never) =
+-- who followed a folder followed an equal one
+pub at_folder : {P : Type 0} (program : Program P) (timeout : ℕ) (mode : RecursiveMode) (path folder : PathValue) →
+    path ≡ folder → (p p' : P) (answer : Result ℕ Fault) →
+    FollowsFolder timeout (path ∷ []) mode program p answer p' →
+    FollowsFolder timeout (folder ∷ []) mode program p answer p'
+at_folder program timeout mode path folder is p p' answer h =
+    subst (λ x. FollowsFolder timeout (x ∷ []) mode program p answer p') is h
+
+-- what follows a call, whatever it answered
+after_both : {T Q : Type 0} (first : Result T Fault) (More : T → Type 0) (Stops : Fault → Type 0) →
+    ((value : T) → More value → Q) → ((fault : Fault) → Stops fault → Q) → MatchResult first More Stops → Q
+after_both (Ok value) More Stops more stops h = more value h
+after_both (Err fault) More Stops more stops h = stops fault h
+
+-- what no wait changes is as it was after all steps
+pub all_kept : {S P X : Type 0} (gives : Gives S) (of : S → X) (program : Program P) →
+    ((s s' : S) (pause : Option Duration) (given : Given) → gives s pause given s' → of s' ≡ of s) →
+    (steps : List Step) (s s' : S) (p p' : P) (answer : Answer) →
+    DoesAll gives program steps s p answer s' p' → of s' ≡ of s
+all_kept gives of program keeps [] s s' p p' answer h = keeps s s' _ _ h.0
+all_kept gives of program keeps (step ∷ steps) s s' p p' answer h =
+    let s1 = h.1 in let p1 = h.2 in let once = keeps s s1 _ _ h.3.0 in
+    after_both h.0 _ _ (λ _ more. all_kept gives of program keeps steps s1 s' p1 p' answer more ∙ once)
+    (λ fault stops. ap of stops.2 ∙ once) h.4
+
+-- all its waits are of one queue
+pub lock_kept : {P : Type 0} (gives : Gives Awaited) (program : Program P) → Says gives → (s s' : Awaited) (p p' : P) →
+    (answer : Answer) → ((steps : List Step) × DoesAll gives program steps s p answer s' p') →
+    s'.queue.lock ≡ s.queue.lock
+lock_kept gives program says s s' p p' answer done =
+    all_kept gives (λ (x : Awaited). x.queue.lock) program (λ x x' pause given h. (says x x' pause given h).lock)
+    done.0 s s' p p' answer done.1
+
+-- a run that went well is one of a program that followed the folders
+pub well_followed : {P : Type 0} (program : Program P) (timeout : ℕ) (paths : List PathValue) (mode : RecursiveMode) →
+    (p p' : P) (missed : ℕ) → FollowsFolder timeout paths mode program p (Ok missed) p' →
+    OfReports timeout paths mode (λ s. Follows folder_source program s p (Ok missed) p')
+well_followed program timeout paths mode p p' missed (inl never) =
     absurd (subst (λ r. MatchResult r (λ _. Unit {0}) (λ _. ⊥)) never.2 tt)
-well_followed program p p' missed (inr follows) = follows
+well_followed program timeout paths mode p p' missed (inr follows) = follows
 
 -- what follows from what a call that went well has done
 pub on_ok : {T E A B : Type 0} (result : Result T E) → (A → B) → OnOk result A → OnOk result B

@@ -1,2 +1,3 @@
 pub mod FolderLemmas
+pub mod WholeLemmas
 pub mod WordLemmas

@@ -1,24 +1,32 @@
 -- A program that follows a folder.
-use Rattle.std.specs.Prelude.{◌≡◌, ℕ, Result, Err, IfErr, IfOk, IsSome, ◌⊎◌}
+use Rattle.std.specs.Prelude.{◌≡◌, ◌⊎◌, ℕ, List, Result, Err, IfErr, IfOk}
+use Rattle.notify_paths.specs.Path.{PathValue}
+use Rattle.notify_types.specs.declared.event.RecursiveMode.{RecursiveMode}
 use Rattle.watch_program.specs.declared.fault.Fault.{Fault}
 use Rattle.watch_program.specs.declared.fault.Fault.TheVariants.{Memory}
-use Rattle.report_loop.specs.declared.source.Given.TheVariants.{Nothing}
 use Rattle.report_loop.specs.Loop.{Follows, Program, Source}
 use Rattle.folder_reports.specs.Rest.{IsLeft}
-use Rattle.folder_reports.specs.Start.{IsStartFault}
+use Rattle.folder_reports.specs.Start.{Followed, IsOpened, IsStartFault}
+use Rattle.folder_reports.specs.Waits.{GivesOne}
 
--- a folder's reports: what the channel carries is in no contract; at the end what was emitted and what waits is left
-abbrev pub folder_source : Source (Unit {0})
+-- a folder's reports: a wait gives the next of its queue, and at the end what was emitted was given or is left, and
+-- what waits is left
+abbrev pub folder_source : Source Followed
 folder_source = record {
-  gives = λ before pause given after. given ≡ Nothing → IsSome pause;
-  ends = λ reports ended. IfErr ended (λ e. e ≡ Memory) × IfOk ended (λ rest. IsLeft rest.reports.items);
+  gives = λ before pause given after. (after.seen ≡ before.seen) × GivesOne before.awaited pause given after.awaited;
+  ends = λ s ended. IfErr ended (λ e. e ≡ Memory) × IfOk ended (IsLeft s.seen s.awaited.queue.given);
 }
+
+-- this is so of the reports of a debouncer that was started with this timeout, and of which these paths are roots
+abbrev pub OfReports : ℕ → List PathValue → RecursiveMode → (Followed → Type 0) → Type 0
+OfReports timeout paths mode is_so = (s : Followed) × IsOpened timeout paths mode s × is_so s
 
 -- the folder couldn't be watched, and the program was not called
 abbrev pub NeverBegins : {P : Type 0} → P → Result ℕ Fault → P → Type 0
 NeverBegins before answer after = (fault : Fault) × IsStartFault fault × (answer ≡ Err fault) × (after ≡ before)
 
--- the folder was watched, and the program followed what was reported of it; or it couldn't be watched
-abbrev pub FollowsFolder : {P : Type 0} → Program P → P → Result ℕ Fault → P → Type 0
-FollowsFolder program before answer after =
-    NeverBegins before answer after ⊎ Follows folder_source program tt before answer after
+-- the folders were watched, and the program followed what was reported of them; or they couldn't be watched
+abbrev pub FollowsFolder : {P : Type 0} → ℕ → List PathValue → RecursiveMode → Program P → P → Result ℕ Fault → P
+    → Type 0
+FollowsFolder timeout paths mode program before answer after = NeverBegins before answer after
+    ⊎ OfReports timeout paths mode (λ s. Follows folder_source program s before answer after)

@@ -1,3 +1,4 @@
 pub mod FollowsFolder
 pub mod PathSteps
+pub mod Whole
 pub mod WholeProgram

@@ -1,8 +1,10 @@
 -- A whole program that takes batches, from its words to its exit status.
-use Rattle.std.specs.Prelude.{◌≡◌, ◌⊎◌, ℕ, List, [], ◌∷◌, codes, unwrap_or, Result, Ok, Err, MatchResult}
+use Rattle.std.specs.Prelude.{◌≡◌, ◌⊎◌, ◌*◌, ◌^◌, None, ℕ, List, [], ◌∷◌, codes, unwrap_or, Result, Ok, Err, MatchResult}
 use Rattle.clap.specs.declared.parser.matches.ArgMatches.{ArgMatches}
-use Rattle.clap.specs.Words.{first_value, found_of}
+use Rattle.clap.specs.Words.{first_value, found_of, one_text}
 use Rattle.notify_paths.specs.PathText.{parts_of}
+use Rattle.notify_types.specs.declared.event.RecursiveMode.TheVariants.{Recursive}
+use Rattle.watch_pace.specs.Words.{Gives}
 use Rattle.watch_program.specs.declared.fault.Fault.{Fault}
 use Rattle.watch_program.specs.declared.fault.Fault.TheVariants.{Incomplete, Memory, NotApart, NotThere}
 use Rattle.report_loop.specs.declared.batches.Places.{Places}
@@ -32,10 +34,18 @@ named_places matches = record {
 abbrev pub IsRefusal : Fault → Type 0
 IsRefusal fault = (fault ≡ Memory) ⊎ ((fault ≡ NotThere) ⊎ (fault ≡ NotApart))
 
--- the program followed the folder, and then took once more what it had asked for again; or a fault ended it before
-abbrev pub RunsOver : {P : Type 0} → Begins P → Takes P → Keeps P → Answer → Keeps P → Type 0
-RunsOver {P} begins takes before answer after =
-    (missed : Result ℕ Fault) × (last : Keeps P) × FollowsFolder (of_batches begins takes) before missed last
+-- the words say this timeout, in nanoseconds: so many milliseconds, or half a second if none says it
+abbrev pub IsTimeout : ArgMatches → ℕ → Type 0
+IsTimeout matches timeout =
+    (one_text (found_of matches) (codes "timeout") ≡ None → timeout ≡ 500 * 10 ^ 6)
+    × ((n : ℕ) → Gives matches (codes "timeout") n → timeout ≡ n * 10 ^ 6)
+
+-- the program followed the folder that the words name, with all below it, and then took once more what it had asked for
+-- again; or a fault ended it before
+abbrev pub RunsOver : {P : Type 0} → Begins P → Takes P → ArgMatches → Keeps P → Answer → Keeps P → Type 0
+RunsOver {P} begins takes matches before answer after =
+    (timeout : ℕ) × (missed : Result ℕ Fault) × (last : Keeps P) × IsTimeout matches timeout
+    × FollowsFolder timeout ((named_places matches).folder ∷ []) Recursive (of_batches begins takes) before missed last
     × MatchResult missed (λ _. EndsBy takes last answer after) (λ fault. (answer ≡ Err fault) × (after ≡ last))
 
 -- how a program ends after a run: by its fault; if it went well, so too, or as one that couldn't do all, since there
@@ -50,4 +60,4 @@ abbrev pub RunsFolder : {P : Type 0} → Begins P → Takes P → P → ArgMatch
 RunsFolder {P} begins takes program matches answer =
     ((fault : Fault) × IsRefusal fault × (answer ≡ Err fault))
     ⊎ ((before : Keeps P) × (after : Keeps P) × (run : Answer) × (before.program ≡ program) × (before.waiting ≡ [])
-    × (before.places ≡ named_places matches) × RunsOver begins takes before run after × EndsAfter run answer)
+    × (before.places ≡ named_places matches) × RunsOver begins takes matches before run after × EndsAfter run answer)

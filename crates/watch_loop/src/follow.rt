@@ -1,4 +1,7 @@
 //! A program that follows a folder.
+ghost use Rattle.std.specs.Prelude.{◌∷◌, []};
+ghost use Rattle.std.specs.Duration.{as_nanos};
+ghost use Rattle.notify_types.specs.declared.event.RecursiveMode.TheVariants.{NonRecursive};
 ghost use Rattle.report_loop.specs.Loop.{Follows};
 ghost use Rattle.watch_loop.specs.FollowsFolder.{FollowsFolder, folder_source};
 
@@ -21,7 +24,7 @@ pub fn follow_folder<R: DebouncerRuntime + AllocGlobal, P: TakesReports, E: Writ
     complaints: Complaints<'_, E>,
     program: &mut P,
 ) -> Result<u64, Fault>
-    ensures { FollowsFolder
+    ensures { FollowsFolder (as_nanos pace.entry.timeout) (folder.now ∷ []) mode
         (record { begins = P.begins; patience = P.waits; takes = P.takes; passes = P.passes })
         program.old result program.new }
 {
@@ -38,7 +41,7 @@ pub fn follow_file<R: DebouncerRuntime + AllocGlobal, P: TakesReports, E: Write 
     complaints: Complaints<'_, E>,
     program: &mut P,
 ) -> Result<u64, Fault>
-    ensures { FollowsFolder
+    ensures { FollowsFolder (as_nanos pace.entry.timeout) (folder.now ∷ []) NonRecursive
         (record { begins = P.begins; patience = P.waits; takes = P.takes; passes = P.passes })
         program.old result program.new }
 {
@@ -55,7 +58,7 @@ pub fn follow_folders<R: DebouncerRuntime + AllocGlobal, P: TakesReports, E: Wri
     complaints: Complaints<'_, E>,
     program: &mut P,
 ) -> Result<u64, Fault>
-    ensures { FollowsFolder
+    ensures { FollowsFolder (as_nanos pace.entry.timeout) folders.now mode
         (record { begins = P.begins; patience = P.waits; takes = P.takes; passes = P.passes })
         program.old result program.new }
 {
@@ -71,11 +74,11 @@ fn follow<R: DebouncerRuntime + AllocGlobal, P: TakesReports, E: Write + Drop>(
 ) -> Result<u64, Fault>
     ensures { Follows folder_source
         (record { begins = P.begins; patience = P.waits; takes = P.takes; passes = P.passes })
-        tt program.old result program.new }
+        reports.entry program.old result program.new }
 {
     program.begin()?;
     reports.say_left_out();
-    let mut source = reports.waiting();
+    let (mut source, watch) = reports.apart();
     hand_on(&rt, &mut source, program)?;
-    take_rest(reports.finish(), program)
+    take_rest(watch.finish(source), program)
 }

@@ -1,10 +1,12 @@
 //! A whole program over a folder, from its words to its exit status.
 ghost use Rattle.std.specs.Prelude.{◌≡◌, ◌⊎◌, ◌++◌, ◌∷◌, [], ℕ, List, Result, codes, map, unwrap_or, IfErr, IfOk};
+ghost use Rattle.std.specs.Duration.{as_nanos};
 ghost use Rattle.std.specs.String.{string_bytes};
 ghost use Rattle.std.specs.declared.alloc.AllocError.{AllocError};
 ghost use Rattle.clap.specs.declared.builder.command.Command.{Command};
 ghost use Rattle.clap.specs.Words.{found_of};
 ghost use Rattle.notify_paths.specs.PathText.{parts_of};
+ghost use Rattle.notify_types.specs.declared.event.RecursiveMode.TheVariants.{Recursive};
 ghost use Rattle.report_loop.specs.Batches.{of_batches};
 ghost use Rattle.report_loop.specs.Loop.{Answer};
 ghost use Rattle.watch_loop.specs.FollowsFolder.{FollowsFolder};
@@ -232,13 +234,13 @@ fn watch<R: DebouncerRuntime + AllocGlobal + Eprint, P: TakesBatches, E: Write +
     closed: &ClosedPaths,
     taker: &mut BatchTaker<'_, P, E>,
 ) -> Result<(), Fault>
-    ensures { RunsOver P.begins P.takes taker.old result taker.new }
+    ensures { RunsOver P.begins P.takes matches.now taker.old result taker.new }
 {
-    let folder = folder_of(rt.alloc(), matches)?;
     let pace = Pace {
         initial: taker.wants_initial(),
         ..pace_of(matches)
     };
+    let folder = folder_of(rt.alloc(), matches)?;
     let missed = follow(rt, name, &folder, pace, closed, taker)?;
     taker.finish(missed)
 }
@@ -252,7 +254,8 @@ fn follow<R: DebouncerRuntime + AllocGlobal + Eprint, P: TakesBatches, E: Write 
     closed: &ClosedPaths,
     taker: &mut BatchTaker<'_, P, E>,
 ) -> Result<u64, Fault>
-    ensures { FollowsFolder (of_batches P.begins P.takes) taker.old result taker.new }
+    ensures { FollowsFolder (as_nanos pace.entry.timeout) (folder.now ∷ []) Recursive
+        (of_batches P.begins P.takes) taker.old result taker.new }
 {
     let complaints = Complaints::new(name, StandardError { rt }).counting(closed);
     let mode = RecursiveMode::Recursive;

@@ -1,6 +1,6 @@
 //! The core: the handle stays in one struct, and each call has it alone.
 use crate::event::{Error, ErrorKind, Event, EventAttributes, EventKind, Flag, RecursiveMode, Result};
-use crate::raw::{self, Change, Counts, Handle, Told, ToldError};
+use crate::raw::{self, Change, Counts, Handle, Number, Told, ToldError};
 use std::path::{Path, PathBuf};
 
 /// A debouncer without clock and threads. It stays on the thread that made it: it is neither `Send` nor `Sync`, as
@@ -60,6 +60,27 @@ impl Core {
         let mut recursive = false;
         done(unsafe { raw::ndf_mode(&mut self.handle, text.as_ptr(), text.len(), &mut recursive) })?;
         Ok(if recursive { RecursiveMode::Recursive } else { RecursiveMode::NonRecursive })
+    }
+
+    /// The file at the path has this number from now on, by which two halves of a rename find each other: say it
+    /// before an event by which the path may come into being.
+    pub fn set_number(&mut self, path: &Path, device: u64, inode: u64) -> Result<()> {
+        let text = bytes_of(path);
+        done(unsafe { raw::ndf_number(&mut self.handle, text.as_ptr(), text.len(), device, inode) })
+    }
+
+    /// The path has no number any longer, nor has what lies below it.
+    pub fn forget(&mut self, path: &Path) -> Result<()> {
+        let text = bytes_of(path);
+        done(unsafe { raw::ndf_forget(&mut self.handle, text.as_ptr(), text.len()) })
+    }
+
+    /// The device and the inode of the file at the path, if they are known.
+    pub fn number_of(&mut self, path: &Path) -> Result<Option<(u64, u64)>> {
+        let text = bytes_of(path);
+        let mut number = Number::default();
+        done(unsafe { raw::ndf_number_of(&mut self.handle, text.as_ptr(), text.len(), &mut number) })?;
+        Ok(number.known.then_some((number.device, number.inode)))
     }
 
     /// Takes an event. `exists` says whether its first path exists, which matters to `Modify(Name(Any))` alone.

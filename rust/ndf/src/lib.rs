@@ -14,8 +14,133 @@
 //! # Ok::<(), ndf::Error>(())
 //! ```
 //!
-//! [`new_debouncer`] has inotify on Linux; any other watcher implements [`Watcher`], as notify's can (docs/C.md of
-//! the repository shows how). Whoever has a loop of their own takes [`Core`], which has no thread and no clock.
+//! Whoever has a loop of their own takes [`Core`], which has no thread and no clock. (docs/C.md of the repository says
+//! what is proved of it.)
+//!
+//! [`new_debouncer`] has inotify on Linux; any other watcher implements [`Watcher`] and goes under
+//! [`new_debouncer_opt`]. This one is notify's, which isn't compiled here, since notify isn't here. The functions
+//! after the impl were compiled once beside declarations of the types of notify 8, which have the same names and variants.
+//!
+//! ```text
+//! struct Native(notify::RecommendedWatcher);
+//!
+//! impl ndf::Watcher for Native {
+//!     type Config = notify::Config;
+//!
+//!     fn new<H: ndf::EventHandler>(mut handler: H, config: notify::Config) -> ndf::Result<Native> {
+//!         let hand_on = move |event: notify::Result<notify::Event>| handler.handle_event(event.map(event_of).map_err(error_of));
+//!         notify::Watcher::new(hand_on, config).map(Native).map_err(error_of)
+//!     }
+//!
+//!     fn watch(&mut self, path: &Path, mode: ndf::RecursiveMode) -> ndf::Result<()> {
+//!         notify::Watcher::watch(&mut self.0, path, mode_of(mode)).map_err(error_of)
+//!     }
+//!
+//!     fn unwatch(&mut self, path: &Path) -> ndf::Result<()> {
+//!         notify::Watcher::unwatch(&mut self.0, path).map_err(error_of)
+//!     }
+//! }
+//!
+//! fn mode_of(mode: ndf::RecursiveMode) -> notify::RecursiveMode {
+//!     match mode {
+//!         ndf::RecursiveMode::Recursive => notify::RecursiveMode::Recursive,
+//!         ndf::RecursiveMode::NonRecursive => notify::RecursiveMode::NonRecursive,
+//!     }
+//! }
+//!
+//! fn error_of(error: notify::Error) -> ndf::Error {
+//!     let kind = match error.kind {
+//!         notify::ErrorKind::Generic(text) => ndf::ErrorKind::Generic(text),
+//!         notify::ErrorKind::Io(error) => ndf::ErrorKind::Io(error),
+//!         notify::ErrorKind::PathNotFound => ndf::ErrorKind::PathNotFound,
+//!         notify::ErrorKind::WatchNotFound => ndf::ErrorKind::WatchNotFound,
+//!         other => ndf::ErrorKind::Generic(format!("{other:?}")),
+//!     };
+//!     ndf::Error { kind, paths: error.paths }
+//! }
+//!
+//! fn event_of(event: notify::Event) -> ndf::Event {
+//!     let attrs = ndf::EventAttributes {
+//!         tracker: event.attrs.tracker(),
+//!         flag: event.attrs.flag().map(|_| ndf::Flag::Rescan),
+//!         info: event.attrs.info().map(str::to_string),
+//!         source: event.attrs.source().map(str::to_string),
+//!         process_id: event.attrs.process_id(),
+//!     };
+//!     ndf::Event { kind: kind_of(event.kind), paths: event.paths, attrs }
+//! }
+//!
+//! fn kind_of(kind: notify::EventKind) -> ndf::EventKind {
+//!     use notify::event::{AccessKind as A, CreateKind as C, EventKind as E, ModifyKind as M, RemoveKind as R};
+//!     match kind {
+//!         E::Any => ndf::EventKind::Any,
+//!         E::Access(A::Any) => ndf::EventKind::Access(ndf::AccessKind::Any),
+//!         E::Access(A::Read) => ndf::EventKind::Access(ndf::AccessKind::Read),
+//!         E::Access(A::Open(mode)) => ndf::EventKind::Access(ndf::AccessKind::Open(access_of(mode))),
+//!         E::Access(A::Close(mode)) => ndf::EventKind::Access(ndf::AccessKind::Close(access_of(mode))),
+//!         E::Access(A::Other) => ndf::EventKind::Access(ndf::AccessKind::Other),
+//!         E::Create(C::Any) => ndf::EventKind::Create(ndf::CreateKind::Any),
+//!         E::Create(C::File) => ndf::EventKind::Create(ndf::CreateKind::File),
+//!         E::Create(C::Folder) => ndf::EventKind::Create(ndf::CreateKind::Folder),
+//!         E::Create(C::Other) => ndf::EventKind::Create(ndf::CreateKind::Other),
+//!         E::Modify(M::Any) => ndf::EventKind::Modify(ndf::ModifyKind::Any),
+//!         E::Modify(M::Data(change)) => ndf::EventKind::Modify(ndf::ModifyKind::Data(data_of(change))),
+//!         E::Modify(M::Metadata(kind)) => ndf::EventKind::Modify(ndf::ModifyKind::Metadata(metadata_of(kind))),
+//!         E::Modify(M::Name(mode)) => ndf::EventKind::Modify(ndf::ModifyKind::Name(rename_of(mode))),
+//!         E::Modify(M::Other) => ndf::EventKind::Modify(ndf::ModifyKind::Other),
+//!         E::Remove(R::Any) => ndf::EventKind::Remove(ndf::RemoveKind::Any),
+//!         E::Remove(R::File) => ndf::EventKind::Remove(ndf::RemoveKind::File),
+//!         E::Remove(R::Folder) => ndf::EventKind::Remove(ndf::RemoveKind::Folder),
+//!         E::Remove(R::Other) => ndf::EventKind::Remove(ndf::RemoveKind::Other),
+//!         E::Other => ndf::EventKind::Other,
+//!     }
+//! }
+//!
+//! fn access_of(mode: notify::event::AccessMode) -> ndf::AccessMode {
+//!     use notify::event::AccessMode as A;
+//!     match mode {
+//!         A::Any => ndf::AccessMode::Any,
+//!         A::Execute => ndf::AccessMode::Execute,
+//!         A::Read => ndf::AccessMode::Read,
+//!         A::Write => ndf::AccessMode::Write,
+//!         A::Other => ndf::AccessMode::Other,
+//!     }
+//! }
+//!
+//! fn data_of(change: notify::event::DataChange) -> ndf::DataChange {
+//!     use notify::event::DataChange as D;
+//!     match change {
+//!         D::Any => ndf::DataChange::Any,
+//!         D::Size => ndf::DataChange::Size,
+//!         D::Content => ndf::DataChange::Content,
+//!         D::Other => ndf::DataChange::Other,
+//!     }
+//! }
+//!
+//! fn metadata_of(kind: notify::event::MetadataKind) -> ndf::MetadataKind {
+//!     use notify::event::MetadataKind as M;
+//!     match kind {
+//!         M::Any => ndf::MetadataKind::Any,
+//!         M::AccessTime => ndf::MetadataKind::AccessTime,
+//!         M::WriteTime => ndf::MetadataKind::WriteTime,
+//!         M::Permissions => ndf::MetadataKind::Permissions,
+//!         M::Ownership => ndf::MetadataKind::Ownership,
+//!         M::Extended => ndf::MetadataKind::Extended,
+//!         M::Other => ndf::MetadataKind::Other,
+//!     }
+//! }
+//!
+//! fn rename_of(mode: notify::event::RenameMode) -> ndf::RenameMode {
+//!     use notify::event::RenameMode as R;
+//!     match mode {
+//!         R::Any => ndf::RenameMode::Any,
+//!         R::To => ndf::RenameMode::To,
+//!         R::From => ndf::RenameMode::From,
+//!         R::Both => ndf::RenameMode::Both,
+//!         R::Other => ndf::RenameMode::Other,
+//!     }
+//! }
+//! ```
 
 mod core;
 mod debouncer;

@@ -57,6 +57,14 @@ pub struct ToldError {
 }
 
 #[repr(C)]
+#[derive(Clone, Copy, Default, Debug, PartialEq, Eq)]
+pub struct Number {
+    pub known: bool,
+    pub device: u64,
+    pub inode: u64,
+}
+
+#[repr(C)]
 #[derive(Clone, Copy, Default, Debug)]
 pub struct Counts {
     pub taken: u64,
@@ -66,6 +74,7 @@ pub struct Counts {
     pub latest: u64,
     pub timeout: u64,
     pub errors: usize,
+    pub numbers: usize,
 }
 
 pub const DONE: u32 = 0;
@@ -81,6 +90,9 @@ extern "C" {
     pub fn ndf_watch(h: *mut Handle, path: *const u8, len: usize, recursive: bool) -> u32;
     pub fn ndf_unwatch(h: *mut Handle, path: *const u8, len: usize) -> u32;
     pub fn ndf_mode(h: *mut Handle, path: *const u8, len: usize, recursive: *mut bool) -> u32;
+    pub fn ndf_number(h: *mut Handle, path: *const u8, len: usize, device: u64, inode: u64) -> u32;
+    pub fn ndf_forget(h: *mut Handle, path: *const u8, len: usize) -> u32;
+    pub fn ndf_number_of(h: *mut Handle, path: *const u8, len: usize, number: *mut Number) -> u32;
     pub fn ndf_event_with(
         h: *mut Handle,
         change: *const Change,

@@ -35,6 +35,24 @@ fn halves_are_joined_and_what_waits_is_seen() {
 }
 
 #[test]
+fn halves_are_joined_by_the_number_of_their_file() {
+    let mut core = Core::new(50).unwrap();
+    let half = |mode, path: &str| Event::new(EventKind::Modify(ModifyKind::Name(mode))).add_path(path);
+    core.set_number(Path::new("/w/a"), 1, 7).unwrap();
+    core.set_number(Path::new("/w/a/1"), 1, 8).unwrap();
+    core.add_event(&half(RenameMode::From, "/w/a"), 0, false).unwrap();
+    assert_eq!(core.number_of(Path::new("/w/a/1")).unwrap(), None);
+    core.set_number(Path::new("/w/b"), 1, 7).unwrap();
+    core.add_event(&half(RenameMode::To, "/w/b"), 1, true).unwrap();
+    assert_eq!(core.number_of(Path::new("/w/b")).unwrap(), Some((1, 7)));
+    let waiting = core.outlook().unwrap();
+    assert_eq!(waiting.len(), 1);
+    assert_eq!(waiting[0].event.paths, [Path::new("/w/a"), Path::new("/w/b")]);
+    core.forget(Path::new("/w")).unwrap();
+    assert_eq!(core.counts().unwrap().numbers, 0);
+}
+
+#[test]
 fn roots_have_modes_and_errors_wait() {
     let mut core = Core::new(50).unwrap();
     core.watch(Path::new("/w"), RecursiveMode::Recursive).unwrap();

@@ -1,14 +1,53 @@
-use Rattle.journal_lines.proofs.PrintedLemmas.{journal_program, printer_followed}
+use Rattle.std.proofs.Common.{◌∙◌, inl, refl, subst, ap, rules}
+use Rattle.std.specs.Duration.{as_nanos}
+use Rattle.notify_types.specs.declared.event.RecursiveMode.TheVariants.{Recursive}
+use Rattle.journal_lines.proofs.PrintedLemmas.{journal_program, printer_begun, printer_followed}
 use Rattle.journal_lines.specs.KeptView.{filter_rule}
 use Rattle.watch_loop.proofs.FolderLemmas.{well_followed}
+use Rattle.folder_reports.specs.Start.{IsOpened}
 use Rattle.watch_loop.specs.FollowsFolder.{folder_source}
+use Rattle.change_journal.proofs.Faults.{ill_followed, of_fault}
 use Rattle.change_journal.proofs.watch.Goals as goal
 
-pub returns : goal.returns
-returns g c = record {
-  written = printer_followed folder_source tt (λ p. filter_rule p.filter) (λ p. p.journal)
-      (λ p. g.O.Write.contents p.out) c.args.printer.now c.follow_folders.new.program c.in_ok-missed.missed
-      (well_followed (journal_program (λ p. filter_rule p.filter) (λ p. p.journal)
-      (λ p. g.O.Write.contents p.out)) c.args.printer.now c.follow_folders.new.program c.in_ok-missed.missed
-      c.in_ok-missed.ensures);
-}
+pub returns-in_err-folders-clause-begun : goal.returns-in_err-folders-clause-begun
+returns-in_err-folders-clause-begun g c =
+    of_fault _ c.from_residual.result c.in_err-folders.field-0.0 (search rules)
+    (inl (inl (inl c.in_err-folders.ensures.err), refl))
+
+pub returns-in_err-missed-clause-begun : goal.returns-in_err-missed-clause-begun
+returns-in_err-missed-clause-begun g c =
+    let pace = c.pace_of-pace.ensures in
+    let timeout = as_nanos c.pace_of-pace.result.timeout in
+    of_fault _ c.from_residual-in_err-missed.result c.in_err-missed.field-0.0 (search rules)
+    (ill_followed (journal_program (λ p. filter_rule p.filter) (λ p. p.journal) (λ p. g.O.Write.contents p.out))
+    timeout _ Recursive c.args.printer.now c.follow_folders.new.program c.in_err-missed.field-0.0
+    c.in_err-missed.ensures (λ same. ap (λ p. g.O.Write.contents p.out) same)
+    (λ run. (
+      timeout,
+      (pace.timeout, pace.timeout_given),
+      (
+        run.0,
+        subst (λ paths. IsOpened timeout paths Recursive run.0)
+            (c.as_slice.ensures.value ∙ c.in_ok-folders.ensures.ok) run.1,
+        printer_begun (λ p. filter_rule p.filter) (λ p. p.journal) (λ p. g.O.Write.contents p.out)
+            folder_source run.0 c.args.printer.now c.follow_folders.new.program _ run.2,
+      ),
+    )))
+
+pub returns-clause-written : goal.returns-clause-written
+returns-clause-written g c =
+    let pace = c.pace_of-pace.ensures in
+    let timeout = as_nanos c.pace_of-pace.result.timeout in
+    let run = well_followed (journal_program (λ p. filter_rule p.filter) (λ p. p.journal)
+    (λ p. g.O.Write.contents p.out)) timeout _ Recursive c.args.printer.now c.follow_folders.new.program
+    c.in_ok-missed.missed c.in_ok-missed.ensures in (
+      timeout,
+      (pace.timeout, pace.timeout_given),
+      (
+        run.0,
+        subst (λ paths. IsOpened timeout paths Recursive run.0)
+            (c.as_slice.ensures.value ∙ c.in_ok-folders.ensures.ok) run.1,
+        printer_followed folder_source run.0 (λ p. filter_rule p.filter) (λ p. p.journal)
+            (λ p. g.O.Write.contents p.out) c.args.printer.now c.follow_folders.new.program c.in_ok-missed.missed run.2,
+      ),
+    )

@@ -1,18 +1,33 @@
-use Rattle.config_state.proofs.FollowedLemmas.{follower_followed, follower_program}
-use Rattle.watch_loop.proofs.FolderLemmas.{on_ok, well_followed}
+use Rattle.std.proofs.Common.{inr, rules}
+use Rattle.config_state.proofs.FollowedLemmas.{follower_begun, follower_followed, follower_program}
+use Rattle.config_state.specs.Followed.{following}
+use Rattle.notify_types.specs.declared.event.RecursiveMode.TheVariants.{NonRecursive}
+use Rattle.watch_loop.proofs.FolderLemmas.{well_followed}
 use Rattle.watch_loop.specs.FollowsFolder.{folder_source}
+use Rattle.config_reloader.proofs.Faults.{ill_followed, of_fault, parted}
 use Rattle.config_reloader.proofs.watch.Goals as goal
 
+pub returns-in_err-missed-clause-begun : goal.returns-in_err-missed-clause-begun
+returns-in_err-missed-clause-begun g c =
+    of_fault _ c.from_residual.result c.in_err-missed.field-0.0 (search rules)
+    (ill_followed (follower_program g.F.ReadsText.gives (λ p. p.file)
+    (λ p. following p.files p.reloader (g.O.Write.contents p.out))) _ _ NonRecursive c.args.follower.now
+    c.follow_file.new.program c.in_err-missed.field-0.0 c.in_err-missed.ensures (λ same. same)
+    (λ run. (
+      run.0,
+      run.1,
+      follower_begun g.F.ReadsText.gives (λ p. p.file)
+          (λ p. following p.files p.reloader (g.O.Write.contents p.out)) folder_source run.0 c.args.follower.now
+          c.follow_file.new.program _ run.2,
+    )))
+
 pub returns : goal.returns
-returns g c = record {
-  read = on_ok c.read_if_missed.result (λ last. (
-    c.in_ok-missed.missed,
-    c.follow_file.new.program.reloader,
-    g.O.Write.contents c.follow_file.new.program.out,
-    follower_followed folder_source tt (λ p. p.file) (λ p. p.reloader) (λ p. g.O.Write.contents p.out)
-        c.args.follower.now c.follow_file.new.program c.in_ok-missed.missed
-        (well_followed (follower_program (λ p. p.file) (λ p. p.reloader) (λ p. g.O.Write.contents p.out))
-        c.args.follower.now c.follow_file.new.program c.in_ok-missed.missed c.in_ok-missed.ensures),
-    last,
-  )) c.read_if_missed.ensures.read;
-}
+returns g c =
+    let run = well_followed (follower_program g.F.ReadsText.gives (λ p. p.file)
+    (λ p. following p.files p.reloader (g.O.Write.contents p.out)))
+    _ _ NonRecursive c.args.follower.now c.follow_file.new.program c.in_ok-missed.missed c.in_ok-missed.ensures in
+    let ended = follower_followed g.F.ReadsText.gives (λ p. p.file)
+    (λ p. following p.files p.reloader (g.O.Write.contents p.out)) folder_source run.0 c.args.follower.now
+    c.follow_file.new.program c.in_ok-missed.missed c.read_if_missed.result _ run.2 c.read_if_missed.ensures.read in
+    let both = parted _ c.read_if_missed.result (λ e. (run.0, run.1, e)) (λ fault e. inr (run.0, run.1, e)) ended in
+    record { read = both.0; begun = both.1 }

@@ -7,7 +7,8 @@ use Rattle.debounce_access.proofs.access.Access.miss.Goals as goal
 pub give-requires-clause-may : goal.give-requires-clause-may
 give-requires-clause-may g c =
     let took = c.take-guard.ensures.took in
-    may_go _ _ (Missed ∷ []) took.holds (rw c.of-held.ensures refl) (miss_stands _ _ _ _ took.stands) (inr refl)
+    may_go _ _ (Missed ∷ []) took.holds (rw c.of-held.ensures refl)
+    (rw c.saturating_add.ensures (miss_stands _ _ _ _ took.stands)) (inr refl)
 
 pub returns-clause-lasts : goal.returns-clause-lasts
 returns-clause-lasts g c =

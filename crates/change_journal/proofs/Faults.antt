@@ -1,0 +1,28 @@
+-- A program over folders that ended by a fault. The function that watches cites it.
+use Rattle.std.proofs.Common.{◌≡◌, ◌⊎◌, ℕ, List, inl, inr, sym, ap, subst}
+use Rattle.std.specs.Prelude.{Result, Ok, Err, IfErr}
+use Rattle.watch_program.specs.declared.fault.Fault.{Fault}
+use Rattle.notify_paths.specs.Path.{PathValue}
+use Rattle.notify_types.specs.declared.event.RecursiveMode.{RecursiveMode}
+use Rattle.report_loop.specs.Loop.{Follows, Program}
+use Rattle.folder_reports.specs.Start.{IsStartFault}
+use Rattle.watch_loop.specs.FollowsFolder.{FollowsFolder, OfReports, folder_source}
+
+-- the fault of an answer, if it is one
+abbrev fault_or : Fault → Result ℕ Fault → Fault
+fault_or other (Ok value) = other
+fault_or other (Err fault) = fault
+
+-- the folders couldn't be watched, and the program is as it was; or it followed them until the fault came
+pub ill_followed : {P A B : Type 0} (program : Program P) (timeout : ℕ) (paths : List PathValue)
+    (mode : RecursiveMode) (p p' : P) (fault : Fault) → FollowsFolder timeout paths mode program p (Err fault) p' →
+    (p' ≡ p → A) → (OfReports timeout paths mode (λ s. Follows folder_source program s p (Err fault) p') → B) →
+    (IsStartFault fault × A) ⊎ B
+ill_followed program timeout paths mode p p' fault (inl never) same follows =
+    inl (subst IsStartFault (sym (ap (fault_or fault) never.2)) never.1, same never.3)
+ill_followed program timeout paths mode p p' fault (inr run) same follows = inr (follows run)
+
+-- what holds of a fault holds of an answer that is this fault
+pub of_fault : {T : Type 0} (D : Fault → Type 0) (result : Result T Fault) (fault : Fault) → result ≡ Err fault →
+    D fault → IfErr result D
+of_fault D result fault is h = subst (λ r. IfErr r D) (sym is) h

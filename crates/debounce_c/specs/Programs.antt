@@ -1,0 +1,109 @@
+-- What a C program has done with a handle: each call that it made since `ndf_new`, right or wrong, with the code that
+-- was answered; and what holds of all of it. Assumes nothing: these are definitions.
+use Rattle.std.specs.Prelude.{◌≡◌, ℕ, ◌==◌, Bool, false, true, List, [], ◌∷◌, ◌++◌, Option, Some, if◌then◌else◌}
+use Rattle.notify_paths.specs.PathText.{parts_of}
+use Rattle.debounce_model.specs.Command.{CommandValue, ReplyValue}
+use Rattle.debounce_model.specs.Flood.{FloodsNowhere}
+use Rattle.debounce_model.specs.Founded.{IsNoneInvented}
+use Rattle.debounce_model.specs.Kept.{has_rename, is_kept}
+use Rattle.debounce_model.specs.PathsLaw.{LeavesRawPaths}
+use Rattle.debounce_model.specs.Soon.{is_soon}
+use Rattle.debounce_model.specs.State.{State}
+use Rattle.debounce_desk.specs.Calls.{CallValue, Asks, Feeds, Forgets, MakesAll, Notes, Reads, Says, Ticks, Unwatches, Watches, commands_of}
+use Rattle.debounce_desk.specs.Desk.{DeskValue, IsOpened}
+use Rattle.debounce_desk.specs.Said.{error_of, event_of, id_of, mode_of}
+use Rattle.debounce_desk.specs.declared.records.Attributes.{Attributes}
+use Rattle.debounce_desk.specs.declared.records.Change.{Change}
+use Rattle.debounce_desk.specs.declared.records.Counts.{Counts}
+use Rattle.debounce_desk.specs.declared.records.Number.{Number}
+use Rattle.debounce_desk.specs.declared.records.Told.{Told}
+use Rattle.debounce_desk.specs.declared.records.ToldError.{ToldError}
+use Rattle.debounce_c.specs.Exports.{AreCountsTold, IsErrorTold, IsErrorsAnswered, IsFed, IsForgotten, IsModeTold, IsNoted, IsNumbered, IsNumberTold, IsOutlookAnswered, IsTickAnswered, IsTold, IsUnwatched, IsWatched}
+
+-- a call of an export but ndf_new.. and ndf_free, with what it was given
+pub data ExportValue : Type 0 where
+  CallsWatch : (path : List ℕ) → (recursive : Bool) → ExportValue
+  CallsUnwatch : (path : List ℕ) → ExportValue
+  CallsMode : (path : List ℕ) → ExportValue
+  CallsNumber : (path : List ℕ) → (device inode : ℕ) → ExportValue
+  CallsForget : (path : List ℕ) → ExportValue
+  CallsNumberOf : (path : List ℕ) → ExportValue
+  CallsEvent : (c : Change) → (a : Attributes) → (first second info source : List ℕ) → ExportValue
+  CallsError : (kind : ℕ) → (has_path : Bool) → (text path : List ℕ) → ExportValue
+  CallsTick : (now : ℕ) → ExportValue
+  CallsOutlook : ExportValue
+  CallsNext : ExportValue
+  CallsErrors : ExportValue
+  CallsNextError : ExportValue
+  CallsCounts : ExportValue
+
+-- the export promises this of the call, with this code, and of what was held before and after
+abbrev pub IsAnswered : ExportValue → ℕ → Option DeskValue → Option DeskValue → Type 0
+IsAnswered (CallsWatch path recursive) code old new = IsWatched code path recursive old new
+IsAnswered (CallsUnwatch path) code old new = IsUnwatched code path old new
+IsAnswered (CallsMode path) code old new = (b c : Bool) × IsModeTold code path b c old new
+IsAnswered (CallsNumber path device inode) code old new = IsNumbered code path device inode old new
+IsAnswered (CallsForget path) code old new = IsForgotten code path old new
+IsAnswered (CallsNumberOf path) code old new = (b c : Number) × IsNumberTold code path b c old new
+IsAnswered (CallsEvent c a first second info source) code old new = IsFed code c a first second info source old new
+IsAnswered (CallsError kind has_path text path) code old new = IsNoted code kind has_path text path old new
+IsAnswered (CallsTick now) code old new = (b c : ℕ) × IsTickAnswered code now b c old new
+IsAnswered CallsOutlook code old new = (b c : ℕ) × IsOutlookAnswered code b c old new
+IsAnswered CallsNext code old new = (b c : Told) × (m n : List ℕ) × IsTold code b c m n old new
+IsAnswered CallsErrors code old new = (b c : ℕ) × IsErrorsAnswered code b c old new
+IsAnswered CallsNextError code old new = (b c : ToldError) × (m n : List ℕ) × IsErrorTold code b c m n old new
+IsAnswered CallsCounts code old new = (b c : Counts) × AreCountsTold code b c old new
+
+-- what a call is that answers 0
+abbrev pub call_of : ExportValue → CallValue
+call_of (CallsWatch path recursive) = Watches (parts_of path) (mode_of recursive)
+call_of (CallsUnwatch path) = Unwatches (parts_of path)
+call_of (CallsMode path) = Reads
+call_of (CallsNumber path device inode) = Says (parts_of path) (id_of device inode)
+call_of (CallsForget path) = Forgets (parts_of path)
+call_of (CallsNumberOf path) = Reads
+call_of (CallsEvent c a first second info source) = Feeds (event_of c a first second info source) c.moment c.exists
+call_of (CallsError kind has_path text path) = Notes (error_of kind has_path text path)
+call_of (CallsTick now) = Ticks now
+call_of CallsOutlook = Reads
+call_of CallsNext = Reads
+call_of CallsErrors = Asks
+call_of CallsNextError = Reads
+call_of CallsCounts = Reads
+
+-- calls in the order in which they were made, each with its code
+abbrev pub History : Type 0
+History = List (ExportValue × ℕ)
+
+-- the calls that answered 0
+abbrev pub done : History → List CallValue
+done [] = []
+done ((call, code) ∷ history) = if code == 0 then call_of call ∷ done history else done history
+
+-- each call was answered as its export promises, on what the one before it left
+abbrev pub AreAnswered : History → Option DeskValue → Option DeskValue → Type 0
+AreAnswered [] old new = new ≡ old
+AreAnswered ((call, code) ∷ history) old new =
+    (mid : Option DeskValue) × IsAnswered call code old mid × AreAnswered history mid new
+
+-- the laws of runs, of calls that were made, from a debouncer in state s to one in t
+pub record KeepsLaws (s t : State) (calls : List CallValue) (replies : List ReplyValue) : Type 0 where
+  pub raw : LeavesRawPaths (commands_of calls) replies t
+  pub kept : has_rename (commands_of calls) replies ≡ false → is_kept (commands_of calls) replies t ≡ true
+  pub founded : IsNoneInvented (commands_of calls) replies t
+  pub flood : FloodsNowhere (commands_of calls) replies t
+  pub soon : has_rename (commands_of calls) replies ≡ false →
+      is_soon s.timeout s.latest (commands_of calls) replies ≡ true
+
+-- what a history has left: a debouncer, to which the calls that answered 0 have led, and they keep the laws
+pub record HasLed (s : DeskValue) (history : History) (new : Option DeskValue) : Type 0 where
+  pub t : DeskValue
+  pub replies : List ReplyValue
+  pub held : new ≡ Some t
+  pub made : MakesAll (done history) replies s t
+  pub laws : KeepsLaws s.core.state t.core.state (done history) replies
+
+-- of each history of a debouncer that ndf_new made, whatever was called, right or wrong
+abbrev pub HistoriesKeepLaws : Type 0
+HistoriesKeepLaws = (timeout : ℕ) (history : History) (s : DeskValue) (new : Option DeskValue) →
+    IsOpened timeout 0 0 s → AreAnswered history (Some s) new → HasLed s history new

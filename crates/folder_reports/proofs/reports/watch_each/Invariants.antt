@@ -1,0 +1,12 @@
+use Rattle.std.proofs.Common.{◌≡◌, drop}
+use Rattle.debounce_access.specs.Happened.{History}
+use Rattle.folder_reports.specs.Start.{AddsRoots}
+use Rattle.folder_reports.proofs.reports.watch_each.Given as goal
+
+-- the folders so far, and those that are left, are all
+abbrev pub invariant-loop-folder : goal.invariant-loop-folder
+invariant-loop-folder g l = record {
+  queue : l.live.reports.queue ≡ l.fn.live.reports.queue;
+  roots : (after : History) → AddsRoots l.live.reports.debouncer.seen (drop l.folder-index l.folders) l.mode after →
+      AddsRoots l.fn.live.reports.debouncer.seen l.folders l.mode after;
+}

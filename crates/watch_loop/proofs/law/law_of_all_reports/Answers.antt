@@ -1,0 +1,5 @@
+use Rattle.watch_loop.proofs.WholeLemmas.{takes_all}
+use Rattle.watch_loop.proofs.law.law_of_all_reports.Goals as goal
+
+pub returns : goal.returns
+returns c = record { all = takes_all }

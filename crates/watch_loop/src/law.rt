@@ -1,0 +1,11 @@
+//! What a program took that followed folders to the end.
+ghost use Rattle.watch_loop.specs.Whole.{TakesAllReports};
+
+/// Does nothing. By its contract a program that was called with all that a folder's reports gave, as [`follow_folder`]
+/// says of a run that went well, was called with all that the debouncer emitted, each report once and in order, and then
+/// with all that waited at its end, if nothing was lost.
+///
+/// [`follow_folder`]: crate::follow_folder
+pub fn law_of_all_reports()
+    ensures all { TakesAllReports }
+{}
