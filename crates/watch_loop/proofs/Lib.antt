@@ -1,3 +1,4 @@
+pub mod FaultLemmas
 pub mod FolderLemmas
 pub mod WholeLemmas
 pub mod WordLemmas

@@ -3,10 +3,10 @@ use Rattle.std.specs.Duration.{as_nanos}
 use Rattle.notify_types.specs.declared.event.RecursiveMode.TheVariants.{Recursive}
 use Rattle.journal_lines.proofs.PrintedLemmas.{journal_program, printer_begun, printer_followed}
 use Rattle.journal_lines.specs.KeptView.{filter_rule}
+use Rattle.watch_loop.proofs.FaultLemmas.{ill_followed, of_fault}
 use Rattle.watch_loop.proofs.FolderLemmas.{well_followed}
 use Rattle.folder_reports.specs.Start.{IsOpened}
 use Rattle.watch_loop.specs.FollowsFolder.{folder_source}
-use Rattle.change_journal.proofs.Faults.{ill_followed, of_fault}
 use Rattle.change_journal.proofs.watch.Goals as goal
 
 pub returns-in_err-folders-clause-begun : goal.returns-in_err-folders-clause-begun

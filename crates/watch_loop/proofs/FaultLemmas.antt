@@ -1,6 +1,6 @@
--- A program over folders that ended by a fault. The function that watches cites it.
+-- A program that followed folders and ended by a fault. The functions of programs that watch cite these.
 use Rattle.std.proofs.Common.{◌≡◌, ◌⊎◌, ℕ, List, inl, inr, sym, ap, subst}
-use Rattle.std.specs.Prelude.{Result, Ok, Err, OnOk, IfErr, MatchResult}
+use Rattle.std.specs.Prelude.{Result, Ok, Err, OnErr, OnOk, IfErr, MatchResult}
 use Rattle.watch_program.specs.declared.fault.Fault.{Fault}
 use Rattle.notify_paths.specs.Path.{PathValue}
 use Rattle.notify_types.specs.declared.event.RecursiveMode.{RecursiveMode}
@@ -21,6 +21,12 @@ pub ill_followed : {P A B : Type 0} (program : Program P) (timeout : ℕ) (paths
 ill_followed program timeout paths mode p p' fault (inl never) same follows =
     inl (subst IsStartFault (sym (ap (fault_or fault) never.2)) never.1, same never.3)
 ill_followed program timeout paths mode p p' fault (inr run) same follows = inr (follows run)
+
+-- what follows from what a call that failed has done is the second of two cases
+pub on_err : {T E B C : Type 0} (A : E → Type 0) (result : Result T E) → (B → C) → OnErr result B →
+    IfErr result (λ fault. A fault ⊎ C)
+on_err A (Ok value) f h = h
+on_err A (Err fault) f h = inr (f h)
 
 -- what a call has done, whatever it answered, by its two outcomes
 pub parted : {T A B C : Type 0} (D : Fault → Type 0) (result : Result T Fault) → (A → C) →
