@@ -104,11 +104,14 @@ blocks() {
     done
 }
 
-# Each crate has its line in ARCHITECTURE.md, each label of a public call's clause is in the dictionary, and PROOFS.md
+# ARCHITECTURE.md names each crate, and scripts/crates says what it is; each label of a public call's clause is in the dictionary, and PROOFS.md
 # has the definitions that these clauses cite, as scripts/definitions prints them.
 rows() {
+    sed -n '/^## The crates/,/^## The way/p' docs/ARCHITECTURE.md >"$room/groups"
+    scripts/crates >"$room/crates"
     sed -n 's/^\([a-z_0-9]\{1,\}\)[^#]*:.*/\1/p' crates.txt | while read -r crate; do
-        grep -q "^- \`$crate\`: " docs/ARCHITECTURE.md || echo "docs/ARCHITECTURE.md: no line for $crate"
+        grep -q "\`$crate\`" "$room/groups" || echo "docs/ARCHITECTURE.md doesn't name $crate"
+        grep -q "^$crate: .*[.]" "$room/crates" || echo "scripts/crates: nothing of $crate"
     done
     scripts/definitions >"$room/cited"
     [ "$(wc -l <"$room/cited")" -ge 10 ] || echo 'scripts/definitions: fewer than 10 crates'
