@@ -104,13 +104,14 @@ blocks() {
     done
 }
 
-# ARCHITECTURE.md names each crate, and scripts/crates says what it is; each label of a public call's clause is in the dictionary, and PROOFS.md
-# has the definitions that these clauses cite, as scripts/definitions prints them.
+# scripts/crates says what each crate is, and scripts/tests names each test; each label of a public call's clause is in
+# the dictionary, and PROOFS.md has the definitions that these clauses cite, as scripts/definitions prints them.
 rows() {
-    sed -n '/^## The crates/,/^## The way/p' docs/ARCHITECTURE.md >"$room/groups"
     scripts/crates >"$room/crates"
+    scripts/tests >"$room/tests"
+    [ "$(grep -c '\.rt: ' "$room/tests")" = "$(grep -rhE --include='*.rt' '^ *#\[test\]' crates | wc -l)" ] || echo 'scripts/tests: not each test'
+    [ "$(grep -c '/data/.*\.md: .*: ' "$room/tests")" = "$(grep -h '^## ' crates/*/data/*.md | wc -l)" ] || echo 'scripts/tests: not each scene and case'
     sed -n 's/^\([a-z_0-9]\{1,\}\)[^#]*:.*/\1/p' crates.txt | while read -r crate; do
-        grep -q "\`$crate\`" "$room/groups" || echo "docs/ARCHITECTURE.md doesn't name $crate"
         grep -q "^$crate: .*[.]" "$room/crates" || echo "scripts/crates: nothing of $crate"
     done
     scripts/definitions >"$room/cited"
