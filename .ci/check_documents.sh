@@ -158,7 +158,7 @@ facts() {
 ways() {
     scripts/ways 2>"$room/counted"
     [ "$(grep -c 'functions' "$room/counted")" = 2 ] || sed 's/^/scripts\/ways: /' "$room/counted"
-    sed -n '/^## The way of an event/,/^## Where/s,^ *\([A-Za-z_:, ]*\)  *\(crates/[a-z_/]*\.rt\).*,\2 \1,p' docs/ARCHITECTURE.md | tr -d , >"$room/ways"
+    sed -n '/^## The way of an event/,$s,^ *\([A-Za-z_:, ]*\)  *\(crates/[a-z_/]*\.rt\).*,\2 \1,p' docs/ARCHITECTURE.md | tr -d , >"$room/ways"
     [ "$(wc -l <"$room/ways")" -ge 30 ] || echo 'docs/ARCHITECTURE.md: the ways have fewer than 30 lines'
     while read -r file functions; do
         for function in $functions; do
