@@ -44,9 +44,13 @@ event_fault c a first second info source s =
     else (if s.core.state.taken == 2 ^ 64 - 1 then Some Full
     else None)))
 
+-- an event has texts, which need memory
+abbrev pub has_texts : Change → Attributes → Bool
+has_texts c a = nat_lt 0 c.paths || (a.has_info || a.has_source)
+
 -- an event may need memory: for its texts, and for its entry in the journal
 abbrev pub event_needs : Change → Attributes → DeskValue → Bool
-event_needs c a s = is_some s.journal || (nat_lt 0 c.paths || (a.has_info || a.has_source))
+event_needs c a s = is_some s.journal || has_texts c a
 
 -- a tick may need memory: if something is expired, and for its entry
 abbrev pub tick_needs : ℕ → DeskValue → Bool
