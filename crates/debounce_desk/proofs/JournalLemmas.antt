@@ -48,7 +48,7 @@ none_more old mid new more is rest = rest ∙ ap (λ j. with_entries j more) is
 pub journal_got : (calls : List CallValue) (replies : List ReplyValue) (s t : DeskValue) → KeepsJournal calls →
     MakesAll calls replies s t → t.journal ≡ with_entries s.journal (entries_of (commands_of calls) replies)
 journal_got [] replies s t same (none, is) =
-    rw none (ap (λ (d : DeskValue). d.journal) is ∙ sym (with_entries-none s.journal))
+    ap (λ (d : DeskValue). d.journal) is ∙ sym (with_entries-none s.journal)
 journal_got (Feeds event now exists ∷ calls) replies s t same (m, rest, split, made, more) =
     rw split (one_more _ m.journal _ _ _ (ap (λ (d : DeskValue). d.journal) made.1) (journal_got calls rest m t same
     more))
@@ -78,7 +78,7 @@ journal_got (Reads ∷ calls) replies s t same (m, rest, split, made, more) =
 -- .. and these lead from state to state
 pub entries_lead : (calls : List CallValue) (replies : List ReplyValue) (s t : DeskValue) → MakesAll calls replies s t →
     Replays s.core.state (entries_of (commands_of calls) replies) t.core.state
-entries_lead [] replies s t (none, is) = rw none (ap (λ (d : DeskValue). d.core.state) is)
+entries_lead [] replies s t (none, is) = ap (λ (d : DeskValue). d.core.state) is
 entries_lead (Feeds event now exists ∷ calls) replies s t (m, rest, split, made, more) =
     rw split (m.core.state, (made.0.room, made.0.state), entries_lead calls rest m t more)
 entries_lead (Notes error ∷ calls) replies s t (m, rest, split, made, more) =

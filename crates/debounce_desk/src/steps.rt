@@ -136,10 +136,10 @@ impl Desk {
     {
         let Desk { core, journal, .. } = self;
         let Some(journal) = journal else {
-            return match core.debounced_events(now) {
-                Ok(batch) => Ok(batch),
-                Err(_) => Err(Fault::NoMemory),
+            let Ok(batch) = core.debounced_events(now) else {
+                return Err(Fault::NoMemory);
             };
+            return Ok(batch);
         };
         let Ok(()) = reserve(journal) else {
             return Err(Fault::NoMemory);
