@@ -70,6 +70,6 @@ pub record IsAsked (s : DeskValue) (many : ℕ) (t : DeskValue) : Type 0 where
   pub count : many ≡ length s.core.state.errors
   pub rest : t ≡ record (stepped s (with_state s.core (without_errors s.core.state)) ErrorsCommand
       (ErrorsReply s.core.state.errors)) {
-    errors = s.core.state.errors;
-    errors_read = 0;
-  }
+        errors = s.core.state.errors;
+        errors_read = 0;
+      }

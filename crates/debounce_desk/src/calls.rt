@@ -347,12 +347,7 @@ pub fn next_error(desk: &mut Desk, told: &mut ToldError, buf: &mut [u8]) -> Resu
 }
 
 /// Tells an entry of the journal.
-pub fn entry(
-    desk: &Desk,
-    place: usize,
-    told: &mut ToldEntry,
-    buf: &mut [u8],
-) -> Result<(), Fault>
+pub fn entry(desk: &Desk, place: usize, told: &mut ToldEntry, buf: &mut [u8]) -> Result<(), Fault>
     ensures { Outcome result (entry_fault (length buf.old) (entry_at desk.now place)) false
         (λ t. (e : EntryValue) × (entry_at desk.now place ≡ Some e) × TellsEntry e told.new
         × (buf.new ≡ written (entry_texts e) buf.old) × (t ≡ desk.now))

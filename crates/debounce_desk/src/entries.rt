@@ -176,13 +176,7 @@ pub fn error_in(entry: &Entry, place: usize) -> Option<&Error>
         ≡ slice_get (errors_in entry.now.command entry.now.reply) place }
 {
     match &entry.command {
-        Command::Error(error) => {
-            if place == 0 {
-                Some(error)
-            } else {
-                None
-            }
-        }
+        Command::Error(error) => { if place == 0 { Some(error) } else { None } }
         _ => handed_in(&entry.reply, place),
     }
 }

@@ -62,14 +62,7 @@ pub fn tell(event: &Event, time: Moment, told: &mut Told, buf: &mut [u8]) -> boo
 }
 
 /// What is told of an event with these texts.
-fn told_of(
-    event: &Event,
-    time: Moment,
-    first: &str,
-    second: &str,
-    info: &str,
-    source: &str,
-) -> Told
+fn told_of(event: &Event, time: Moment, first: &str, second: &str, info: &str, source: &str) -> Told
     requires first { first.now ≡ text_at event.now.paths 0 }
     requires second { second.now ≡ text_at event.now.paths 1 }
     requires info { info.now ≡ unwrap_or event.now.attrs.info [] }
