@@ -1,8 +1,9 @@
 -- A call that answered 0 has made its step, and any other has changed nothing.
 use Rattle.std.proofs.Common.{◌≡◌, ◌∙◌, ℕ, ◌==◌, Bool, true, false, List, [], ◌∷◌, ◌++◌, Option, Some, None, true≢false, refl, sym, ap, subst, inl, inr}
+use Rattle.std.specs.Prelude.{⊤}
 use Rattle.debounce_model.specs.Command.{ReplyValue}
 use Rattle.debounce_desk.specs.Answers.{Answers, AnswersFor}
-use Rattle.debounce_desk.specs.Calls.{CallValue, Makes, MakesAll, Reads, reply_to}
+use Rattle.debounce_desk.specs.Calls.{CallValue, Keeps, Makes, MakesAll, Reads, reply_to}
 use Rattle.debounce_desk.specs.Codes.{fault_code}
 use Rattle.debounce_desk.specs.Desk.{DeskValue}
 use Rattle.debounce_desk.specs.Tells.{TellsCounts}
@@ -97,7 +98,8 @@ answered CallsErrors code s new (b, c, h) = answered_for _ code _ _ _ _ s new (�
 answered CallsNextError code s new (b, c, m, n, h) =
     answered_for _ code _ _ _ _ s new (λ t (x, at, told, text, is).
     (ap (λ (d : DeskValue). d.core) is, ap (λ (d : DeskValue). d.journal) is)) h
-answered (CallsJournal on) code s new h = answered_for _ code _ _ _ _ s new (λ t step. step) h
+answered (CallsJournal on) code s new h =
+    answered_for (Keeps on) code None false (Makes (Keeps on) s) (λ f. ⊤) s new (λ t step. step) h
 answered (CallsEntry place) code s new (b, c, m, n, h) =
     answered_for _ code _ _ _ _ s new (λ t (e, at, told, text, is). all_same s t is) h
 answered (CallsEntryEvent place within) code s new (b, c, m, n, h) =
