@@ -150,6 +150,31 @@ typedef struct ndf_told_error {
     size_t first;
 } ndf_told_error;
 
+/* What an entry of a journal says was done, with the fields of ndf_told_entry that it has. */
+enum {
+    NDF_STEP_EVENT = 0,   /* an event was taken: exists, known, device, inode and moment; it is the entry's event */
+    NDF_STEP_ERROR = 1,   /* an error was kept: it is the entry's error */
+    NDF_STEP_WATCH = 2,   /* a path was watched: recursive and path */
+    NDF_STEP_UNWATCH = 3, /* a path was watched no longer: path */
+    NDF_STEP_ERRORS = 4,  /* errors were handed out: they are the entry's errors */
+    NDF_STEP_TICK = 5     /* a batch was emitted, of any number of events: moment; they are the entry's events */
+};
+
+/* An entry of a journal as it is told. In the buffer stands the path that was watched, or watched no longer. A field
+ * that the step hasn't is false or 0. */
+typedef struct ndf_told_entry {
+    uint32_t step;
+    bool exists;     /* as it was fed */
+    bool known;      /* whether the core, where it looked for the file number of an event's path, found one: this one */
+    bool recursive;
+    uint64_t device;
+    uint64_t inode;
+    uint64_t moment; /* as it was given to the call, also below an earlier one */
+    size_t events;   /* how many events the entry has, */
+    size_t errors;   /* how many errors, */
+    size_t path;     /* and how many bytes its path */
+} ndf_told_entry;
+
 /* The number of a file: of two paths with one device and one inode each is a name of one file. */
 typedef struct ndf_file_number {
     bool known;      /* whether the path has a number; else both are 0 */
@@ -166,6 +191,7 @@ typedef struct ndf_totals {
     uint64_t timeout;
     size_t errors;    /* how many errors are kept */
     size_t numbers;   /* how many paths have a file number */
+    size_t entries;   /* how many entries the journal has: 0 if none is kept */
 } ndf_totals;
 
 /* Below, a text is a pointer that is never NULL and a length: pass "" and 0 for none. It is read during the call
@@ -217,12 +243,12 @@ uint32_t ndf_number_of(ndf_handle *h, const char *path, size_t len, ndf_file_num
  * as docs/RULES.md says. After NDF_NO_MEMORY the event is lost: feed it again, or a rescan later.
  * NDF_NO_KIND, exactly if the kind is above 40; else NDF_TOO_MANY_PATHS, exactly if paths is above 2; else
  * NDF_NOT_TEXT, exactly if a path that is meant isn't UTF-8; else NDF_FULL, exactly if 2^64 - 1 were taken; else
- * NDF_NO_MEMORY, only if it has a path. */
+ * NDF_NO_MEMORY, only if it has a path or a journal is kept. */
 uint32_t ndf_event(ndf_handle *h, const ndf_change *change, const char *first, size_t first_len, const char *second,
                    size_t second_len);
 
 /* The same, with an info, a source and a process. NDF_NOT_TEXT also if a text that is meant isn't UTF-8;
- * NDF_NO_MEMORY only if it has a path, an info or a source. */
+ * NDF_NO_MEMORY only if it has a path, an info or a source, or a journal is kept. */
 uint32_t ndf_event_with(ndf_handle *h, const ndf_change *change, const ndf_attributes *attributes, const char *first,
                         size_t first_len, const char *second, size_t second_len, const char *info, size_t info_len,
                         const char *source, size_t source_len);
@@ -235,7 +261,8 @@ uint32_t ndf_error(ndf_handle *h, uint32_t kind, bool has_path, const char *text
 
 /* Emits what is expired at the moment, or at the latest one so far if that is greater: `count` events are to be
  * read now. After NDF_NO_MEMORY all waits on, and a later tick emits it.
- * NDF_UNREAD, exactly if an event of the last batch wasn't read; else NDF_NO_MEMORY, only if something is expired. */
+ * NDF_UNREAD, exactly if an event of the last batch wasn't read; else NDF_NO_MEMORY, only if something is expired or
+ * a journal is kept. */
 uint32_t ndf_tick(ndf_handle *h, uint64_t now, size_t *count);
 
 /* What waits is to be read, as if all of it were expired, and waits on: at the end, what was never emitted.
@@ -248,11 +275,30 @@ uint32_t ndf_outlook(ndf_handle *h, size_t *count);
 uint32_t ndf_next(ndf_handle *h, ndf_told *told, char *buf, size_t room);
 
 /* The errors that were kept are to be read now, `count` of them, and are kept no longer.
- * NDF_UNREAD, exactly if an error of the call before wasn't read. It never lacks memory. */
+ * NDF_UNREAD, exactly if an error of the call before wasn't read; else NDF_NO_MEMORY, only if a journal is kept. */
 uint32_t ndf_errors(ndf_handle *h, size_t *count);
 
 /* Tells the next error, as ndf_next does of an event, with the same codes. */
 uint32_t ndf_next_error(ndf_handle *h, ndf_told_error *told, char *buf, size_t room);
+
+/* A journal begins, if `on`, and is empty; else none is kept any longer. What was kept before is freed. From then on
+ * each ndf_event.., ndf_error, ndf_watch, ndf_unwatch, ndf_errors and ndf_tick that answers 0 is an entry, in order;
+ * one for whose entry there is no memory answers NDF_NO_MEMORY. A new debouncer has no journal, which costs nothing.
+ * It never lacks memory. */
+uint32_t ndf_journal(ndf_handle *h, bool on);
+
+/* Tells the entry at this place of the journal, the first at 0, and writes its path to the start of the buffer, whose
+ * rest stays as it was. Reading an entry leaves it: what was read goes when another ndf_journal begins.
+ * NDF_AT_END, exactly if the journal has no such entry, or none is kept: `told` stays as it was. NDF_TOO_SHORT,
+ * exactly if the buffer is shorter than the path: `told` says how long it is. It never lacks memory. */
+uint32_t ndf_entry(ndf_handle *h, size_t place, ndf_told_entry *told, char *buf, size_t room);
+
+/* Tells an event of an entry, the first within it at 0, as ndf_next does, with the same codes; of an event that was
+ * taken `time` is the moment that was given. NDF_AT_END, exactly if there is no such entry, or no such event in it. */
+uint32_t ndf_entry_event(ndf_handle *h, size_t place, size_t within, ndf_told *told, char *buf, size_t room);
+
+/* Tells an error of an entry, as ndf_next_error does, with the same codes. */
+uint32_t ndf_entry_error(ndf_handle *h, size_t place, size_t within, ndf_told_error *told, char *buf, size_t room);
 
 /* Tells the counts. It never lacks memory. */
 uint32_t ndf_counts(ndf_handle *h, ndf_totals *counts);

@@ -41,6 +41,14 @@ struct error {
     std::optional<std::string> path;
 };
 
+// An entry of a journal: what was done (NDF_STEP_..), with what it has of the rest.
+struct entry {
+    ndf_told_entry told;
+    std::string path;
+    std::vector<event> events;
+    std::vector<error> errors;
+};
+
 class debouncer {
 public:
     // It emits an event once it is as old as the timeout.
@@ -115,17 +123,7 @@ public:
 
     // The next event of the batch; none if all were read.
     std::optional<event> next() {
-        ndf_told told{};
-        for (;;) {
-            std::uint32_t code = ndf_next(&handle, &told, room.data(), room.size());
-            if (code == NDF_AT_END) return std::nullopt;
-            if (code == NDF_TOO_SHORT) {
-                room.resize(told.first + told.second + told.info + told.source);
-                continue;
-            }
-            done(code);
-            return read(told);
-        }
+        return event_of([&](ndf_told &told) { return ndf_next(&handle, &told, room.data(), room.size()); });
     }
 
     // The errors that were kept, which are kept no longer.
@@ -133,19 +131,33 @@ public:
         std::size_t count = 0;
         done(ndf_errors(&handle, &count));
         std::vector<error> all;
-        ndf_told_error told{};
-        for (;;) {
-            std::uint32_t code = ndf_next_error(&handle, &told, room.data(), room.size());
-            if (code == NDF_AT_END) return all;
-            if (code == NDF_TOO_SHORT) {
-                room.resize(told.text + told.first);
-                continue;
-            }
-            done(code);
-            error one{told.kind, room.substr(0, told.text), std::nullopt};
-            if (told.paths > 0) one.path = room.substr(told.text, told.first);
+        while (auto one = error_of(
+                   [&](ndf_told_error &told) { return ndf_next_error(&handle, &told, room.data(), room.size()); }))
+            all.push_back(std::move(*one));
+        return all;
+    }
+
+    // A journal begins, or none is kept any longer; what was kept before is dropped.
+    void keep_journal(bool on) { done(ndf_journal(&handle, on)); }
+
+    // The entries of the journal, which it keeps.
+    std::vector<entry> journal() {
+        std::vector<entry> all;
+        for (std::size_t i = 0, many = counts().entries; i < many; i++) {
+            entry one{};
+            while (!is_told(ndf_entry(&handle, i, &one.told, room.data(), room.size()), one.told.path)) {}
+            one.path = room.substr(0, one.told.path);
+            for (std::size_t j = 0; j < one.told.events; j++)
+                one.events.push_back(*event_of([&](ndf_told &told) {
+                    return ndf_entry_event(&handle, i, j, &told, room.data(), room.size());
+                }));
+            for (std::size_t j = 0; j < one.told.errors; j++)
+                one.errors.push_back(*error_of([&](ndf_told_error &told) {
+                    return ndf_entry_error(&handle, i, j, &told, room.data(), room.size());
+                }));
             all.push_back(std::move(one));
         }
+        return all;
     }
 
     ndf_totals counts() {
@@ -166,6 +178,37 @@ private:
     static void done(std::uint32_t code) {
         if (code == NDF_NO_MEMORY) throw std::bad_alloc();
         if (code != NDF_DONE) throw refused(code);
+    }
+
+    // Whether the call did what it says; if the buffer was too short, it grows to this length.
+    bool is_told(std::uint32_t code, std::size_t total) {
+        if (code == NDF_TOO_SHORT) {
+            room.resize(total);
+            return false;
+        }
+        done(code);
+        return true;
+    }
+
+    template <class Call> std::optional<event> event_of(Call call) {
+        ndf_told told{};
+        for (;;) {
+            std::uint32_t code = call(told);
+            if (code == NDF_AT_END) return std::nullopt;
+            if (is_told(code, told.first + told.second + told.info + told.source)) return read(told);
+        }
+    }
+
+    template <class Call> std::optional<error> error_of(Call call) {
+        ndf_told_error told{};
+        for (;;) {
+            std::uint32_t code = call(told);
+            if (code == NDF_AT_END) return std::nullopt;
+            if (!is_told(code, told.text + told.first)) continue;
+            error one{told.kind, room.substr(0, told.text), std::nullopt};
+            if (told.paths > 0) one.path = room.substr(told.text, told.first);
+            return one;
+        }
     }
 
     event read(const ndf_told &told) const {

@@ -24,6 +24,7 @@ DATA_ANY, METADATA_ANY = KIND_OF_WORD["Modify(Data(Any))"], KIND_OF_WORD["Modify
 NAME_TO, NAME_FROM, NAME_BOTH = (KIND_OF_WORD[f"Modify(Name({mode}))"] for mode in ("To", "From", "Both"))
 REMOVE_FILE, REMOVE_FOLDER, OTHER = KIND_OF_WORD["Remove(File)"], KIND_OF_WORD["Remove(Folder)"], KIND_OF_WORD["Other"]
 GENERIC, IO, PATH_NOT_FOUND, WATCH_NOT_FOUND = range(4)
+STEPS = "event error watch unwatch errors tick".split()
 
 CODES = "done empty no_memory full not_text no_kind unread at_end too_short too_many_paths bad_counts".split()
 
@@ -81,13 +82,28 @@ class ToldError(ctypes.Structure):
     ]
 
 
+class ToldEntry(ctypes.Structure):
+    _fields_ = [
+        ("step", ctypes.c_uint32),
+        ("exists", ctypes.c_bool),
+        ("known", ctypes.c_bool),
+        ("recursive", ctypes.c_bool),
+        ("device", ctypes.c_uint64),
+        ("inode", ctypes.c_uint64),
+        ("moment", ctypes.c_uint64),
+        ("events", ctypes.c_size_t),
+        ("errors", ctypes.c_size_t),
+        ("path", ctypes.c_size_t),
+    ]
+
+
 class Number(ctypes.Structure):
     _fields_ = [("known", ctypes.c_bool), ("device", ctypes.c_uint64), ("inode", ctypes.c_uint64)]
 
 
 class Counts(ctypes.Structure):
     _fields_ = [(name, ctypes.c_uint64) for name in "taken given waiting visited latest timeout".split()]
-    _fields_ += [("errors", ctypes.c_size_t), ("numbers", ctypes.c_size_t)]
+    _fields_ += [(name, ctypes.c_size_t) for name in "errors numbers entries".split()]
 
 
 def _load():
@@ -112,6 +128,10 @@ def _load():
         "ndf_next": [ctypes.POINTER(Told), *text],
         "ndf_errors": [count],
         "ndf_next_error": [ctypes.POINTER(ToldError), *text],
+        "ndf_journal": [flag],
+        "ndf_entry": [size, ctypes.POINTER(ToldEntry), *text],
+        "ndf_entry_event": [size, size, ctypes.POINTER(Told), *text],
+        "ndf_entry_error": [size, size, ctypes.POINTER(ToldError), *text],
         "ndf_counts": [ctypes.POINTER(Counts)],
     }
     for name, rest in calls.items():
@@ -157,6 +177,20 @@ class Error:
     kind: int
     text: str
     path: str | None
+
+
+@dataclass
+class Entry:
+    """An entry of a journal: the word of what was done, which is one of STEPS, and what it has of the rest."""
+
+    step: str
+    moment: int = 0
+    exists: bool = False
+    number: tuple[int, int] | None = None
+    path: str | None = None
+    recursive: bool = False
+    events: list[Event] = field(default_factory=list)
+    errors: list[Error] = field(default_factory=list)
 
 
 def _bytes(text):
@@ -248,36 +282,68 @@ class Debouncer:
 
     def __iter__(self):
         """The events of the last batch that weren't read."""
-        told = Told()
-        while self._next(_lib.ndf_next, told, lambda: told.first + told.second + told.info + told.source):
-            texts, at = [], 0
-            for size in (told.first, told.second, told.info, told.source):
-                texts.append(self._room.raw[at : at + size].decode())
-                at += size
-            yield Event(
-                told.kind,
-                told.time,
-                texts[: min(told.paths, 2)],
-                told.rescan,
-                told.tracker if told.tracked else None,
-                told.process if told.has_process else None,
-                texts[2] if told.has_info else None,
-                texts[3] if told.has_source else None,
-            )
+        while event := self._event(_lib.ndf_next):
+            yield event
+
+    def _event(self, call, *places):
+        """The event that the call tells, or None."""
+        told, texts, at = Told(), [], 0
+        if not self._next(call, told, lambda: told.first + told.second + told.info + told.source, *places):
+            return None
+        for size in (told.first, told.second, told.info, told.source):
+            texts.append(self._room.raw[at : at + size].decode())
+            at += size
+        return Event(
+            told.kind,
+            told.time,
+            texts[: min(told.paths, 2)],
+            told.rescan,
+            told.tracker if told.tracked else None,
+            told.process if told.has_process else None,
+            texts[2] if told.has_info else None,
+            texts[3] if told.has_source else None,
+        )
 
     def errors(self):
         """Hands out the errors that were kept."""
         self._done(_lib.ndf_errors(self._handle, ctypes.c_size_t()))
-        told, errors = ToldError(), []
-        while self._next(_lib.ndf_next_error, told, lambda: told.text + told.first):
-            room = self._room.raw
-            path = room[told.text : told.text + told.first].decode() if told.paths else None
-            errors.append(Error(told.kind, room[: told.text].decode(), path))
-        return errors
+        return list(iter(lambda: self._error(_lib.ndf_next_error), None))
 
-    def _next(self, call, told, total):
-        """Whether the next one was told; a buffer that is too short grows."""
-        while (code := call(self._handle, told, self._room, len(self._room))) == CODES.index("too_short"):
+    def _error(self, call, *places):
+        """The error that the call tells, or None."""
+        told = ToldError()
+        if not self._next(call, told, lambda: told.text + told.first, *places):
+            return None
+        room = self._room.raw
+        path = room[told.text : told.text + told.first].decode() if told.paths else None
+        return Error(told.kind, room[: told.text].decode(), path)
+
+    def keep_journal(self, on=True):
+        """A journal begins, or none is kept any longer. What was kept before is dropped."""
+        self._done(_lib.ndf_journal(self._handle, on))
+
+    def journal(self):
+        """The entries of the journal, which it keeps."""
+        return [self._entry(place) for place in range(self.counts().entries)]
+
+    def _entry(self, place):
+        told = ToldEntry()
+        self._next(_lib.ndf_entry, told, lambda: told.path, place)
+        step = STEPS[told.step]
+        return Entry(
+            step,
+            told.moment,
+            told.exists,
+            (told.device, told.inode) if told.known else None,
+            self._room.raw[: told.path].decode() if step in ("watch", "unwatch") else None,
+            told.recursive,
+            [self._event(_lib.ndf_entry_event, place, within) for within in range(told.events)],
+            [self._error(_lib.ndf_entry_error, place, within) for within in range(told.errors)],
+        )
+
+    def _next(self, call, told, total, *places):
+        """Whether the next one, or the one at these places, was told; a buffer that is too short grows."""
+        while (code := call(self._handle, *places, told, self._room, len(self._room))) == CODES.index("too_short"):
             self._room = ctypes.create_string_buffer(total())
         if code == CODES.index("at_end"):
             return False

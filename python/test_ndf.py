@@ -41,6 +41,25 @@ with ndf.Debouncer(50) as debouncer:
     debouncer.forget("/w")
     assert debouncer.number_of("/w/c") is None and debouncer.counts().numbers == 0
 
+    debouncer.keep_journal()
+    debouncer.watch("/w", recursive=False)
+    debouncer.feed(ndf.CREATE_FILE, "/w/d", moment=80, info="i" * 2000)
+    batch = debouncer.tick(200)
+    debouncer.add_error(ndf.GENERIC, "text")
+    debouncer.unwatch("/w")
+    assert debouncer.errors() == [ndf.Error(0, "text", None)]
+    assert len(batch) == 2 and batch[0].paths == ["/w/a", "/w/b"]
+    assert debouncer.journal() == [
+        ndf.Entry("watch", path="/w"),
+        ndf.Entry("event", 80, events=[ndf.Event(ndf.CREATE_FILE, 80, ["/w/d"], info="i" * 2000)]),
+        ndf.Entry("tick", 200, events=batch),
+        ndf.Entry("error", errors=[ndf.Error(0, "text", None)]),
+        ndf.Entry("unwatch", path="/w"),
+        ndf.Entry("errors", errors=[ndf.Error(0, "text", None)]),
+    ]
+    debouncer.keep_journal()
+    assert debouncer.journal() == []
+
     assert raises("not_text", debouncer.watch, b"/\xff")
     assert raises("no_kind", debouncer.feed, 41, moment=0)
     assert raises("too_many_paths", debouncer.feed, 0, "a", "b", "c", moment=0)

@@ -43,6 +43,17 @@ int main(void) {
     FIELD("ToldError", ndf_told_error, paths);
     FIELD("ToldError", ndf_told_error, text);
     FIELD("ToldError", ndf_told_error, first);
+    SIZE("ToldEntry", ndf_told_entry);
+    FIELD("ToldEntry", ndf_told_entry, step);
+    FIELD("ToldEntry", ndf_told_entry, exists);
+    FIELD("ToldEntry", ndf_told_entry, known);
+    FIELD("ToldEntry", ndf_told_entry, recursive);
+    FIELD("ToldEntry", ndf_told_entry, device);
+    FIELD("ToldEntry", ndf_told_entry, inode);
+    FIELD("ToldEntry", ndf_told_entry, moment);
+    FIELD("ToldEntry", ndf_told_entry, events);
+    FIELD("ToldEntry", ndf_told_entry, errors);
+    FIELD("ToldEntry", ndf_told_entry, path);
     SIZE("Number", ndf_file_number);
     FIELD("Number", ndf_file_number, known);
     FIELD("Number", ndf_file_number, device);
@@ -56,5 +67,6 @@ int main(void) {
     FIELD("Counts", ndf_totals, timeout);
     FIELD("Counts", ndf_totals, errors);
     FIELD("Counts", ndf_totals, numbers);
+    FIELD("Counts", ndf_totals, entries);
     return 0;
 }

@@ -1,6 +1,6 @@
 /* random SEED CALLS: random calls, right and wrong, in any order, on three handles. Of each the code is foretold from
- * what was said before; so are the counts, the file number of each path, and what a batch may hold. One request for
- * memory in twenty is refused. */
+ * what was said before; so are the counts, the file number of each path, the entries of the journal, and what a batch
+ * may hold. One request for memory in twenty is refused. */
 #include "ndf.h"
 #include "refusing_heap.h"
 
@@ -10,6 +10,7 @@
 
 #define HANDLES 3
 #define NUMBERS 64
+#define ENTRIES 40
 
 /* The parts of a path, each behind its length: the root is the part "/". */
 struct parts {
@@ -30,6 +31,13 @@ struct half {
     uint64_t tracker, inode;
 };
 
+/* What an entry of the journal must tell; of an event that was taken, its kind and its number of paths too. */
+struct written {
+    ndf_told_entry entry;
+    struct parts path;
+    uint32_t kind, paths;
+};
+
 /* What is known of a handle. */
 struct known {
     ndf_handle h;
@@ -38,6 +46,10 @@ struct known {
     size_t unread, unread_errors, errors, many;
     struct numbered numbers[NUMBERS];
     struct half half;
+    bool keeps;
+    size_t entries;
+    struct written written[ENTRIES];
+    size_t batch_entry, batch_read; /* the entry of the batch that is read: none, if that isn't below `entries` */
 };
 
 static struct known all[HANDLES];
@@ -146,6 +158,14 @@ static void renumber(struct known *k, const ndf_change *c, const struct text *fi
     }
 }
 
+/* The journal has this entry from now on, if one is kept. */
+static struct written *write_down(struct known *k, uint32_t step) {
+    static struct written none;
+    struct written *w = k->keeps ? &k->written[k->entries++] : &none;
+    *w = (struct written){.entry = {.step = step}};
+    return w;
+}
+
 /* Compares the code with the one that is foretold: a fault, or 0 if there is none, or want of memory, if one was
  * refused and the call may need some. Returns whether the call did what it says. */
 static bool answered(const char *name, struct known *k, uint32_t code, uint32_t fault, bool needs, long before) {
@@ -165,7 +185,7 @@ static void check_counts(struct known *k) {
     if (code != (k->full ? NDF_DONE : NDF_EMPTY)) fail("ndf_counts", code, k->full ? NDF_DONE : NDF_EMPTY);
     if (!k->full) return;
     if (t.taken != k->taken || t.given != k->given || t.latest != k->latest || t.timeout != k->timeout ||
-        t.errors != k->errors || t.numbers != k->many || t.waiting > t.taken - t.given)
+        t.errors != k->errors || t.numbers != k->many || t.entries != k->entries || t.waiting > t.taken - t.given)
         wrong("the counts are wrong");
 }
 
@@ -180,7 +200,8 @@ static void make(struct known *k, long before) {
     struct known any = {.full = true};
     if (answered("ndf_new", &any, code, given > taken ? NDF_BAD_COUNTS : NDF_DONE, true, before)) {
         ndf_handle h = k->h;
-        *k = (struct known){.h = h, .full = true, .taken = taken, .given = given, .timeout = timeout};
+        *k = (struct known){.h = h, .full = true, .taken = taken, .given = given, .timeout = timeout,
+                            .batch_entry = SIZE_MAX};
     }
 }
 
@@ -209,11 +230,18 @@ static void feed(struct known *k, long before) {
     uint32_t code = with ? ndf_event_with(&k->h, &c, &a, t[0].bytes, t[0].len, t[1].bytes, t[1].len, t[2].bytes,
                                           t[2].len, t[3].bytes, t[3].len)
                          : ndf_event(&k->h, &c, t[0].bytes, t[0].len, t[1].bytes, t[1].len);
-    bool needs = c.paths > 0 || a.has_info || a.has_source;
+    bool needs = c.paths > 0 || a.has_info || a.has_source || k->keeps;
     if (answered("ndf_event", k, code, fault_of(&c, &a, t, k), needs, before)) {
         k->taken++;
         if (c.moment > k->latest) k->latest = c.moment;
         renumber(k, &c, &t[0]);
+        struct written *w = write_down(k, NDF_STEP_EVENT);
+        w->entry.exists = c.exists;
+        w->entry.moment = c.moment;
+        w->entry.events = 1;
+        w->kind = c.kind;
+        w->paths = c.paths;
+        w->path = parts_of(&t[0]);
     }
 }
 
@@ -227,7 +255,12 @@ static void tick(struct known *k, bool is_outlook, long before) {
         return;
     }
     k->unread = many;
+    k->batch_entry = k->keeps && !is_outlook ? k->entries : SIZE_MAX;
+    k->batch_read = 0;
     if (is_outlook) return;
+    struct written *w = write_down(k, NDF_STEP_TICK);
+    w->entry.moment = now;
+    w->entry.events = many;
     k->given += many;
     if (now > k->latest) k->latest = now;
 }
@@ -250,6 +283,15 @@ static void read_next(struct known *k, long before) {
     }
     k->unread--;
     told_events++;
+    if (k->batch_entry < k->entries) {
+        char copy[512];
+        ndf_told u;
+        memset(copy, 'x', sizeof copy);
+        memset(&u, 'y', sizeof u);
+        if (ndf_entry_event(&k->h, k->batch_entry, k->batch_read++, &u, copy, sizeof copy) != NDF_DONE ||
+            memcmp(copy, buf, sizeof buf) || memcmp(&u, &t, sizeof t))
+            wrong("the journal has another event than the batch");
+    }
     if (memcmp(buf + total, same + total, sizeof buf - total)) wrong("ndf_next has written past the texts");
     if (t.kind > 40 || t.paths > 2 || t.time > k->latest || (t.paths < 2 && t.second > 0)) wrong("an event is wrong");
 }
@@ -261,14 +303,18 @@ static void note(struct known *k, long before) {
     uint32_t code = ndf_error(&k->h, kind, has_path, word.bytes, word.len, path.bytes, path.len);
     bool are_texts = (kind != NDF_ERROR_GENERIC || word.is_text) && (!has_path || path.is_text);
     uint32_t fault = kind > 3 ? NDF_NO_KIND : are_texts ? NDF_DONE : NDF_NOT_TEXT;
-    if (answered("ndf_error", k, code, fault, true, before)) k->errors++;
+    if (answered("ndf_error", k, code, fault, true, before)) {
+        k->errors++;
+        write_down(k, NDF_STEP_ERROR)->entry.errors = 1;
+    }
 }
 
 static void ask(struct known *k, long before) {
     size_t many = 77;
     uint32_t code = ndf_errors(&k->h, &many);
-    if (answered("ndf_errors", k, code, k->unread_errors > 0 ? NDF_UNREAD : NDF_DONE, false, before)) {
+    if (answered("ndf_errors", k, code, k->unread_errors > 0 ? NDF_UNREAD : NDF_DONE, k->keeps, before)) {
         if (many != k->errors) wrong("not the errors that were kept");
+        write_down(k, NDF_STEP_ERRORS)->entry.errors = many;
         k->unread_errors = many;
         k->errors = 0;
     }
@@ -289,9 +335,18 @@ static void watch(struct known *k, long before) {
     bool recursive = one_in(2);
     struct parts p = parts_of(&path);
     switch (below(3)) {
-    case 0: answered("ndf_watch", k, ndf_watch(&k->h, path.bytes, path.len, recursive), fault, true, before); break;
+    case 0:
+        if (answered("ndf_watch", k, ndf_watch(&k->h, path.bytes, path.len, recursive), fault, true, before)) {
+            struct written *w = write_down(k, NDF_STEP_WATCH);
+            w->entry.recursive = recursive;
+            w->path = p;
+        }
+        break;
     case 1:
-        if (answered("ndf_unwatch", k, ndf_unwatch(&k->h, path.bytes, path.len), fault, true, before)) forget(k, &p);
+        if (answered("ndf_unwatch", k, ndf_unwatch(&k->h, path.bytes, path.len), fault, true, before)) {
+            forget(k, &p);
+            write_down(k, NDF_STEP_UNWATCH)->path = p;
+        }
         break;
     default: answered("ndf_mode", k, ndf_mode(&k->h, path.bytes, path.len, &recursive), fault, true, before);
     }
@@ -329,11 +384,73 @@ static void ask_number(struct known *k, long before) {
         wrong("a file number is wrong");
 }
 
+static void keep(struct known *k, bool on, long before) {
+    if (!answered("ndf_journal", k, ndf_journal(&k->h, on), NDF_DONE, false, before)) return;
+    k->keeps = on;
+    k->entries = 0;
+    k->batch_entry = SIZE_MAX;
+}
+
+/* Whether these bytes are a path of these parts. */
+static bool is_path(const char *bytes, size_t len, const struct parts *p) {
+    struct text t = {.len = len};
+    if (len > sizeof t.bytes) return false;
+    memcpy(t.bytes, bytes, len);
+    struct parts q = parts_of(&t);
+    return q.len == p->len && is_prefix(&q, p);
+}
+
+static void read_entry(struct known *k, long before) {
+    char buf[256];
+    size_t place = below(k->entries + 2), room = one_in(4) ? below(8) : sizeof buf;
+    const struct written *w = place < k->entries ? &k->written[place] : NULL;
+    ndf_told_entry e, silent;
+    memset(&e, 'y', sizeof e);
+    silent = e;
+    uint32_t code = ndf_entry(&k->h, place, &e, buf, room);
+    uint32_t fault = !w ? NDF_AT_END : code != NDF_EMPTY && e.path > room ? NDF_TOO_SHORT : NDF_DONE;
+    if (!answered("ndf_entry", k, code, fault, false, before)) {
+        if (code != NDF_TOO_SHORT && memcmp(&e, &silent, sizeof e)) wrong("a refused ndf_entry has told");
+        return;
+    }
+    bool has_path = w->entry.step == NDF_STEP_WATCH || w->entry.step == NDF_STEP_UNWATCH;
+    if (e.step != w->entry.step || e.exists != w->entry.exists || e.recursive != w->entry.recursive ||
+        e.moment != w->entry.moment || e.events != w->entry.events || e.errors != w->entry.errors ||
+        e.device != (e.known ? 1 : 0) || e.inode > 3 || (e.known && e.step != NDF_STEP_EVENT) ||
+        (has_path ? !is_path(buf, e.path, &w->path) : e.path > 0))
+        wrong("an entry is wrong");
+}
+
+static void read_in_entry(struct known *k, long before) {
+    char buf[512];
+    size_t place = below(k->entries + 2), room = one_in(4) ? below(8) : sizeof buf;
+    const struct written *w = place < k->entries ? &k->written[place] : NULL;
+    if (one_in(3)) {
+        size_t within = below((w ? w->entry.errors : 0) + 2);
+        ndf_told_error t = {0};
+        uint32_t code = ndf_entry_error(&k->h, place, within, &t, buf, room);
+        bool there = w && within < w->entry.errors;
+        uint32_t fault = !there ? NDF_AT_END : t.text + t.first > room ? NDF_TOO_SHORT : NDF_DONE;
+        answered("ndf_entry_error", k, code, fault, false, before);
+        return;
+    }
+    size_t within = below((w ? w->entry.events : 0) + 2);
+    ndf_told t = {0};
+    uint32_t code = ndf_entry_event(&k->h, place, within, &t, buf, room);
+    bool there = w && within < w->entry.events;
+    uint32_t fault = !there ? NDF_AT_END : t.first + t.second + t.info + t.source > room ? NDF_TOO_SHORT : NDF_DONE;
+    if (!answered("ndf_entry_event", k, code, fault, false, before) || w->entry.step != NDF_STEP_EVENT) return;
+    if (t.kind != w->kind || t.paths != w->paths || t.time != w->entry.moment ||
+        (t.paths > 0 && !is_path(buf, t.first, &w->path)))
+        wrong("the event of an entry is wrong");
+}
+
 static void call(void) {
     struct known *k = &all[below(HANDLES)];
+    if (k->entries == ENTRIES) keep(k, true, refusals);
     left = one_in(20) ? (long)below(4) : -1;
     long before = refusals;
-    switch (below(460)) {
+    switch (below(520)) {
     case 0:
         ndf_free(&k->h);
         calls++;
@@ -350,7 +467,10 @@ static void call(void) {
     case 366 ... 380: read_error(k, before); break;
     case 381 ... 400: watch(k, before); break;
     case 401 ... 440: say(k, before); break;
-    default: ask_number(k, before);
+    case 441 ... 460: ask_number(k, before); break;
+    case 461 ... 466: keep(k, !one_in(4), before); break;
+    case 467 ... 490: read_entry(k, before); break;
+    default: read_in_entry(k, before);
     }
     left = 0;
     check_counts(k);

@@ -54,10 +54,33 @@ static size_t read_all(size_t many) {
     return events;
 }
 
-static void story(void) {
-    size_t many = 0;
+/* Reads all entries, for which no memory is wanted. */
+static void read_journal(size_t entries, size_t events, size_t errors) {
+    char buf[256];
+    ndf_told_entry entry;
+    ndf_told told;
+    ndf_told_error error;
+    size_t i, seen = 0, known = 0;
+    long kept = left;
+    left = 0;
+    for (i = 0; ndf_entry(&h, i, &entry, buf, sizeof buf) == NDF_DONE; i++) {
+        size_t j = 0;
+        while (ndf_entry_event(&h, i, j, &told, buf, sizeof buf) == NDF_DONE) j++;
+        if (j != entry.events) fail("not as many events of an entry as were told");
+        seen += j;
+        for (j = 0; ndf_entry_error(&h, i, j, &error, buf, sizeof buf) == NDF_DONE;) j++;
+        if (j != entry.errors) fail("not as many errors of an entry as were told");
+        known += j;
+    }
+    if (i != entries || i != counts().entries || seen != events || known != errors) fail("a journal that isn't right");
+    left = kept;
+}
+
+static void story(bool is_journaled) {
+    size_t many = 0, given = 0;
     bool recursive = false;
     CALL(ndf_new(&h, 50));
+    if (is_journaled) CALL(ndf_journal(&h, true));
     CALL(ndf_watch(&h, "/w", 2, true));
     CALL(ndf_watch(&h, "/v", 2, false));
     CALL(ndf_mode(&h, "/w/x", 4, &recursive));
@@ -91,25 +114,37 @@ static void story(void) {
     CALL(ndf_outlook(&h, &many));
     read_all(many);
     CALL(ndf_tick(&h, 55, &many));
-    read_all(many);
+    given += read_all(many);
     CALL(ndf_tick(&h, 100, &many));
-    read_all(many);
+    given += read_all(many);
     CALL(ndf_errors(&h, &many));
     if (many != 2) fail("not the errors that were fed");
     CALL(ndf_unwatch(&h, "/w", 2));
+    /* 3 paths, 13 events, 2 errors, 2 ticks, 1 call for the errors */
+    if (is_journaled) read_journal(21, 13 + given, 4);
+    else read_journal(0, 0, 0);
+    CALL(ndf_journal(&h, false));
+    read_journal(0, 0, 0);
     ndf_free(&h);
     if (h.full || h.at) fail("the handle isn't empty");
 }
 
-int main(void) {
+/* How many requests a story makes, each of which was refused in turn. */
+static long refuse_each(bool is_journaled) {
     long n = 0, before;
     do {
         before = refusals;
         left = n++;
-        story();
+        story(is_journaled);
         left = -1;
         if (live != 0) fail("memory was leaked");
     } while (refusals > before);
-    printf("%ld requests refused in turn, %ld calls of %ld refused, nothing leaked\n", n - 1, refused, calls);
-    return refused > 0 ? 0 : 1;
+    return n - 1;
+}
+
+int main(void) {
+    long without = refuse_each(false), with = refuse_each(true);
+    printf("%ld requests refused in turn, with a journal %ld, %ld calls of %ld refused, nothing leaked\n", without,
+           with, refused, calls);
+    return 0 < without && without < with ? 0 : 1;
 }

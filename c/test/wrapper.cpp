@@ -65,6 +65,22 @@ int main() {
     check(second.tick(200) == 2 && second.next() && second.next()->kind == NDF_NAME_BOTH, "a rename joined by numbers");
     second.forget("/w");
     check(second.counts().numbers == 0, "numbers that are forgotten");
+    second.keep_journal(true);
+    std::string longer = "/w/" + std::string(2000, 'x');
+    second.watch(longer, true);
+    second.feed(ndf_change{NDF_CREATE_FILE, 1, false, false, true, 0, 90}, longer);
+    second.add_error(NDF_ERROR_GENERIC, "text", "/w");
+    check(second.tick(300) == 2 && second.next() && second.next() && second.errors().size() == 1, "a batch of two");
+    auto journal = second.journal();
+    check(journal.size() == 5 && journal[0].told.step == NDF_STEP_WATCH && journal[0].told.recursive &&
+              journal[0].path == longer,
+          "the entry of a path");
+    check(journal[1].told.exists && journal[1].events.at(0).time == 90 && journal[1].events[0].paths[0] == longer,
+          "the entry of an event");
+    check(journal[2].errors.at(0).path == "/w" && journal[4].errors.at(0).text == "text", "the entries of errors");
+    check(journal[3].told.moment == 300 && journal[3].events.at(1).paths[0] == longer, "the entry of a tick");
+    second.keep_journal(false);
+    check(second.journal().empty(), "a journal that isn't kept");
     second = ndf::debouncer(std::chrono::nanoseconds(0));
     check(second.counts().waiting == 0, "a debouncer that was moved in");
     return 0;

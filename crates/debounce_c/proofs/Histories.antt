@@ -1,14 +1,15 @@
 -- A call that answered 0 has made its step, and any other has changed nothing.
 use Rattle.std.proofs.Common.{◌≡◌, ◌∙◌, ℕ, ◌==◌, Bool, true, false, List, [], ◌∷◌, ◌++◌, Option, Some, None, true≢false, refl, sym, ap, subst, inl, inr}
+use Rattle.std.specs.Prelude.{⊤}
 use Rattle.debounce_model.specs.Command.{ReplyValue}
 use Rattle.debounce_desk.specs.Answers.{Answers, AnswersFor}
-use Rattle.debounce_desk.specs.Calls.{CallValue, Makes, MakesAll, Reads, reply_to}
+use Rattle.debounce_desk.specs.Calls.{CallValue, Keeps, Makes, MakesAll, Reads, reply_to}
 use Rattle.debounce_desk.specs.Codes.{fault_code}
 use Rattle.debounce_desk.specs.Desk.{DeskValue}
 use Rattle.debounce_desk.specs.Tells.{TellsCounts}
 use Rattle.debounce_desk.specs.declared.fault.Fault.{Fault}
 use Rattle.debounce_desk.specs.declared.fault.Fault.TheVariants.{Empty, NoMemory, Full, NotText, NoKind, Unread, AtEnd, TooShort, TooManyPaths, BadCounts}
-use Rattle.debounce_c.specs.Programs.{ExportValue, CallsWatch, CallsUnwatch, CallsMode, CallsNumber, CallsForget, CallsNumberOf, CallsEvent, CallsError, CallsTick, CallsOutlook, CallsNext, CallsErrors, CallsNextError, CallsCounts, AreAnswered, History, IsAnswered, call_of, done}
+use Rattle.debounce_c.specs.Programs.{ExportValue, CallsWatch, CallsUnwatch, CallsMode, CallsNumber, CallsForget, CallsNumberOf, CallsEvent, CallsError, CallsTick, CallsOutlook, CallsNext, CallsErrors, CallsNextError, CallsJournal, CallsEntry, CallsEntryEvent, CallsEntryError, CallsCounts, AreAnswered, History, IsAnswered, call_of, done}
 
 -- what a call with this code, on a handle that holds s, has left: its step, or s
 pub record Leaves (call : CallValue) (code : ℕ) (s : DeskValue) (new : Option DeskValue) : Type 0 where
@@ -64,9 +65,13 @@ answered_for call code None needs Step Kept s new makes (inl (t, is, held, step)
 answered_for call code None needs Step Kept s new makes (inr (is, need, kept)) =
     refused call code NoMemory s new is kept.1
 
--- a call that told something has left the core
-same_core : {P : Type 0} (s t : DeskValue) → P × (t ≡ s) → t.core ≡ s.core
-same_core s t (told, same) = ap (λ (d : DeskValue). d.core) same
+-- a call that left all has left the core and the journal
+all_same : (s t : DeskValue) → t ≡ s → Makes Reads s t
+all_same s t same = (ap (λ (d : DeskValue). d.core) same, ap (λ (d : DeskValue). d.journal) same)
+
+-- .. also if it told something
+same_core : {P : Type 0} (s t : DeskValue) → P × (t ≡ s) → Makes Reads s t
+same_core s t (told, same) = all_same s t same
 
 -- each call has made its step, or left s
 pub answered : (call : ExportValue) (code : ℕ) (s : DeskValue) (new : Option DeskValue) →
@@ -84,12 +89,23 @@ answered (CallsEvent c a first second info source) code s new h =
 answered (CallsError kind has_path text path) code s new h = answered_for _ code _ _ _ _ s new (λ t step. step) h
 answered (CallsTick now) code s new (b, c, h) = answered_for _ code _ _ _ _ s new (λ t step. (c, step)) h
 answered CallsOutlook code s new (b, c, h) =
-    answered_for _ code _ _ _ _ s new (λ (t : DeskValue) step. ap (λ (d : DeskValue). d.core) step.rest) h
+    answered_for _ code _ _ _ _ s new (λ (t : DeskValue) step.
+    (ap (λ (d : DeskValue). d.core) step.rest, ap (λ (d : DeskValue). d.journal) step.rest)) h
 answered CallsNext code s new (b, c, m, n, h) =
-    answered_for _ code _ _ _ _ s new (λ t (x, at, told, text, is). ap (λ (d : DeskValue). d.core) is) h
+    answered_for _ code _ _ _ _ s new (λ t (x, at, told, text, is).
+    (ap (λ (d : DeskValue). d.core) is, ap (λ (d : DeskValue). d.journal) is)) h
 answered CallsErrors code s new (b, c, h) = answered_for _ code _ _ _ _ s new (λ t step. (c, step)) h
 answered CallsNextError code s new (b, c, m, n, h) =
-    answered_for _ code _ _ _ _ s new (λ t (x, at, told, text, is). ap (λ (d : DeskValue). d.core) is) h
+    answered_for _ code _ _ _ _ s new (λ t (x, at, told, text, is).
+    (ap (λ (d : DeskValue). d.core) is, ap (λ (d : DeskValue). d.journal) is)) h
+answered (CallsJournal on) code s new h =
+    answered_for (Keeps on) code None false (Makes (Keeps on) s) (λ f. ⊤) s new (λ t step. step) h
+answered (CallsEntry place) code s new (b, c, m, n, h) =
+    answered_for _ code _ _ _ _ s new (λ t (e, at, told, text, is). all_same s t is) h
+answered (CallsEntryEvent place within) code s new (b, c, m, n, h) =
+    answered_for _ code _ _ _ _ s new (λ t (x, at, told, text, is). all_same s t is) h
+answered (CallsEntryError place within) code s new (b, c, m, n, h) =
+    answered_for _ code _ _ _ _ s new (λ t (e, at, told, text, is). all_same s t is) h
 answered CallsCounts code s new (b, c, h) =
     answered_for Reads code None false (λ t. TellsCounts s c × (t ≡ s)) (λ f. c ≡ b) s new (λ t. same_core s t) h
 

@@ -5,16 +5,17 @@ use Rattle.notify_types.specs.Event.{Timed}
 use Rattle.notify_paths.specs.Errors.{ErrorValue}
 use Rattle.notify_paths.specs.PathText.{parts_of}
 use Rattle.debounce_model.specs.Calls.{recursive_mode}
+use Rattle.debounce_model.specs.Command.{EventCommand, TakenReply}
 use Rattle.debounce_model.specs.Step.{IsTaken}
-use Rattle.debounce_model.specs.Tick.{is_due}
+use Rattle.debounce_book.specs.Journal.{EntryValue}
 use Rattle.numbered_core.specs.Numbers.{number_at, said_numbers}
 use Rattle.debounce_desk.specs.Answers.{Answers}
-use Rattle.debounce_desk.specs.Calls.{Forgets, Makes, Notes, Says, Unwatches, Watches}
+use Rattle.debounce_desk.specs.Calls.{Forgets, Keeps, Makes, Notes, Says, Unwatches, Watches}
 use Rattle.debounce_desk.specs.Codes.{fault_code}
-use Rattle.debounce_desk.specs.Desk.{DeskValue, IsAsked, IsForeseen, IsOpened, IsTicked}
-use Rattle.debounce_desk.specs.Faults.{batch_fault, error_fault, errors_fault, event_fault, event_needs, next_error_fault, next_fault, no_fault, text_fault}
+use Rattle.debounce_desk.specs.Desk.{DeskValue, IsAsked, IsForeseen, IsOpened, IsTicked, entry_at, stepped}
+use Rattle.debounce_desk.specs.Faults.{batch_fault, entry_fault, error_fault, errors_fault, errors_need, event_fault, event_needs, next_error_fault, next_fault, no_fault, text_fault, tick_needs}
 use Rattle.debounce_desk.specs.Said.{error_of, event_of, id_of, mode_of}
-use Rattle.debounce_desk.specs.Tells.{LeavesErrorTold, LeavesTold, Tells, TellsCounts, TellsError, TellsNumber, error_texts, texts_of, written}
+use Rattle.debounce_desk.specs.Tells.{LeavesEntryTold, LeavesErrorTold, LeavesTold, Tells, TellsCounts, TellsEntry, TellsError, TellsNumber, entry_texts, error_in, error_texts, event_in, texts_of, written}
 use Rattle.debounce_desk.specs.declared.fault.Fault.{Fault}
 use Rattle.debounce_desk.specs.declared.fault.Fault.TheVariants.{NoMemory}
 use Rattle.debounce_desk.specs.declared.records.Attributes.{Attributes}
@@ -22,6 +23,7 @@ use Rattle.debounce_desk.specs.declared.records.Change.{Change}
 use Rattle.debounce_desk.specs.declared.records.Counts.{Counts}
 use Rattle.debounce_desk.specs.declared.records.Number.{Number}
 use Rattle.debounce_desk.specs.declared.records.Told.{Told}
+use Rattle.debounce_desk.specs.declared.records.ToldEntry.{ToldEntry}
 use Rattle.debounce_desk.specs.declared.records.ToldError.{ToldError}
 
 -- a new debouncer, whatever was held before; or the fault's code, or NO_MEMORY, and what was held is held
@@ -65,9 +67,10 @@ IsNumberTold code path before after = Answers code (λ s. text_fault path) (λ s
 abbrev pub IsFed : ℕ → Change → Attributes → List ℕ → List ℕ → List ℕ → List ℕ → Option DeskValue → Option DeskValue
     → Type 0
 IsFed code c a first second info source =
-    Answers code (event_fault c a first second info source) (λ s. event_needs c a) (λ s t.
+    Answers code (event_fault c a first second info source) (event_needs c a) (λ s t.
     IsTaken said_numbers s.core (event_of c a first second info source) c.moment c.exists t.core
-    × (t ≡ record s { core = t.core })) (λ f. ⊤)
+    × (t ≡ stepped s t.core (EventCommand (event_of c a first second info source) c.moment c.exists)
+    (TakenReply t.core.answer))) (λ f. ⊤)
 
 -- the error was kept
 abbrev pub IsNoted : ℕ → ℕ → Bool → List ℕ → List ℕ → Option DeskValue → Option DeskValue → Type 0
@@ -76,7 +79,7 @@ IsNoted code number has_path text path = Answers code (λ s. error_fault number 
 
 -- the tick emitted its batch, of so many events
 abbrev pub IsTickAnswered : ℕ → ℕ → ℕ → ℕ → Option DeskValue → Option DeskValue → Type 0
-IsTickAnswered code now before after = Answers code batch_fault (λ s. is_due s.core.state now)
+IsTickAnswered code now before after = Answers code batch_fault (tick_needs now)
     (λ s t. IsTicked s now after t) (λ f. after ≡ before)
 
 -- the outlook is to be read, of so many events
@@ -86,7 +89,7 @@ IsOutlookAnswered code before after = Answers code batch_fault (λ s. true)
 
 -- the errors are to be read, so many
 abbrev pub IsErrorsAnswered : ℕ → ℕ → ℕ → Option DeskValue → Option DeskValue → Type 0
-IsErrorsAnswered code before after = Answers code errors_fault (λ s. false)
+IsErrorsAnswered code before after = Answers code errors_fault errors_need
     (λ s t. IsAsked s after t) (λ f. after ≡ before)
 
 -- the next event, if a debouncer is held that has one
@@ -119,3 +122,39 @@ IsErrorTold code silent told before after old =
 abbrev pub AreCountsTold : ℕ → Counts → Counts → Option DeskValue → Option DeskValue → Type 0
 AreCountsTold code before after = Answers code no_fault (λ s. false) (λ s t.
     TellsCounts s after × (t ≡ s)) (λ f. after ≡ before)
+
+-- a journal has begun, or none is kept
+abbrev pub IsJournalKept : ℕ → Bool → Option DeskValue → Option DeskValue → Type 0
+IsJournalKept code on = Answers code no_fault (λ s. false) (Makes (Keeps on)) (λ f. ⊤)
+
+-- the entry at this place, if a debouncer is held that has one
+abbrev pub entry_of_held : Option DeskValue → ℕ → Option EntryValue
+entry_of_held None place = None
+entry_of_held (Some s) place = entry_at s place
+
+-- the entry was told, and its path stands in the buffer
+abbrev pub IsEntryTold : ℕ → ℕ → ToldEntry → ToldEntry → List ℕ → List ℕ → Option DeskValue → Option DeskValue
+    → Type 0
+IsEntryTold code place silent told before after old =
+    Answers code (λ s. entry_fault (length before) (entry_at s place)) (λ s. false) (λ s t.
+    (e : EntryValue) × (entry_at s place ≡ Some e) × TellsEntry e told × (after ≡ written (entry_texts e) before)
+    × (t ≡ s))
+    (λ f. (after ≡ before) × LeavesEntryTold f (entry_of_held old place) silent told) old
+
+-- the event of an entry was told, and its texts stand in the buffer
+abbrev pub IsEntryEventTold : ℕ → ℕ → ℕ → Told → Told → List ℕ → List ℕ → Option DeskValue → Option DeskValue
+    → Type 0
+IsEntryEventTold code place within silent told before after old =
+    Answers code (λ s. next_fault (length before) (event_in (entry_at s place) within)) (λ s. false) (λ s t.
+    (x : Timed) × (event_in (entry_at s place) within ≡ Some x) × Tells x told
+    × (after ≡ written (texts_of x) before) × (t ≡ s))
+    (λ f. (after ≡ before) × LeavesTold f (event_in (entry_of_held old place) within) silent told) old
+
+-- the error of an entry was told, and its texts stand in the buffer
+abbrev pub IsEntryErrorTold : ℕ → ℕ → ℕ → ToldError → ToldError → List ℕ → List ℕ → Option DeskValue
+    → Option DeskValue → Type 0
+IsEntryErrorTold code place within silent told before after old =
+    Answers code (λ s. next_error_fault (length before) (error_in (entry_at s place) within)) (λ s. false) (λ s t.
+    (e : ErrorValue) × (error_in (entry_at s place) within ≡ Some e) × TellsError e told
+    × (after ≡ written (error_texts e) before) × (t ≡ s))
+    (λ f. (after ≡ before) × LeavesErrorTold f (error_in (entry_of_held old place) within) silent told) old

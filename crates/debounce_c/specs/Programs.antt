@@ -1,6 +1,7 @@
 -- What a C program has done with a handle: each call that it made since `ndf_new`, right or wrong, with the code that
 -- was answered; and what holds of all of it. Assumes nothing: these are definitions.
-use Rattle.std.specs.Prelude.{◌≡◌, ℕ, ◌==◌, Bool, false, true, List, [], ◌∷◌, ◌++◌, Option, Some, if◌then◌else◌}
+use Rattle.std.specs.Prelude.{◌≡◌, ℕ, ◌==◌, Bool, false, true, not, List, [], ◌∷◌, ◌++◌, Option, Some, if◌then◌else◌}
+use Rattle.std.specs.List.{list_all}
 use Rattle.notify_paths.specs.PathText.{parts_of}
 use Rattle.debounce_model.specs.Command.{CommandValue, ReplyValue}
 use Rattle.debounce_model.specs.Flood.{FloodsNowhere}
@@ -9,7 +10,7 @@ use Rattle.debounce_model.specs.Kept.{has_rename, is_kept}
 use Rattle.debounce_model.specs.PathsLaw.{LeavesRawPaths}
 use Rattle.debounce_model.specs.Soon.{is_soon}
 use Rattle.debounce_model.specs.State.{State}
-use Rattle.debounce_desk.specs.Calls.{CallValue, Asks, Feeds, Forgets, MakesAll, Notes, Reads, Says, Ticks, Unwatches, Watches, commands_of}
+use Rattle.debounce_desk.specs.Calls.{CallValue, Asks, Feeds, Forgets, IsWrittenDown, Keeps, MakesAll, Notes, Reads, Says, Ticks, Unwatches, Watches, changes_journal, commands_of}
 use Rattle.debounce_desk.specs.Desk.{DeskValue, IsOpened}
 use Rattle.debounce_desk.specs.Said.{error_of, event_of, id_of, mode_of}
 use Rattle.debounce_desk.specs.declared.records.Attributes.{Attributes}
@@ -17,8 +18,9 @@ use Rattle.debounce_desk.specs.declared.records.Change.{Change}
 use Rattle.debounce_desk.specs.declared.records.Counts.{Counts}
 use Rattle.debounce_desk.specs.declared.records.Number.{Number}
 use Rattle.debounce_desk.specs.declared.records.Told.{Told}
+use Rattle.debounce_desk.specs.declared.records.ToldEntry.{ToldEntry}
 use Rattle.debounce_desk.specs.declared.records.ToldError.{ToldError}
-use Rattle.debounce_c.specs.Exports.{AreCountsTold, IsErrorTold, IsErrorsAnswered, IsFed, IsForgotten, IsModeTold, IsNoted, IsNumbered, IsNumberTold, IsOutlookAnswered, IsTickAnswered, IsTold, IsUnwatched, IsWatched}
+use Rattle.debounce_c.specs.Exports.{AreCountsTold, IsEntryErrorTold, IsEntryEventTold, IsEntryTold, IsErrorTold, IsErrorsAnswered, IsFed, IsForgotten, IsJournalKept, IsModeTold, IsNoted, IsNumbered, IsNumberTold, IsOutlookAnswered, IsTickAnswered, IsTold, IsUnwatched, IsWatched}
 
 -- a call of an export but ndf_new.. and ndf_free, with what it was given
 pub data ExportValue : Type 0 where
@@ -35,6 +37,10 @@ pub data ExportValue : Type 0 where
   CallsNext : ExportValue
   CallsErrors : ExportValue
   CallsNextError : ExportValue
+  CallsJournal : (on : Bool) → ExportValue
+  CallsEntry : (place : ℕ) → ExportValue
+  CallsEntryEvent : (place within : ℕ) → ExportValue
+  CallsEntryError : (place within : ℕ) → ExportValue
   CallsCounts : ExportValue
 
 -- the export promises this of the call, with this code, and of what was held before and after
@@ -52,6 +58,13 @@ IsAnswered CallsOutlook code old new = (b c : ℕ) × IsOutlookAnswered code b c
 IsAnswered CallsNext code old new = (b c : Told) × (m n : List ℕ) × IsTold code b c m n old new
 IsAnswered CallsErrors code old new = (b c : ℕ) × IsErrorsAnswered code b c old new
 IsAnswered CallsNextError code old new = (b c : ToldError) × (m n : List ℕ) × IsErrorTold code b c m n old new
+IsAnswered (CallsJournal on) code old new = IsJournalKept code on old new
+IsAnswered (CallsEntry place) code old new =
+    (b c : ToldEntry) × (m n : List ℕ) × IsEntryTold code place b c m n old new
+IsAnswered (CallsEntryEvent place within) code old new =
+    (b c : Told) × (m n : List ℕ) × IsEntryEventTold code place within b c m n old new
+IsAnswered (CallsEntryError place within) code old new =
+    (b c : ToldError) × (m n : List ℕ) × IsEntryErrorTold code place within b c m n old new
 IsAnswered CallsCounts code old new = (b c : Counts) × AreCountsTold code b c old new
 
 -- what a call is that answers 0
@@ -69,6 +82,10 @@ call_of CallsOutlook = Reads
 call_of CallsNext = Reads
 call_of CallsErrors = Asks
 call_of CallsNextError = Reads
+call_of (CallsJournal on) = Keeps on
+call_of (CallsEntry place) = Reads
+call_of (CallsEntryEvent place within) = Reads
+call_of (CallsEntryError place within) = Reads
 call_of CallsCounts = Reads
 
 -- calls in the order in which they were made, each with its code
@@ -107,3 +124,18 @@ pub record HasLed (s : DeskValue) (history : History) (new : Option DeskValue) :
 abbrev pub HistoriesKeepLaws : Type 0
 HistoriesKeepLaws = (timeout : ℕ) (history : History) (s : DeskValue) (new : Option DeskValue) →
     IsOpened timeout 0 0 s → AreAnswered history (Some s) new → HasLed s history new
+
+-- what a history has left in which no journal was begun or ended: a debouncer, to which the calls that answered 0 have
+-- led, and they are written down in its journal, if it has one
+pub record HasWritten (s : DeskValue) (history : History) (new : Option DeskValue) : Type 0 where
+  pub t : DeskValue
+  pub replies : List ReplyValue
+  pub held : new ≡ Some t
+  pub made : MakesAll (done history) replies s t
+  pub written : IsWrittenDown (commands_of (done history)) replies s t
+
+-- of each history of a debouncer, from whatever it holds on, in which no ndf_journal answered 0
+abbrev pub HistoriesAreWrittenDown : Type 0
+HistoriesAreWrittenDown = (history : History) (s : DeskValue) (new : Option DeskValue) →
+    list_all (λ call. not (changes_journal call)) (done history) ≡ true → AreAnswered history (Some s) new →
+    HasWritten s history new

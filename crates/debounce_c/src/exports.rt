@@ -1,6 +1,6 @@
 //! The functions that C calls.
 ghost use Rattle.std.specs.Prelude.{◌≡◌, [], None, Some};
-ghost use Rattle.debounce_c.specs.Exports.{AreCountsTold, IsErrorTold, IsErrorsAnswered, IsFed, IsForgotten, IsMade, IsModeTold, IsNoted, IsNumberTold, IsNumbered, IsOutlookAnswered, IsTickAnswered, IsTold, IsUnwatched, IsWatched};
+ghost use Rattle.debounce_c.specs.Exports.{AreCountsTold, IsEntryErrorTold, IsEntryEventTold, IsEntryTold, IsErrorTold, IsErrorsAnswered, IsFed, IsForgotten, IsJournalKept, IsMade, IsModeTold, IsNoted, IsNumberTold, IsNumbered, IsOutlookAnswered, IsTickAnswered, IsTold, IsUnwatched, IsWatched};
 ghost use Rattle.debounce_desk.specs.Faults.{counts_fault};
 ghost use Rattle.debounce_desk.specs.Said.{no_attributes};
 
@@ -8,7 +8,7 @@ use crate::handle::Handle;
 use debounce_desk::calls;
 use debounce_desk::desk::Desk;
 use debounce_desk::fault::{Fault, code_of};
-use debounce_desk::records::{Attributes, Change, Counts, Number, Told, ToldError};
+use debounce_desk::records::{Attributes, Change, Counts, Number, Told, ToldEntry, ToldError};
 use std::alloc::Global;
 
 /// Makes a debouncer that waits for nothing, and emits an event once it is as old as the timeout, in
@@ -278,7 +278,7 @@ pub extern "C" fn ndf_errors(h: &mut Handle, alloc: Global, count: &mut usize) -
     let Some(mut desk) = h.take(alloc) else {
         return Fault::Empty.code();
     };
-    let code = code_of(calls::errors(&mut desk, count));
+    let code = code_of(calls::errors(&mut desk, alloc, count));
     h.put(desk);
     code
 }
@@ -298,6 +298,81 @@ pub extern "C" fn ndf_next_error(
         return Fault::Empty.code();
     };
     let code = code_of(calls::next_error(&mut desk, told, buf));
+    h.put(desk);
+    code
+}
+
+/// A journal begins, and is empty; or none is kept any longer. What was kept before is freed.
+#[unsafe(no_mangle)]
+pub extern "C" fn ndf_journal(h: &mut Handle, alloc: Global, on: bool) -> u32
+    ensures { IsJournalKept result on h.old.sealed.desk h.new.sealed.desk }
+{
+    let Some(mut desk) = h.take(alloc) else {
+        return Fault::Empty.code();
+    };
+    desk.keep_journal(alloc, on);
+    h.put(desk);
+    0
+}
+
+/// Tells the entry at this place of the journal, and writes its path to the start of the buffer.
+#[unsafe(no_mangle)]
+pub extern "C" fn ndf_entry(
+    h: &mut Handle,
+    alloc: Global,
+    place: usize,
+    told: &mut ToldEntry,
+    buf: &mut [u8],
+) -> u32
+    ensures { IsEntryTold result place told.old told.new buf.old buf.new h.old.sealed.desk
+        h.new.sealed.desk }
+{
+    let Some(desk) = h.take(alloc) else {
+        return Fault::Empty.code();
+    };
+    let code = code_of(calls::entry(&desk, place, told, buf));
+    h.put(desk);
+    code
+}
+
+/// Tells the event at this place of an entry, and writes its texts to the start of the buffer.
+#[unsafe(no_mangle)]
+pub extern "C" fn ndf_entry_event(
+    h: &mut Handle,
+    alloc: Global,
+    place: usize,
+    within: usize,
+    told: &mut Told,
+    buf: &mut [u8],
+) -> u32
+    ensures { IsEntryEventTold result place within told.old told.new buf.old buf.new
+        h.old.sealed.desk h.new.sealed.desk }
+{
+    let Some(desk) = h.take(alloc) else {
+        return Fault::Empty.code();
+    };
+    let code = code_of(calls::entry_event(&desk, place, within, told, buf));
+    h.put(desk);
+    code
+}
+
+/// Tells the error at this place of an entry, and writes its texts to the start of the buffer.
+#[unsafe(no_mangle)]
+pub extern "C" fn ndf_entry_error(
+    h: &mut Handle,
+    alloc: Global,
+    place: usize,
+    within: usize,
+    told: &mut ToldError,
+    buf: &mut [u8],
+) -> u32
+    ensures { IsEntryErrorTold result place within told.old told.new buf.old buf.new
+        h.old.sealed.desk h.new.sealed.desk }
+{
+    let Some(desk) = h.take(alloc) else {
+        return Fault::Empty.code();
+    };
+    let code = code_of(calls::entry_error(&desk, place, within, told, buf));
     h.put(desk);
     code
 }

@@ -9,7 +9,7 @@ use Rattle.debounce_model.specs.State.{Core, State, empty_state}
 use Rattle.debounce_model.specs.WellFormed.{IsWellFormed}
 use Rattle.debounce_laws.proofs.StateRuns.{StateRun}
 use Rattle.numbered_core.specs.Numbers.{Numbers, said_numbers, with_numbers}
-use Rattle.debounce_desk.specs.Calls.{CallValue, Feeds, Notes, Watches, Unwatches, Asks, Ticks, Says, Forgets, Reads, IsRenumbered, MakesAll, RunsBetween, changes_numbers, commands_of}
+use Rattle.debounce_desk.specs.Calls.{CallValue, Feeds, Notes, Watches, Unwatches, Asks, Ticks, Says, Forgets, Keeps, Reads, IsRenumbered, MakesAll, RunsBetween, changes_numbers, commands_of}
 use Rattle.debounce_desk.specs.Desk.{DeskValue}
 
 -- none of the calls changes the numbers
@@ -34,9 +34,13 @@ runs (Ticks now ∷ calls) replies s t same (m, rest, split, made, more) =
     rw split (m.core, (made.1.batch, ap (λ d. d.core) made.1.rest), runs calls rest m t same more)
 runs (Says path id ∷ calls) replies s t same made = cc
 runs (Forgets path ∷ calls) replies s t same made = cc
+runs (Keeps on ∷ calls) replies s t same (m, rest, split, made, more) =
+    rw split
+    (subst (λ (k : Core Numbers). Run said_numbers k (commands_of calls) rest t.core)
+    (ap (λ (d : DeskValue). d.core) made) (runs calls rest m t same more))
 runs (Reads ∷ calls) replies s t same (m, rest, split, made, more) =
     rw split
-    (subst (λ (k : Core Numbers). Run said_numbers k (commands_of calls) rest t.core) made
+    (subst (λ (k : Core Numbers). Run said_numbers k (commands_of calls) rest t.core) made.0
     (runs calls rest m t same more))
 
 -- where only the numbers have changed, what goes on goes on
@@ -77,9 +81,13 @@ runs_between (Says path id ∷ calls) replies s t (m, rest, split, made, more) =
 runs_between (Forgets path ∷ calls) replies s t (m, rest, split, made, more) =
     rw split
     (renumbered (commands_of calls) rest s.core m.core t.core (rw made refl) (runs_between calls rest m t more))
+runs_between (Keeps on ∷ calls) replies s t (m, rest, split, made, more) =
+    rw split
+    (subst (λ (k : Core Numbers). RunsBetween k (commands_of calls) rest t.core)
+    (ap (λ (d : DeskValue). d.core) made) (runs_between calls rest m t more))
 runs_between (Reads ∷ calls) replies s t (m, rest, split, made, more) =
     rw split
-    (subst (λ (k : Core Numbers). RunsBetween k (commands_of calls) rest t.core) made
+    (subst (λ (k : Core Numbers). RunsBetween k (commands_of calls) rest t.core) made.0
     (runs_between calls rest m t more))
 
 -- .. and of its state
@@ -106,9 +114,13 @@ state_runs (Forgets path ∷ calls) replies s t (m, rest, split, made, more) =
     rw split
     (subst (λ (k : State). StateRun k (commands_of calls) rest t.core.state) (ap (λ d. d.core.state) made)
     (state_runs calls rest m t more))
+state_runs (Keeps on ∷ calls) replies s t (m, rest, split, made, more) =
+    rw split
+    (subst (λ (k : State). StateRun k (commands_of calls) rest t.core.state) (ap (λ d. d.core.state) made)
+    (state_runs calls rest m t more))
 state_runs (Reads ∷ calls) replies s t (m, rest, split, made, more) =
     rw split
-    (subst (λ (k : State). StateRun k (commands_of calls) rest t.core.state) (ap (λ (k : Core Numbers). k.state) made)
+    (subst (λ (k : State). StateRun k (commands_of calls) rest t.core.state) (ap (λ (k : Core Numbers). k.state) made.0)
     (state_runs calls rest m t more))
 
 -- no keys are in order

@@ -1,3 +1,4 @@
 mod CallLemmas
+mod JournalLemmas
 mod OutcomeLemmas
 mod TextLemmas

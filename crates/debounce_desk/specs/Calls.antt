@@ -1,7 +1,8 @@
 -- What C's calls make of a debouncer, and what calls that were made in turn are to its core: a run, of which the laws
 -- hold. Assumes nothing: these are definitions.
-use Rattle.std.specs.Prelude.{◌≡◌, ℕ, Bool, true, false, not, List, [], ◌∷◌, ◌++◌}
+use Rattle.std.specs.Prelude.{◌≡◌, ℕ, Bool, true, false, not, List, [], ◌∷◌, ◌++◌, Option}
 use Rattle.std.specs.List.{list_all}
+use Rattle.std.specs.Option.{option_map}
 use Rattle.notify_paths.specs.Errors.{ErrorValue}
 use Rattle.notify_paths.specs.Path.{PathValue}
 use Rattle.notify_types.specs.Event.{EventValue}
@@ -16,11 +17,14 @@ use Rattle.debounce_model.specs.Soon.{is_soon}
 use Rattle.debounce_model.specs.State.{Core, with_error, with_state}
 use Rattle.debounce_model.specs.Step.{IsRooted, IsTaken, IsUnrooted}
 use Rattle.debounce_model.specs.declared.file_id.FileId.{FileId}
+use Rattle.debounce_book.specs.Book.{entry_of}
+use Rattle.debounce_book.specs.Journal.{EntryValue, Replays}
 use Rattle.numbered_core.specs.Numbers.{Numbers, said_numbers, with_number, with_numbers, without_numbers}
-use Rattle.debounce_desk.specs.Desk.{DeskValue, IsAsked, IsOpened, IsTicked}
+use Rattle.debounce_desk.specs.Desk.{DeskValue, IsAsked, IsOpened, IsTicked, begun, stepped}
 
 -- a call that did what it says: it fed an event, kept an error, watched or unwatched a path, asked for the errors,
--- made a tick; it said a file number, or took out those at a path; or it read what there was, as all others do
+-- made a tick; it said a file number, or took out those at a path; it began a journal, or ended it; or it read what
+-- there was, as all others do
 pub data CallValue : Type 0 where
   Feeds : (event : EventValue) → (now : ℕ) → (exists : Bool) → CallValue
   Notes : (error : ErrorValue) → CallValue
@@ -30,22 +34,28 @@ pub data CallValue : Type 0 where
   Ticks : (now : ℕ) → CallValue
   Says : (path : PathValue) → (id : FileId) → CallValue
   Forgets : (path : PathValue) → CallValue
+  Keeps : (on : Bool) → CallValue
   Reads : CallValue
 
 -- what a call makes of a debouncer
 abbrev pub Makes : CallValue → DeskValue → DeskValue → Type 0
 Makes (Feeds event now exists) s t =
-    IsTaken said_numbers s.core event now exists t.core × (t ≡ record s { core = t.core })
-Makes (Notes error) s t = t ≡ record s { core = with_state s.core (with_error s.core.state error) }
-Makes (Watches path mode) s t = IsRooted said_numbers s.core path mode t.core × (t ≡ record s { core = t.core })
-Makes (Unwatches path) s t = IsUnrooted said_numbers s.core path t.core × (t ≡ record s { core = t.core })
+    IsTaken said_numbers s.core event now exists t.core
+    × (t ≡ stepped s t.core (EventCommand event now exists) (TakenReply t.core.answer))
+Makes (Notes error) s t =
+    t ≡ stepped s (with_state s.core (with_error s.core.state error)) (ErrorCommand error) NotedReply
+Makes (Watches path mode) s t =
+    IsRooted said_numbers s.core path mode t.core × (t ≡ stepped s t.core (RootCommand path mode) RootedReply)
+Makes (Unwatches path) s t =
+    IsUnrooted said_numbers s.core path t.core × (t ≡ stepped s t.core (UnrootCommand path) UnrootedReply)
 Makes Asks s t = (many : ℕ) × IsAsked s many t
 Makes (Ticks now) s t = (many : ℕ) × IsTicked s now many t
 Makes (Says path id) s t =
     t ≡ record s { core = with_numbers s.core (with_number s.core.cache path id) }
 Makes (Forgets path) s t =
     t ≡ record s { core = with_numbers s.core (without_numbers s.core.cache path) }
-Makes Reads s t = t.core ≡ s.core
+Makes (Keeps on) s t = t ≡ record s { journal = begun on }
+Makes Reads s t = (t.core ≡ s.core) × (t.journal ≡ s.journal)
 
 -- the core's command that a call is, if it is one
 abbrev pub command_of : CallValue → List CommandValue
@@ -57,6 +67,7 @@ command_of Asks = ErrorsCommand ∷ []
 command_of (Ticks now) = TickCommand now ∷ []
 command_of (Says path id) = []
 command_of (Forgets path) = []
+command_of (Keeps on) = []
 command_of Reads = []
 
 -- the core's reply to it, by what the call left: of a tick the batch that C reads then, of a call for the errors those
@@ -69,6 +80,7 @@ reply_to Asks t = ErrorsReply t.errors ∷ []
 reply_to (Ticks now) t = BatchReply t.batch ∷ []
 reply_to (Says path id) t = []
 reply_to (Forgets path) t = []
+reply_to (Keeps on) t = []
 reply_to Reads t = []
 
 -- the core's commands that calls are
@@ -88,6 +100,11 @@ abbrev pub changes_numbers : CallValue → Bool
 changes_numbers (Says path id) = true
 changes_numbers (Forgets path) = true
 changes_numbers call = false
+
+-- a call that begins a journal, or ends it
+abbrev pub changes_journal : CallValue → Bool
+changes_journal (Keeps on) = true
+changes_journal call = false
 
 -- calls that were made in turn, none of which changed the numbers, are a run of the core
 abbrev pub CallsAreARun : Type 0
@@ -139,3 +156,24 @@ CallsFloodNowhere = OfCalls (λ commands replies s t. FloodsNowhere commands rep
 abbrev pub CallsEmitSoon : Type 0
 CallsEmitSoon = OfCalls (λ commands replies s t.
     has_rename commands replies ≡ false → is_soon s.core.state.timeout s.core.state.latest commands replies ≡ true)
+
+-- the entries of these commands, with these replies
+abbrev pub entries_of : List CommandValue → List ReplyValue → List EntryValue
+entries_of (command ∷ commands) (reply ∷ replies) = entry_of 0 command reply ∷ entries_of commands replies
+entries_of commands replies = []
+
+-- the journal with these entries at its end, if it is kept
+abbrev pub with_entries : Option (List EntryValue) → List EntryValue → Option (List EntryValue)
+with_entries journal more = option_map (λ es. es ++ more) journal
+
+-- from s to t the journal, if one is kept, got the entries of these commands, in order, and of no others; and these lead
+-- from the state of s to that of t
+pub record IsWrittenDown (commands : List CommandValue) (replies : List ReplyValue) (s t : DeskValue) : Type 0 where
+  pub journal : t.journal ≡ with_entries s.journal (entries_of commands replies)
+  pub leads : Replays s.core.state (entries_of commands replies) t.core.state
+
+-- calls that were made in turn, none of which began a journal or ended it, are written down in it
+abbrev pub CallsAreWrittenDown : Type 0
+CallsAreWrittenDown = (calls : List CallValue) (replies : List ReplyValue) (s t : DeskValue) →
+    list_all (λ call. not (changes_journal call)) calls ≡ true → MakesAll calls replies s t →
+    IsWrittenDown (commands_of calls) replies s t

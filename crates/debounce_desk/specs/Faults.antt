@@ -1,10 +1,12 @@
 -- Which call answers which fault, whatever memory there is. Assumes nothing: these are definitions.
-use Rattle.std.specs.Prelude.{ℕ, ◌-◌, ◌^◌, ◌==◌, Bool, not, ◌&&◌, ◌||◌, nat_lt, List, length, Option, None, Some, if◌then◌else◌}
+use Rattle.std.specs.Prelude.{ℕ, ◌-◌, ◌^◌, ◌==◌, Bool, not, ◌&&◌, ◌||◌, nat_lt, List, length, is_some, Option, None, Some, if◌then◌else◌}
 use Rattle.std.specs.Str.{is_utf8}
 use Rattle.notify_paths.specs.Errors.{ErrorValue}
 use Rattle.notify_types.specs.Event.{Timed}
+use Rattle.debounce_model.specs.Tick.{is_due}
+use Rattle.debounce_book.specs.Journal.{EntryValue}
 use Rattle.debounce_desk.specs.Desk.{DeskValue}
-use Rattle.debounce_desk.specs.Tells.{error_texts, texts_of, total}
+use Rattle.debounce_desk.specs.Tells.{entry_texts, error_texts, texts_of, total}
 use Rattle.debounce_desk.specs.declared.fault.Fault.{Fault}
 use Rattle.debounce_desk.specs.declared.fault.Fault.TheVariants.{Full, NotText, NoKind, Unread, AtEnd, TooShort, TooManyPaths, BadCounts}
 use Rattle.debounce_desk.specs.declared.records.Attributes.{Attributes}
@@ -42,9 +44,21 @@ event_fault c a first second info source s =
     else (if s.core.state.taken == 2 ^ 64 - 1 then Some Full
     else None)))
 
--- an event may need memory: for its texts
-abbrev pub event_needs : Change → Attributes → Bool
-event_needs c a = nat_lt 0 c.paths || (a.has_info || a.has_source)
+-- an event has texts, which need memory
+abbrev pub has_texts : Change → Attributes → Bool
+has_texts c a = nat_lt 0 c.paths || (a.has_info || a.has_source)
+
+-- an event may need memory: for its texts, and for its entry in the journal
+abbrev pub event_needs : Change → Attributes → DeskValue → Bool
+event_needs c a s = is_some s.journal || has_texts c a
+
+-- a tick may need memory: if something is expired, and for its entry
+abbrev pub tick_needs : ℕ → DeskValue → Bool
+tick_needs now s = is_some s.journal || is_due s.core.state now
+
+-- a call for the errors may need memory: for its entry
+abbrev pub errors_need : DeskValue → Bool
+errors_need s = is_some s.journal
 
 -- an error: its kind is one of the first four, and its texts are UTF-8
 abbrev pub error_fault : ℕ → Bool → List ℕ → List ℕ → Option Fault
@@ -70,3 +84,8 @@ next_fault room (Some x) = if nat_lt room (total (texts_of x)) then Some TooShor
 abbrev pub next_error_fault : ℕ → Option ErrorValue → Option Fault
 next_error_fault room None = Some AtEnd
 next_error_fault room (Some e) = if nat_lt room (total (error_texts e)) then Some TooShort else None
+
+-- an entry is there, and its path fits
+abbrev pub entry_fault : ℕ → Option EntryValue → Option Fault
+entry_fault room None = Some AtEnd
+entry_fault room (Some e) = if nat_lt room (total (entry_texts e)) then Some TooShort else None

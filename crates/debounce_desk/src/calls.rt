@@ -4,20 +4,22 @@ ghost use Rattle.notify_paths.specs.PathText.{parts_of};
 ghost use Rattle.notify_types.specs.Event.{Timed};
 ghost use Rattle.notify_paths.specs.Errors.{ErrorValue};
 ghost use Rattle.debounce_model.specs.Calls.{recursive_mode};
+ghost use Rattle.debounce_model.specs.Command.{EventCommand, ErrorCommand, RootCommand, UnrootCommand, TakenReply, NotedReply, RootedReply, UnrootedReply};
 ghost use Rattle.debounce_model.specs.State.{with_state, with_error};
 ghost use Rattle.debounce_model.specs.Step.{IsTaken, IsRooted, IsUnrooted};
-ghost use Rattle.debounce_model.specs.Tick.{is_due};
+ghost use Rattle.debounce_book.specs.Journal.{EntryValue};
 ghost use Rattle.numbered_core.specs.Numbers.{number_at, said_numbers, with_number, with_numbers, without_numbers};
 ghost use Rattle.debounce_desk.specs.Answers.{Outcome};
-ghost use Rattle.debounce_desk.specs.Desk.{IsAsked, IsForeseen, IsTicked};
-ghost use Rattle.debounce_desk.specs.Faults.{batch_fault, error_fault, errors_fault, event_fault, event_needs, next_error_fault, next_fault, text_fault};
+ghost use Rattle.debounce_desk.specs.Desk.{IsAsked, IsForeseen, IsTicked, entry_at, stepped};
+ghost use Rattle.debounce_desk.specs.Faults.{batch_fault, entry_fault, error_fault, errors_fault, errors_need, event_fault, event_needs, next_error_fault, next_fault, text_fault, tick_needs};
 ghost use Rattle.debounce_desk.specs.Said.{error_of, event_of, id_of, mode_of};
-ghost use Rattle.debounce_desk.specs.Tells.{LeavesErrorTold, LeavesTold, Tells, TellsError, TellsNumber, error_texts, texts_of, written};
+ghost use Rattle.debounce_desk.specs.Tells.{LeavesEntryTold, LeavesErrorTold, LeavesTold, Tells, TellsEntry, TellsError, TellsNumber, entry_texts, error_in, error_texts, event_in, texts_of, written};
 
 use crate::desk::Desk;
+use crate::entries::{error_in, event_in, tell_entry};
 use crate::fault::Fault;
 use crate::reading::{are_texts, error_of, event_of, is_text, is_text_if, mode_of, path_of};
-use crate::records::{Attributes, Change, Number, Told, ToldError};
+use crate::records::{Attributes, Change, Number, Told, ToldEntry, ToldError};
 use crate::telling::{number_told, tell, tell_error};
 use debounce_model::file_id::FileId;
 use notify_types::event::RecursiveMode;
@@ -27,7 +29,9 @@ use std::alloc::Global;
 pub fn watch(desk: &mut Desk, alloc: Global, bytes: &[u8], recursive: bool) -> Result<(), Fault>
     ensures { Outcome result (text_fault bytes.now) true (λ t.
         IsRooted said_numbers desk.old.core (parts_of bytes.now) (mode_of recursive) t.core
-        × (t ≡ record desk.old { core = t.core })) (λ f. ⊤) desk.old desk.new }
+        × (t ≡ stepped desk.old t.core
+        (RootCommand (parts_of bytes.now) (mode_of recursive)) RootedReply))
+        (λ f. ⊤) desk.old desk.new }
 {
     if !is_text(bytes) {
         return Err(Fault::NotText);
@@ -42,7 +46,8 @@ pub fn watch(desk: &mut Desk, alloc: Global, bytes: &[u8], recursive: bool) -> R
 pub fn unwatch(desk: &mut Desk, alloc: Global, bytes: &[u8]) -> Result<(), Fault>
     ensures { Outcome result (text_fault bytes.now) true (λ t.
         IsUnrooted said_numbers desk.old.core (parts_of bytes.now) t.core
-        × (t ≡ record desk.old { core = t.core })) (λ f. ⊤) desk.old desk.new }
+        × (t ≡ stepped desk.old t.core (UnrootCommand (parts_of bytes.now)) UnrootedReply))
+        (λ f. ⊤) desk.old desk.new }
 {
     if !is_text(bytes) {
         return Err(Fault::NotText);
@@ -194,10 +199,13 @@ pub fn feed(
 ) -> Result<(), Fault>
     ensures { Outcome result
         (event_fault change.now attributes.now first.now second.now info.now source.now desk.old)
-        (event_needs change.now attributes.now) (λ t. IsTaken said_numbers desk.old.core
+        (event_needs change.now attributes.now desk.old) (λ t. IsTaken said_numbers desk.old.core
         (event_of change.now attributes.now first.now second.now info.now source.now)
         change.now.moment change.now.exists t.core
-        × (t ≡ record desk.old { core = t.core })) (λ f. ⊤) desk.old desk.new }
+        × (t ≡ stepped desk.old t.core (EventCommand
+        (event_of change.now attributes.now first.now second.now info.now source.now)
+        change.now.moment change.now.exists) (TakenReply t.core.answer)))
+        (λ f. ⊤) desk.old desk.new }
 {
     if let Some(fault) = event_fault(desk, change, attributes, first, second, info, source) {
         return Err(fault);
@@ -231,10 +239,10 @@ pub fn note(
     path: &[u8],
 ) -> Result<(), Fault>
     ensures { Outcome result (error_fault number has_path text.now path.now) true (λ t.
-        t ≡ record desk.old {
-          core = with_state desk.old.core
-              (with_error desk.old.core.state (error_of number has_path text.now path.now));
-        }) (λ f. ⊤) desk.old desk.new }
+        t ≡ stepped desk.old (with_state desk.old.core
+        (with_error desk.old.core.state (error_of number has_path text.now path.now)))
+        (ErrorCommand (error_of number has_path text.now path.now)) NotedReply)
+        (λ f. ⊤) desk.old desk.new }
 {
     if let Some(fault) = error_fault(number, has_path, text, path) {
         return Err(fault);
@@ -247,7 +255,7 @@ pub fn note(
 
 /// Emits what is expired.
 pub fn tick(desk: &mut Desk, now: u64, count: &mut usize) -> Result<(), Fault>
-    ensures { Outcome result (batch_fault desk.old) (is_due desk.old.core.state now)
+    ensures { Outcome result (batch_fault desk.old) (tick_needs now desk.old)
         (λ t. IsTicked desk.old now count.new t) (λ f. count.new ≡ count.old) desk.old desk.new }
 {
     if desk.is_unread() {
@@ -280,15 +288,20 @@ pub fn outlook(desk: &mut Desk, count: &mut usize) -> Result<(), Fault>
 }
 
 /// The errors that were kept are to be read.
-pub fn errors(desk: &mut Desk, count: &mut usize) -> Result<(), Fault>
-    ensures { Outcome result (errors_fault desk.old) false
+pub fn errors(desk: &mut Desk, alloc: Global, count: &mut usize) -> Result<(), Fault>
+    ensures { Outcome result (errors_fault desk.old) (errors_need desk.old)
         (λ t. IsAsked desk.old count.new t) (λ f. count.new ≡ count.old) desk.old desk.new }
 {
     if desk.has_unread_error() {
         return Err(Fault::Unread);
     }
-    *count = desk.ask();
-    Ok(())
+    match desk.ask(alloc) {
+        Ok(handed) => {
+            *count = handed;
+            Ok(())
+        }
+        Err(fault) => Err(fault),
+    }
 }
 
 /// Tells the next event.
@@ -305,7 +318,7 @@ pub fn next(desk: &mut Desk, told: &mut Told, buf: &mut [u8]) -> Result<(), Faul
     let Some(event) = desk.next() else {
         return Err(Fault::AtEnd);
     };
-    if !tell(event, told, buf) {
+    if !tell(&event.event, event.time, told, buf) {
         return Err(Fault::TooShort);
     }
     desk.advance();
@@ -330,5 +343,78 @@ pub fn next_error(desk: &mut Desk, told: &mut ToldError, buf: &mut [u8]) -> Resu
         return Err(Fault::TooShort);
     }
     desk.advance_error();
+    Ok(())
+}
+
+/// Tells an entry of the journal.
+pub fn entry(desk: &Desk, place: usize, told: &mut ToldEntry, buf: &mut [u8]) -> Result<(), Fault>
+    ensures { Outcome result (entry_fault (length buf.old) (entry_at desk.now place)) false
+        (λ t. (e : EntryValue) × (entry_at desk.now place ≡ Some e) × TellsEntry e told.new
+        × (buf.new ≡ written (entry_texts e) buf.old) × (t ≡ desk.now))
+        (λ f. (buf.new ≡ buf.old)
+        × LeavesEntryTold f (entry_at desk.now place) told.old told.new) desk.now desk.now }
+{
+    let Some(entry) = desk.entry(place) else {
+        return Err(Fault::AtEnd);
+    };
+    if !tell_entry(entry, told, buf) {
+        return Err(Fault::TooShort);
+    }
+    Ok(())
+}
+
+/// Tells an event of an entry of the journal.
+pub fn entry_event(
+    desk: &Desk,
+    place: usize,
+    within: usize,
+    told: &mut Told,
+    buf: &mut [u8],
+) -> Result<(), Fault>
+    ensures { Outcome result
+        (next_fault (length buf.old) (event_in (entry_at desk.now place) within)) false
+        (λ t. (x : Timed) × (event_in (entry_at desk.now place) within ≡ Some x)
+        × Tells x told.new × (buf.new ≡ written (texts_of x) buf.old) × (t ≡ desk.now))
+        (λ f. (buf.new ≡ buf.old)
+        × LeavesTold f (event_in (entry_at desk.now place) within) told.old told.new)
+        desk.now desk.now }
+{
+    let Some(entry) = desk.entry(place) else {
+        return Err(Fault::AtEnd);
+    };
+    let Some((event, time)) = event_in(entry, within) else {
+        return Err(Fault::AtEnd);
+    };
+    if !tell(event, time, told, buf) {
+        return Err(Fault::TooShort);
+    }
+    Ok(())
+}
+
+/// Tells an error of an entry of the journal.
+pub fn entry_error(
+    desk: &Desk,
+    place: usize,
+    within: usize,
+    told: &mut ToldError,
+    buf: &mut [u8],
+) -> Result<(), Fault>
+    ensures { Outcome result
+        (next_error_fault (length buf.old) (error_in (entry_at desk.now place) within)) false
+        (λ t. (e : ErrorValue) × (error_in (entry_at desk.now place) within ≡ Some e)
+        × TellsError e told.new × (buf.new ≡ written (error_texts e) buf.old) × (t ≡ desk.now))
+        (λ f. (buf.new ≡ buf.old)
+        × LeavesErrorTold f (error_in (entry_at desk.now place) within) told.old told.new)
+        desk.now desk.now }
+{
+    let Some(entry) = desk.entry(place) else {
+        return Err(Fault::AtEnd);
+    };
+    let Some(error) = error_in(entry, within) else {
+        return Err(Fault::AtEnd);
+    };
+    if !tell_error(error, told, buf) {
+        return Err(Fault::TooShort);
+    }
     Ok(())
 }

@@ -1,40 +1,40 @@
-//! What a handle holds: a debouncer, and the batch and the errors that C reads.
-ghost use Rattle.std.specs.Prelude.{◌≡◌, ◌≢◌, ◌<◌, ◌≤◌, ◌+◌, ◌-◌, ◌^◌, ◌==◌, length, nat_lt, slice_get, IfOk, IfErr, OnOk, true, false};
+//! What a handle holds: a debouncer, the batch and the errors that C reads, and a journal if one is kept.
+ghost use Rattle.std.specs.Prelude.{◌≡◌, ◌<◌, ◌≤◌, ◌+◌, ◌-◌, ◌^◌, ◌==◌, length, nat_lt, slice_get, IfOk, IfErr, OnOk, true};
 ghost use Rattle.std.specs.Option.{option_copied};
 ghost use Rattle.debounce_model.specs.Calls.{recursive_mode};
-ghost use Rattle.debounce_model.specs.Memory.{takes_no_memory};
-ghost use Rattle.debounce_model.specs.State.{with_error, with_state};
-ghost use Rattle.debounce_model.specs.Step.{IsTaken, IsRooted, IsUnrooted};
-ghost use Rattle.debounce_model.specs.Tick.{is_due};
-ghost use Rattle.numbered_core.specs.Numbers.{number_at, said_numbers, with_number, with_numbers, without_numbers};
-ghost use Rattle.debounce_desk.specs.Desk.{IsAsked, IsForeseen, IsOpened, IsTicked};
+ghost use Rattle.numbered_core.specs.Numbers.{number_at, with_number, with_numbers, without_numbers};
+ghost use Rattle.debounce_desk.specs.Desk.{IsAsked, IsForeseen, IsOpened, IsTicked, begun, entries_in, entry_at};
+ghost use Rattle.debounce_desk.specs.Faults.{errors_need, tick_needs};
 ghost use Rattle.debounce_desk.specs.Tells.{TellsCounts};
 ghost use Rattle.debounce_desk.specs.declared.fault.Fault.TheVariants.{NoMemory};
 
 use crate::fault::Fault;
 use crate::records::Counts;
 use crate::telling::word;
+use debounce_book::entry::Entry;
 use debounce_model::file_id::FileId;
 use notify_paths::error::Error;
 use notify_paths::path::PathBuf;
-use notify_types::event::{DebouncedEvent, Event, RecursiveMode};
+use notify_types::event::{DebouncedEvent, RecursiveMode};
 use notify_types::time::Moment;
 use numbered_core::numbered::NumberedCore;
 use std::alloc::Global;
 use std::marker::Model;
 
-/// A debouncer, with the file numbers that C said; its last batch, and the errors that were last asked for, of each of which so
-/// many were read.
+/// A debouncer, with the file numbers that C said; its last batch, and the errors that were last asked for, of each of
+/// which so many were read; and a journal, if one is kept.
 #[derive(Drop)]
 pub struct Desk {
-    core: NumberedCore,
+    pub(crate) core: NumberedCore,
     batch: Vec<DebouncedEvent>,
     read: usize,
     errors: Vec<Error>,
     errors_read: usize,
+    pub(crate) journal: Option<Vec<Entry>>,
 }
 
 impl Model for Desk {
+    ghost use Rattle.std.specs.Option.{option_map};
     ghost use Rattle.debounce_desk.specs.Desk.{DeskValue};
 
     ghost Value = { DeskValue };
@@ -45,6 +45,7 @@ impl Model for Desk {
       read = a.read;
       errors = a.errors.items;
       errors_read = a.errors_read;
+      journal = option_map (λ v. v.items) a.journal;
     } };
 }
 
@@ -60,6 +61,34 @@ impl Desk {
             read: 0,
             errors: Vec::new(alloc),
             errors_read: 0,
+            journal: None,
+        }
+    }
+
+    /// A journal begins, or none is kept any longer. What was kept before is dropped.
+    pub fn keep_journal(&mut self, alloc: Global, on: bool)
+        ensures { self.new ≡ record self.old { journal = begun on } }
+    {
+        self.journal = if on { Some(Vec::new(alloc)) } else { None };
+    }
+
+    /// How many entries the journal has.
+    pub fn entries(&self) -> usize
+        ensures { result ≡ length (entries_in self.now) }
+    {
+        match &self.journal {
+            Some(journal) => journal.len(),
+            None => 0,
+        }
+    }
+
+    /// The entry at this place of the journal.
+    pub fn entry(&self, place: usize) -> Option<&Entry>
+        ensures { option_copied result ≡ entry_at self.now place }
+    {
+        match &self.journal {
+            Some(journal) => journal.as_slice().get(place),
+            None => None,
         }
     }
 
@@ -68,60 +97,6 @@ impl Desk {
         ensures { result ≡ (self.now.core.state.taken == 2 ^ 64 - 1) }
     {
         self.core.taken() == u64::MAX
-    }
-
-    /// Takes an event.
-    pub fn take(&mut self, event: Event, now: Moment, exists: bool) -> Result<(), Fault>
-        requires { self.old.core.state.taken ≢ 2 ^ 64 - 1 }
-        ensures ok { OnOk result
-            (IsTaken said_numbers self.old.core event now exists self.new.core) }
-        ensures rest { OnOk result (self.new ≡ record self.old { core = self.new.core }) }
-        ensures err { IfErr result (λ f. (f ≡ NoMemory)
-            × (takes_no_memory true self.old.core.state event exists ≡ false)) }
-        ensures unchanged { IfErr result (λ f. self.new ≡ self.old) }
-    {
-        match self.core.add_event(event, now, exists) {
-            Ok(()) => Ok(()),
-            Err(_) => Err(Fault::NoMemory),
-        }
-    }
-
-    /// Keeps an error.
-    pub fn note(&mut self, error: Error) -> Result<(), Fault>
-        ensures ok { OnOk result (self.new ≡ record self.old {
-          core = with_state self.old.core (with_error self.old.core.state error);
-        }) }
-        ensures err { IfErr result (λ f. (f ≡ NoMemory) × (self.new ≡ self.old)) }
-    {
-        match self.core.add_error(error) {
-            Ok(()) => Ok(()),
-            Err(_) => Err(Fault::NoMemory),
-        }
-    }
-
-    /// Watches a path.
-    pub fn watch(&mut self, path: &PathBuf, mode: RecursiveMode) -> Result<(), Fault>
-        ensures ok { OnOk result
-            (IsRooted said_numbers self.old.core path.now mode self.new.core) }
-        ensures rest { OnOk result (self.new ≡ record self.old { core = self.new.core }) }
-        ensures err { IfErr result (λ f. (f ≡ NoMemory) × (self.new ≡ self.old)) }
-    {
-        match self.core.add_root(path, mode) {
-            Ok(()) => Ok(()),
-            Err(_) => Err(Fault::NoMemory),
-        }
-    }
-
-    /// Watches a path no longer.
-    pub fn unwatch(&mut self, path: &PathBuf) -> Result<(), Fault>
-        ensures ok { OnOk result (IsUnrooted said_numbers self.old.core path.now self.new.core) }
-        ensures rest { OnOk result (self.new ≡ record self.old { core = self.new.core }) }
-        ensures err { IfErr result (λ f. (f ≡ NoMemory) × (self.new ≡ self.old)) }
-    {
-        match self.core.remove_root(path) {
-            Ok(()) => Ok(()),
-            Err(_) => Err(Fault::NoMemory),
-        }
     }
 
     /// The path has this number from now on.
@@ -173,6 +148,7 @@ impl Desk {
             timeout: word(self.core.timeout()),
             errors: self.core.pending_errors().len(),
             numbers: self.core.numbers(),
+            entries: self.entries(),
         }
     }
 
@@ -187,11 +163,11 @@ impl Desk {
     pub fn tick(&mut self, now: Moment) -> Result<usize, Fault>
         ensures ok { IfOk result (λ count. IsTicked self.old now count self.new) }
         ensures err { IfErr result (λ f. (f ≡ NoMemory)
-            × ((is_due self.old.core.state now ≡ true) × (self.new ≡ self.old))) }
+            × ((tick_needs now self.old ≡ true) × (self.new ≡ self.old))) }
     {
-        match self.core.debounced_events(now) {
+        match self.emit(now) {
             Ok(batch) => Ok(self.begin(batch)),
-            Err(_) => Err(Fault::NoMemory),
+            Err(fault) => Err(fault),
         }
     }
 
@@ -239,10 +215,23 @@ impl Desk {
     }
 
     /// The errors that were kept are to be read from now on.
-    pub fn ask(&mut self) -> usize
-        ensures { IsAsked self.old result self.new }
+    pub fn ask(&mut self, alloc: Global) -> Result<usize, Fault>
+        ensures ok { IfOk result (λ count. IsAsked self.old count self.new) }
+        ensures err { IfErr result (λ f. (f ≡ NoMemory)
+            × ((errors_need self.old ≡ true) × (self.new ≡ self.old))) }
     {
-        self.errors = self.core.errors();
+        match self.hand_out(alloc) {
+            Ok(errors) => Ok(self.begin_errors(errors)),
+            Err(fault) => Err(fault),
+        }
+    }
+
+    /// These errors are to be read from now on.
+    fn begin_errors(&mut self, errors: Vec<Error>) -> usize
+        ensures left { self.new ≡ record self.old { errors = errors.items; errors_read = 0 } }
+        ensures count { result ≡ length errors.items }
+    {
+        self.errors = errors;
         self.errors_read = 0;
         self.errors.len()
     }

@@ -1,5 +1,5 @@
 //! The laws of all calls that a program makes of the library, in whatever order.
-ghost use Rattle.debounce_desk.specs.Calls.{CallsAreARun, CallsAreARunBetween, CallsEmitSoon, CallsFloodNowhere, CallsGiveRawPaths, CallsInventNoRename, CallsLoseNoChange};
+ghost use Rattle.debounce_desk.specs.Calls.{CallsAreARun, CallsAreARunBetween, CallsAreWrittenDown, CallsEmitSoon, CallsFloodNowhere, CallsGiveRawPaths, CallsInventNoRename, CallsLoseNoChange};
 
 /// Does nothing. By its contract calls that did what they say, made one after the other, are a run of the core, and
 /// the laws of runs hold of them if the first was the one that made the debouncer.
@@ -9,9 +9,12 @@ ghost use Rattle.debounce_desk.specs.Calls.{CallsAreARun, CallsAreARunBetween, C
 ///
 /// The commands of the run are what was fed, kept, watched, unwatched, asked for and ticked, its replies what C
 /// read. A call that was refused has changed nothing, and so is no part of it.
+///
+/// A journal, if one is kept, got the commands and the replies of the run, from where it was begun on.
 pub fn laws_of_calls()
     ensures run { CallsAreARun }
     ensures between { CallsAreARunBetween }
+    ensures written { CallsAreWrittenDown }
     ensures raw { CallsGiveRawPaths }
     ensures kept { CallsLoseNoChange }
     ensures founded { CallsInventNoRename }

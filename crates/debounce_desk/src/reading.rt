@@ -4,7 +4,7 @@ ghost use Rattle.std.specs.Option.{option_map};
 ghost use Rattle.std.specs.Str.{is_utf8};
 ghost use Rattle.notify_paths.specs.ErrorView.{kind_value};
 ghost use Rattle.notify_paths.specs.PathText.{parts_of};
-ghost use Rattle.debounce_desk.specs.Faults.{are_texts, event_needs, is_text_if};
+ghost use Rattle.debounce_desk.specs.Faults.{are_texts, has_texts, is_text_if};
 ghost use Rattle.debounce_desk.specs.Said.{error_kind_of, error_of, event_of, flag_if, mode_of, number_if, path_if, text_if};
 ghost use Rattle.debounce_desk.specs.declared.fault.Fault.TheVariants.{NoMemory};
 
@@ -207,7 +207,7 @@ pub fn event_of(
     ensures ok { IfOk result (λ event. event
         ≡ event_of change.now attributes.now first.now second.now info.now source.now) }
     ensures err { IfErr result (λ f. (f ≡ NoMemory)
-        × (event_needs change.now attributes.now ≡ true)) }
+        × (has_texts change.now attributes.now ≡ true)) }
 {
     let paths = match paths_of(alloc, change, first, second) {
         Ok(paths) => paths,

@@ -64,6 +64,29 @@ pub struct ToldError {
     pub first: usize,
 }
 
+/// An entry of a journal as C is told it, beside its path.
+#[repr(C)]
+#[derive(Clone, Copy)]
+pub struct ToldEntry {
+    /// The number of what was done.
+    pub step: u32,
+    /// Of an event: whether its first path existed, as it was fed.
+    pub exists: bool,
+    /// Of an event: whether the core found a number of its file; and which.
+    pub known: bool,
+    /// Of a path that was watched: whether with what is below it.
+    pub recursive: bool,
+    pub device: u64,
+    pub inode: u64,
+    /// Of an event and a tick: its moment, in nanoseconds.
+    pub moment: u64,
+    /// How many events it has, and how many errors.
+    pub events: usize,
+    pub errors: usize,
+    /// How many bytes its path has.
+    pub path: usize,
+}
+
 /// The number of a path's file, as C is told it.
 #[repr(C)]
 #[derive(Clone, Copy)]
@@ -87,7 +110,8 @@ pub struct Counts {
     /// The greatest moment so far, and the timeout, in nanoseconds.
     pub latest: u64,
     pub timeout: u64,
-    /// How many errors are kept, and how many paths have a file number.
+    /// How many errors are kept, how many paths have a file number, and how many entries the journal has.
     pub errors: usize,
     pub numbers: usize,
+    pub entries: usize,
 }

@@ -2,14 +2,14 @@
 ghost use Rattle.std.specs.Prelude.{◌≡◌, ◌≤◌, [], ◌∷◌, length, not, nat_lt, true, false, unwrap_or, string_bytes};
 ghost use Rattle.std.specs.Option.{option_map};
 ghost use Rattle.notify_paths.specs.ErrorView.{kind_value};
-ghost use Rattle.debounce_desk.specs.Tells.{Tells, TellsError, TellsNumber, error_texts, kind_text, text_at, texts_of, total, word, written};
+ghost use Rattle.debounce_desk.specs.Tells.{Tells, TellsError, TellsNumber, error_texts, kind_text, text_at, texts_of, timed, total, word, written};
 
 use crate::numbers::{error_number, number_of};
 use crate::records::{Number, Told, ToldError};
 use debounce_model::file_id::FileId;
 use notify_paths::error::{Error, ErrorKind};
 use notify_paths::path::PathBuf;
-use notify_types::event::DebouncedEvent;
+use notify_types::event::Event;
 use notify_types::time::Moment;
 
 /// A number of 64 bits: the number, or the greatest there is.
@@ -37,19 +37,21 @@ pub fn number_told(id: Option<FileId>) -> Number
     }
 }
 
-/// Tells an event, and writes its texts to the start of the buffer, if they fit.
-pub fn tell(event: &DebouncedEvent, told: &mut Told, buf: &mut [u8]) -> bool
-    ensures told { Tells event.now told.new }
-    ensures fits { result ≡ not (nat_lt (length buf.old) (total (texts_of event.now))) }
-    ensures written { result ≡ true → buf.new ≡ written (texts_of event.now) buf.old }
+/// Tells an event of this moment, and writes its texts to the start of the buffer, if they fit.
+pub fn tell(event: &Event, time: Moment, told: &mut Told, buf: &mut [u8]) -> bool
+    ensures told { Tells (timed event.now time) told.new }
+    ensures fits { result
+        ≡ not (nat_lt (length buf.old) (total (texts_of (timed event.now time)))) }
+    ensures written { result ≡ true
+        → buf.new ≡ written (texts_of (timed event.now time)) buf.old }
     ensures short { result ≡ false → buf.new ≡ buf.old }
 {
-    let paths = event.event.paths.as_slice();
+    let paths = event.paths.as_slice();
     let first = text_at(paths, 0);
     let second = text_at(paths, 1);
-    let info = or_nothing(&event.event.attrs.info);
-    let source = or_nothing(&event.event.attrs.source);
-    *told = told_of(event, first, second, info, source);
+    let info = or_nothing(&event.attrs.info);
+    let source = or_nothing(&event.attrs.source);
+    *told = told_of(event, time, first, second, info, source);
     put(
         first.as_bytes(),
         second.as_bytes(),
@@ -60,16 +62,16 @@ pub fn tell(event: &DebouncedEvent, told: &mut Told, buf: &mut [u8]) -> bool
 }
 
 /// What is told of an event with these texts.
-fn told_of(event: &DebouncedEvent, first: &str, second: &str, info: &str, source: &str) -> Told
-    requires first { first.now ≡ text_at event.now.event.paths 0 }
-    requires second { second.now ≡ text_at event.now.event.paths 1 }
-    requires info { info.now ≡ unwrap_or event.now.event.attrs.info [] }
-    requires source { source.now ≡ unwrap_or event.now.event.attrs.source [] }
-    ensures { Tells event.now result }
+fn told_of(event: &Event, time: Moment, first: &str, second: &str, info: &str, source: &str) -> Told
+    requires first { first.now ≡ text_at event.now.paths 0 }
+    requires second { second.now ≡ text_at event.now.paths 1 }
+    requires info { info.now ≡ unwrap_or event.now.attrs.info [] }
+    requires source { source.now ≡ unwrap_or event.now.attrs.source [] }
+    ensures { Tells (timed event.now time) result }
 {
-    let attrs = &event.event.attrs;
+    let attrs = &event.attrs;
     Told {
-        kind: number_of(event.event.kind),
+        kind: number_of(event.kind),
         process: attrs.process_id.unwrap_or(0),
         rescan: attrs.flag.is_some(),
         tracked: attrs.tracker.is_some(),
@@ -77,8 +79,8 @@ fn told_of(event: &DebouncedEvent, first: &str, second: &str, info: &str, source
         has_source: attrs.source.is_some(),
         has_process: attrs.process_id.is_some(),
         tracker: attrs.tracker.unwrap_or(0),
-        time: word(event.time),
-        paths: event.event.paths.len(),
+        time: word(time),
+        paths: event.paths.len(),
         first: first.len(),
         second: second.len(),
         info: info.len(),
@@ -132,6 +134,19 @@ fn kind_text(kind: &ErrorKind) -> &str
         ErrorKind::Generic(text) => text.as_str(),
         _ => "",
     }
+}
+
+/// Writes a text to the start of the buffer, if it fits.
+pub(crate) fn put_one(text: &[u8], buf: &mut [u8]) -> bool
+    ensures fits { result ≡ not (nat_lt (length buf.old) (total (text.now ∷ []))) }
+    ensures written { result ≡ true → buf.new ≡ written (text.now ∷ []) buf.old }
+    ensures short { result ≡ false → buf.new ≡ buf.old }
+{
+    if buf.len() < text.len() {
+        return false;
+    }
+    write_one(text, buf);
+    true
 }
 
 /// Writes four texts to the start of the buffer, if they fit.

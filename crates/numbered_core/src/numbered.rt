@@ -169,6 +169,13 @@ impl NumberedCore {
         self.core.visited()
     }
 
+    /// Returns the answer that the cache gave to the last event that was taken.
+    pub fn answer(&self) -> Option<FileId>
+        ensures { result ≡ self.now.answer }
+    {
+        self.core.answer()
+    }
+
     /// Returns the greatest moment at which an event or a tick was accepted.
     pub fn latest(&self) -> Moment
         ensures { result ≡ self.now.state.latest }
@@ -192,6 +199,22 @@ impl NumberedCore {
         ensures sure { is_due self.old.state now ≡ false → IsOk result }
     {
         self.core.debounced_events(now)
+    }
+
+    /// Emits what is expired, and returns a copy of the batch beside it, as
+    /// [`DebounceDataInner::debounced_events_and_copy`] does.
+    pub fn debounced_events_and_copy(
+        &mut self,
+        now: Moment,
+    ) -> Result<(Vec<DebouncedEvent>, Vec<DebouncedEvent>), Error>
+        ensures batch { IfOk result (λ r. IsBatch self.old.state now r.0.items) }
+        ensures only { IfOk result (λ r. IsOnlyBatch self.old.state now r.0.items) }
+        ensures copy { IfOk result (λ r. r.1.items ≡ r.0.items) }
+        ensures ok { IfOk result (λ r. self.new ≡ after_tick self.old now r.0.items) }
+        ensures err { IfErr result (λ e. (e ≡ out_of_memory) × (self.new ≡ self.old)) }
+        ensures sure { is_due self.old.state now ≡ false → IsOk result }
+    {
+        self.core.debounced_events_and_copy(now)
     }
 
     /// Returns the batch that would be emitted if every event that waits were expired.

@@ -1,5 +1,5 @@
 //! The sizes of the records, and where their fields lie, as c/test/layout.c prints them.
-use ndf::raw::{Attributes, Change, Counts, Handle, Number, Told, ToldError};
+use ndf::raw::{Attributes, Change, Counts, Handle, Number, Told, ToldEntry, ToldError};
 use std::mem::{offset_of, size_of, size_of_val};
 
 macro_rules! layout {
@@ -22,6 +22,7 @@ fn main() {
     layout!(Attributes, Attributes::default(), has_info has_source has_process process);
     layout!(Told, Told::default(), kind process rescan tracked has_info has_source has_process tracker time paths first second info source);
     layout!(ToldError, ToldError::default(), kind paths text first);
+    layout!(ToldEntry, ToldEntry::default(), step exists known recursive device inode moment events errors path);
     layout!(Number, Number::default(), known device inode);
-    layout!(Counts, Counts::default(), taken given waiting visited latest timeout errors numbers);
+    layout!(Counts, Counts::default(), taken given waiting visited latest timeout errors numbers entries);
 }

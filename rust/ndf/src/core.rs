@@ -1,6 +1,6 @@
 //! The core: the handle stays in one struct, and each call has it alone.
 use crate::event::{Error, ErrorKind, Event, EventAttributes, EventKind, Flag, RecursiveMode, Result};
-use crate::raw::{self, Change, Counts, Handle, Number, Told, ToldError};
+use crate::raw::{self, Change, Counts, Handle, Number, Told, ToldEntry, ToldError};
 use std::path::{Path, PathBuf};
 
 /// A debouncer without clock and threads. It stays on the thread that made it: it is neither `Send` nor `Sync`, as
@@ -15,6 +15,24 @@ pub struct Core {
 pub struct Emitted {
     pub event: Event,
     pub time: u64,
+}
+
+/// An entry of a journal: what was done, and what the core answered.
+#[derive(Debug)]
+pub enum Entry {
+    /// An event was taken. The moment is the one that was given; the number is the device and the inode of its file, if
+    /// the core looked for one and found it.
+    Taken { event: Event, moment: u64, exists: bool, number: Option<(u64, u64)> },
+    /// An error was kept.
+    Noted(Error),
+    /// A path was watched in this mode.
+    Watched(PathBuf, RecursiveMode),
+    /// A path was watched no longer.
+    Unwatched(PathBuf),
+    /// These errors were handed out.
+    Errors(Vec<Error>),
+    /// A tick at this moment emitted this batch.
+    Ticked(u64, Vec<Emitted>),
 }
 
 fn done(code: u32) -> Result<()> {
@@ -161,14 +179,56 @@ impl Core {
         let mut count = 0;
         done(unsafe { raw::ndf_errors(&mut self.handle, &mut count) })?;
         let mut errors = Vec::with_capacity(count);
-        let mut told = ToldError::default();
+        while let Some(error) = self.error(|h, told, buf, room| unsafe { raw::ndf_next_error(h, told, buf, room) }) {
+            errors.push(error);
+        }
+        Ok(errors)
+    }
+
+    /// A journal begins, or none is kept any longer. What was kept before is dropped.
+    pub fn keep_journal(&mut self, on: bool) -> Result<()> {
+        done(unsafe { raw::ndf_journal(&mut self.handle, on) })
+    }
+
+    /// Returns the entries of the journal, which it keeps: each call that did what it says since it began, in order,
+    /// but for those that say a file number or only read. Without a journal there is none.
+    pub fn journal(&mut self) -> Result<Vec<Entry>> {
+        let many = self.counts()?.entries;
+        Ok((0..many).map_while(|place| self.entry(place)).collect())
+    }
+
+    fn entry(&mut self, place: usize) -> Option<Entry> {
+        let mut told = ToldEntry::default();
         loop {
             let room = &mut self.room;
-            match unsafe { raw::ndf_next_error(&mut self.handle, &mut told, room.as_mut_ptr(), room.len()) } {
-                raw::DONE => errors.push(self.error_of(&told)),
-                raw::TOO_SHORT => self.room.resize(told.text + told.first, 0),
-                _ => return Ok(errors),
+            match unsafe { raw::ndf_entry(&mut self.handle, place, &mut told, room.as_mut_ptr(), room.len()) } {
+                raw::DONE => break,
+                raw::TOO_SHORT => self.room.resize(told.path, 0),
+                _ => return None,
             }
+        }
+        let path = PathBuf::from(String::from_utf8_lossy(&self.room[..told.path]).into_owned());
+        let mode = if told.recursive { RecursiveMode::Recursive } else { RecursiveMode::NonRecursive };
+        let mut events = (0..told.events).map_while(|within| {
+            self.event(|h, told, buf, room| unsafe { raw::ndf_entry_event(h, place, within, told, buf, room) })
+        });
+        match told.step {
+            raw::STEP_EVENT => {
+                let number = told.known.then_some((told.device, told.inode));
+                let event = events.next()?.event;
+                return Some(Entry::Taken { event, moment: told.moment, exists: told.exists, number });
+            }
+            raw::STEP_WATCH => return Some(Entry::Watched(path, mode)),
+            raw::STEP_UNWATCH => return Some(Entry::Unwatched(path)),
+            raw::STEP_TICK => return Some(Entry::Ticked(told.moment, events.collect())),
+            _ => {}
+        }
+        let mut errors = (0..told.errors).map_while(|within| {
+            self.error(|h, told, buf, room| unsafe { raw::ndf_entry_error(h, place, within, told, buf, room) })
+        });
+        match told.step {
+            raw::STEP_ERROR => Some(Entry::Noted(errors.next()?)),
+            _ => Some(Entry::Errors(errors.collect())),
         }
     }
 
@@ -182,13 +242,32 @@ impl Core {
     /// Reads the batch to its end, so that none is left for the next tick to find unread.
     fn read(&mut self, count: usize) -> Vec<Emitted> {
         let mut batch = Vec::with_capacity(count);
+        while let Some(event) = self.event(|h, told, buf, room| unsafe { raw::ndf_next(h, told, buf, room) }) {
+            batch.push(event);
+        }
+        batch
+    }
+
+    /// The event that the call tells, if there is one; a buffer that is too short grows.
+    fn event(&mut self, call: impl Fn(&mut Handle, &mut Told, *mut u8, usize) -> u32) -> Option<Emitted> {
         let mut told = Told::default();
         loop {
-            let room = &mut self.room;
-            match unsafe { raw::ndf_next(&mut self.handle, &mut told, room.as_mut_ptr(), room.len()) } {
-                raw::DONE => batch.push(self.event_of(&told)),
+            match call(&mut self.handle, &mut told, self.room.as_mut_ptr(), self.room.len()) {
+                raw::DONE => return Some(self.event_of(&told)),
                 raw::TOO_SHORT => self.room.resize(told.first + told.second + told.info + told.source, 0),
-                _ => return batch,
+                _ => return None,
+            }
+        }
+    }
+
+    /// The error that the call tells, as `event` does.
+    fn error(&mut self, call: impl Fn(&mut Handle, &mut ToldError, *mut u8, usize) -> u32) -> Option<Error> {
+        let mut told = ToldError::default();
+        loop {
+            match call(&mut self.handle, &mut told, self.room.as_mut_ptr(), self.room.len()) {
+                raw::DONE => return Some(self.error_of(&told)),
+                raw::TOO_SHORT => self.room.resize(told.text + told.first, 0),
+                _ => return None,
             }
         }
     }

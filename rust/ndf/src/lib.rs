@@ -152,7 +152,7 @@ mod inotify;
 pub mod raw;
 mod watcher;
 
-pub use crate::core::{Core, Emitted};
+pub use crate::core::{Core, Emitted, Entry};
 pub use crate::debouncer::{
     new_debouncer, new_debouncer_opt, DebounceEventHandler, DebounceEventResult, DebouncedEvent, Debouncer,
 };

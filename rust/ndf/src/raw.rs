@@ -57,6 +57,21 @@ pub struct ToldError {
 }
 
 #[repr(C)]
+#[derive(Clone, Copy, Default)]
+pub struct ToldEntry {
+    pub step: u32,
+    pub exists: bool,
+    pub known: bool,
+    pub recursive: bool,
+    pub device: u64,
+    pub inode: u64,
+    pub moment: u64,
+    pub events: usize,
+    pub errors: usize,
+    pub path: usize,
+}
+
+#[repr(C)]
 #[derive(Clone, Copy, Default, Debug, PartialEq, Eq)]
 pub struct Number {
     pub known: bool,
@@ -75,6 +90,7 @@ pub struct Counts {
     pub timeout: u64,
     pub errors: usize,
     pub numbers: usize,
+    pub entries: usize,
 }
 
 pub const DONE: u32 = 0;
@@ -83,6 +99,12 @@ pub const FULL: u32 = 3;
 pub const NOT_TEXT: u32 = 4;
 pub const AT_END: u32 = 7;
 pub const TOO_SHORT: u32 = 8;
+
+pub const STEP_EVENT: u32 = 0;
+pub const STEP_ERROR: u32 = 1;
+pub const STEP_WATCH: u32 = 2;
+pub const STEP_UNWATCH: u32 = 3;
+pub const STEP_TICK: u32 = 5;
 
 extern "C" {
     pub fn ndf_new(h: *mut Handle, timeout: u64) -> u32;
@@ -120,5 +142,23 @@ extern "C" {
     pub fn ndf_next(h: *mut Handle, told: *mut Told, buf: *mut u8, room: usize) -> u32;
     pub fn ndf_errors(h: *mut Handle, count: *mut usize) -> u32;
     pub fn ndf_next_error(h: *mut Handle, told: *mut ToldError, buf: *mut u8, room: usize) -> u32;
+    pub fn ndf_journal(h: *mut Handle, on: bool) -> u32;
+    pub fn ndf_entry(h: *mut Handle, place: usize, told: *mut ToldEntry, buf: *mut u8, room: usize) -> u32;
+    pub fn ndf_entry_event(
+        h: *mut Handle,
+        place: usize,
+        within: usize,
+        told: *mut Told,
+        buf: *mut u8,
+        room: usize,
+    ) -> u32;
+    pub fn ndf_entry_error(
+        h: *mut Handle,
+        place: usize,
+        within: usize,
+        told: *mut ToldError,
+        buf: *mut u8,
+        room: usize,
+    ) -> u32;
     pub fn ndf_counts(h: *mut Handle, counts: *mut Counts) -> u32;
 }

@@ -1,6 +1,7 @@
 //! What is fed to a core comes out, and what it refuses is an error.
 use ndf::{
-    Core, CreateKind, DataChange, Error, ErrorKind, Event, EventKind, Flag, ModifyKind, RecursiveMode, RenameMode,
+    Core, CreateKind, DataChange, Entry, Error, ErrorKind, Event, EventKind, Flag, ModifyKind, RecursiveMode,
+    RenameMode,
 };
 use std::path::Path;
 
@@ -64,6 +65,34 @@ fn roots_have_modes_and_errors_wait() {
     assert_eq!(errors.len(), 1);
     assert_eq!(errors[0].to_string(), "text /w");
     assert!(core.errors().unwrap().is_empty());
+}
+
+#[test]
+fn a_journal_has_what_was_done() {
+    let mut core = Core::new(50).unwrap();
+    core.watch(Path::new("/v"), RecursiveMode::Recursive).unwrap();
+    core.keep_journal(true).unwrap();
+    core.watch(Path::new("/w"), RecursiveMode::Recursive).unwrap();
+    core.set_number(Path::new("/w/a"), 1, 7).unwrap();
+    let mut event = Event::new(EventKind::Modify(ModifyKind::Name(RenameMode::From))).add_path("/w/a");
+    event.attrs.info = Some("i".repeat(2000));
+    core.add_event(&event, 10, false).unwrap();
+    core.add_error(&Error::generic("text").add_path("/w")).unwrap();
+    let batch = core.tick(60).unwrap();
+    assert_eq!(batch.len(), 1);
+    core.errors().unwrap();
+    core.unwatch(Path::new("/w")).unwrap();
+    let journal = core.journal().unwrap();
+    assert_eq!(journal.len(), 6);
+    assert!(matches!(&journal[0], Entry::Watched(path, RecursiveMode::Recursive) if path == Path::new("/w")));
+    assert!(matches!(&journal[1], Entry::Taken { event: taken, moment: 10, exists: false, number: Some((1, 7)) }
+        if *taken == event));
+    assert!(matches!(&journal[2], Entry::Noted(error) if error.to_string() == "text /w"));
+    assert!(matches!(&journal[3], Entry::Ticked(60, emitted) if *emitted == batch));
+    assert!(matches!(&journal[4], Entry::Errors(errors) if errors.len() == 1));
+    assert!(matches!(&journal[5], Entry::Unwatched(path) if path == Path::new("/w")));
+    core.keep_journal(false).unwrap();
+    assert!(core.journal().unwrap().is_empty());
 }
 
 #[cfg(unix)]

@@ -7,6 +7,7 @@ use Rattle.debounce_laws.proofs.ReaderLaw.{state_gives_raw_paths}
 use Rattle.debounce_laws.proofs.SoonLemmas.{state_emits_soon}
 use Rattle.debounce_desk.specs.Calls.{commands_of}
 use Rattle.debounce_desk.proofs.CallLemmas.{runs, runs_between, state_runs, well_formed-opened}
+use Rattle.debounce_desk.proofs.JournalLemmas.{entries_lead, journal_got}
 use Rattle.debounce_desk.proofs.laws.laws_of_calls.Goals as goal
 
 pub returns-clause-run : goal.returns-clause-run
@@ -14,6 +15,12 @@ returns-clause-run c = runs
 
 pub returns-clause-between : goal.returns-clause-between
 returns-clause-between c = runs_between
+
+pub returns-clause-written : goal.returns-clause-written
+returns-clause-written c = λ calls replies s t same made. record {
+  journal = journal_got calls replies s t same made;
+  leads = entries_lead calls replies s t made;
+}
 
 pub returns-clause-raw : goal.returns-clause-raw
 returns-clause-raw c = λ timeout calls replies s t opened made.

@@ -3,7 +3,7 @@ use Rattle.debounce_desk.proofs.desk.Desk.tick.Goals as goal
 
 pub returns-in-Ok-clause-ok : goal.returns-in-Ok-clause-ok
 returns-in-Ok-clause-ok c =
-    rw (← c.self.view_is, c.begin.ensures.left, c.begin.ensures.count)
+    rw (c.begin.ensures.left, c.begin.ensures.count)
     (record {
       batch = c.in-Ok.ensures.batch;
       only = c.in-Ok.ensures.only;
