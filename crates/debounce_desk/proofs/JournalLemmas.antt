@@ -18,7 +18,8 @@ append_nothing [] = refl
 append_nothing (e ∷ es) = ap (λ fs. e ∷ fs) (append_nothing es)
 
 -- one entry and then others, put behind a list
-append_entry : (es : List EntryValue) (e : EntryValue) (more : List EntryValue) → (es ++ e ∷ []) ++ more ≡ es ++ e ∷ more
+append_entry : (es : List EntryValue) (e : EntryValue) (more : List EntryValue) →
+    (es ++ e ∷ []) ++ more ≡ es ++ e ∷ more
 append_entry [] e more = refl
 append_entry (x ∷ es) e more = ap (λ fs. x ∷ fs) (append_entry es e more)
 
@@ -65,8 +66,8 @@ journal_got (Asks ∷ calls) replies s t same (m, rest, split, made, more) =
     rw (split, ap (λ (d : DeskValue). d.errors) made.1.rest)
     (one_more _ m.journal _ _ _ (ap (λ (d : DeskValue). d.journal) made.1.rest) (journal_got calls rest m t same more))
 journal_got (Ticks now ∷ calls) replies s t same (m, rest, split, made, more) =
-    rw split (one_more _ m.journal _ _ _ (ap (λ (d : DeskValue). d.journal) made.1.rest) (journal_got calls rest m t same
-    more))
+    rw split (one_more _ m.journal _ _ _ (ap (λ (d : DeskValue). d.journal) made.1.rest)
+    (journal_got calls rest m t same more))
 journal_got (Says path id ∷ calls) replies s t same (m, rest, split, made, more) =
     rw split (none_more _ m.journal _ _ (ap (λ (d : DeskValue). d.journal) made) (journal_got calls rest m t same more))
 journal_got (Forgets path ∷ calls) replies s t same (m, rest, split, made, more) =

@@ -166,8 +166,8 @@ entries_of commands replies = []
 abbrev pub with_entries : Option (List EntryValue) → List EntryValue → Option (List EntryValue)
 with_entries journal more = option_map (λ es. es ++ more) journal
 
--- from s to t the journal, if one is kept, got the entries of these commands, in order, and of no others; and these lead
--- from the state of s to that of t
+-- from s to t the journal, if one is kept, got the entries of these commands, in order, and of no others; and these
+-- lead from the state of s to that of t
 pub record IsWrittenDown (commands : List CommandValue) (replies : List ReplyValue) (s t : DeskValue) : Type 0 where
   pub journal : t.journal ≡ with_entries s.journal (entries_of commands replies)
   pub leads : Replays s.core.state (entries_of commands replies) t.core.state
