@@ -70,7 +70,7 @@ int main() {
     second.watch(longer, true);
     second.feed(ndf_change{NDF_CREATE_FILE, 1, false, false, true, 0, 90}, longer);
     second.add_error(NDF_ERROR_GENERIC, "text", "/w");
-    check(second.tick(300) == 2 && second.next() && second.next() && second.errors().size() == 1, "a batch of two");
+    check(second.tick(300) == 1 && second.next() && second.errors().size() == 1, "a batch and an error");
     auto journal = second.journal();
     check(journal.size() == 5 && journal[0].told.step == NDF_STEP_WATCH && journal[0].told.recursive &&
               journal[0].path == longer,
@@ -78,7 +78,7 @@ int main() {
     check(journal[1].told.exists && journal[1].events.at(0).time == 90 && journal[1].events[0].paths[0] == longer,
           "the entry of an event");
     check(journal[2].errors.at(0).path == "/w" && journal[4].errors.at(0).text == "text", "the entries of errors");
-    check(journal[3].told.moment == 300 && journal[3].events.at(1).paths[0] == longer, "the entry of a tick");
+    check(journal[3].told.moment == 300 && journal[3].events.at(0).paths[0] == longer, "the entry of a tick");
     second.keep_journal(false);
     check(second.journal().empty(), "a journal that isn't kept");
     second = ndf::debouncer(std::chrono::nanoseconds(0));
