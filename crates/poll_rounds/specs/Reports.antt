@@ -1,18 +1,23 @@
 -- Steps that report all that they change of the last listing.
-use Rattle.std.specs.Prelude.{◌≡◌, List, [], ◌∷◌, ◌++◌, Result, Ok, Err, ◌⊎◌}
+use Rattle.std.specs.Prelude.{◌≡◌, ℕ, List, [], ◌∷◌, ◌++◌, Option, None, Result, Ok, Err, ◌⊎◌}
 use Rattle.notify_paths.specs.Errors.{ErrorValue}
 use Rattle.notify_types.specs.Event.{EventValue}
-use Rattle.folder_listing.specs.Changes.{changes}
 use Rattle.folder_listing.specs.Listing.{ListingValue, IsListing}
+use Rattle.folder_listing.specs.Moves.{told_changes}
 use Rattle.poll_rounds.specs.Rounds.{HandsEach}
 
--- a step hands on just what it changes of the last listing; or, refused, it changes nothing, and hands on nothing or
--- one error
+-- a step hands on just what it changes of the last listing, and of moves the trackers from this one on, if there is
+-- one; or, refused, it changes nothing, and hands on nothing or one error
+abbrev pub Tells : {H : Type 0} → (H → Result EventValue ErrorValue → H → Type 0) → Option ℕ → ListingValue →
+    ListingValue → H → H → Type 0
+Tells handles trackers old new before after =
+    HandsEach handles (told_changes trackers old new) before after
+    ⊎ ((new ≡ old) × ((after ≡ before) ⊎ ((e : ErrorValue) × handles before (Err e) after)))
+
+-- a step tells what it changes, and no moves
 abbrev pub Reports : {H : Type 0} → (H → Result EventValue ErrorValue → H → Type 0) → ListingValue →
     ListingValue → H → H → Type 0
-Reports handles old new before after =
-    HandsEach handles (changes old new) before after
-    ⊎ ((new ≡ old) × ((after ≡ before) ⊎ ((e : ErrorValue) × handles before (Err e) after)))
+Reports handles old new before after = Tells handles None old new before after
 
 -- steps one after the other: what each leaves as the last listing, and of the handler
 abbrev pub ReportAll : {H : Type 0} → (H → Result EventValue ErrorValue → H → Type 0) → ListingValue → H →
