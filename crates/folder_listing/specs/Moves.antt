@@ -1,8 +1,8 @@
 -- What moved between two listings, and the trackers by which the events tell of it: the removal of the old path and
 -- what is told of the new one have one tracker.
-use Rattle.std.specs.Prelude.{◌≡◌, ℕ, suc, ◌+◌, ◌*◌, ◌^◌, ◌<◌, Bool, true, false, ◌&&◌, ◌==◌, List, [], ◌∷◌, ◌++◌, length, map, filter, Option, None, Some, is_some, option_and_then, if◌then◌else◌}
+use Rattle.std.specs.Prelude.{◌≡◌, ℕ, suc, ◌+◌, ◌*◌, ◌^◌, Bool, true, false, ◌&&◌, ◌==◌, List, [], ◌∷◌, ◌++◌, length, map, filter, Option, None, Some, is_some, option_and_then, nat_lt, if◌then◌else◌}
 use Rattle.std.specs.BTreeMap.{is_at}
-use Rattle.std.specs.Option.{option_map, option_or}
+use Rattle.std.specs.Option.{option_or}
 use Rattle.notify_paths.specs.Path.{PathValue, path_cmp, is_below}
 use Rattle.notify_paths.specs.PathMoves.{relocated}
 use Rattle.notify_types.specs.Event.{EventValue}
@@ -20,7 +20,7 @@ number_of (Known device file) = Some (device * 2 ^ 64 + file)
 -- the number is known, and is this one
 abbrev pub is_number : ℕ → Option ℕ → Bool
 is_number number None = false
-is_number number (Some own) = own == number
+is_number number (Some own) = number == own
 
 -- the entries that have this number
 abbrev pub having : ListingValue → ℕ → ListingValue
@@ -71,9 +71,14 @@ abbrev pub place_of : ListingValue → PathValue → ℕ
 place_of [] path = 0
 place_of (entry ∷ entries) path = if is_at (path_cmp path) entry.0 then 0 else suc (place_of entries path)
 
--- the tracker of a move from the path: how many events were told before its removal
-abbrev pub tracker_of : ℕ → ListingValue → PathValue → ℕ
-tracker_of first gone from = first + place_of gone from
+-- the first tracker that is free after so many events, if trackers are given and one is left
+abbrev pub trackers_after : Option ℕ → ℕ → Option ℕ
+trackers_after None events = None
+trackers_after (Some first) events = if nat_lt (first + events) (2 ^ 64) then Some (first + events) else None
+
+-- the tracker of a move from the path, if one is left: how many events were told before its removal
+abbrev pub tracker_of : ℕ → ListingValue → PathValue → Option ℕ
+tracker_of first gone from = trackers_after (Some first) (place_of gone from)
 
 -- the event, with the tracker if there is one
 abbrev pub with_tracker : Option ℕ → EventValue → EventValue
@@ -82,9 +87,9 @@ with_tracker (Some tracker) event = record event { attrs = record event.attrs { 
 
 -- the event, with the tracker of the move from the path, if there is one
 abbrev pub tracked : ℕ → ListingValue → Option PathValue → EventValue → EventValue
-tracked first gone from event = with_tracker (option_map (tracker_of first gone) from) event
+tracked first gone from event = with_tracker (option_and_then (tracker_of first gone) from) event
 
--- the changes, with the trackers of the moves, if this many events were told before
+-- the changes, with the trackers of the moves, if so many events were told before
 abbrev pub tracked_changes : ℕ → ListingValue → ListingValue → List EventValue
 tracked_changes first old new =
     map (λ e. tracked first (removed old new) (own_move old new e.1) (removal e)) (removed old new)
@@ -92,14 +97,7 @@ tracked_changes first old new =
     ++ map (λ e. tracked first (removed old new) (option_and_then (own_move old new) (entry_at new e.0)) (rewrite e))
     (rewritten old new))
 
--- the first tracker that is free after so many events, if trackers are given and one is left
-abbrev pub trackers_after : Option ℕ → ℕ → Option ℕ
-trackers_after None events = None
-trackers_after (Some first) events = if first + events < 2 ^ 64 then Some (first + events) else None
-
--- what is told: the changes, with trackers if they are given and are enough for all events
+-- what is told: the changes, with trackers if they are given
 abbrev pub told_changes : Option ℕ → ListingValue → ListingValue → List EventValue
 told_changes None old new = changes old new
-told_changes (Some first) old new =
-    if is_some (trackers_after (Some first) (length (changes old new))) then tracked_changes first old new
-    else changes old new
+told_changes (Some first) old new = tracked_changes first old new

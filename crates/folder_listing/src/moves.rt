@@ -15,8 +15,8 @@ use std::alloc::Allocator;
 
 /// Returns what the updates change of the listing, as [`compare_updates`] does. If a tracker is given, the
 /// removal of what moved and the event of its new path have one tracker, and so has the creation of what came
-/// along with a folder; this is the first that may be given. Without it, or if too few trackers are left for
-/// all events, none has one.
+/// along with a folder: it, and how many events stand before the removal. Without it no event has one, nor has
+/// any that would be more than 64 bits.
 pub fn compare_moves<A: Allocator + Copy>(
     alloc: A,
     old: &Listing<A>,
