@@ -5,3 +5,4 @@ pub mod Parents
 pub mod Near
 pub mod MergedListings
 pub mod Updates
+pub mod Moves

@@ -13,6 +13,7 @@
 pub mod compare;
 pub mod entry;
 pub mod listing;
+pub mod moves;
 pub mod near;
 mod pairs;
 pub mod updates;

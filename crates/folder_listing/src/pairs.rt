@@ -24,7 +24,7 @@ pub(crate) enum Change {
     Created(EntryKind),
     /// There is another kind of thing now.
     Replaced(EntryKind, EntryKind),
-    /// Its length or its modified time is another now.
+    /// Its length, its modified time or its number is another now.
     Rewritten,
     /// Nothing, or nothing that is told by itself.
     Same,
