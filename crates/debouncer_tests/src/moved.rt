@@ -1,12 +1,17 @@
 //! Rounds that tell moves.
 use crate::build::{check_text, path};
+use crate::folders::{entry, new_top};
 use crate::trees::{Notes, number, tree};
 use fake_folders::closed::ClosedFolders;
 use fake_folders::numbered::NumberedFolders;
 use fake_folders::tree::TreeFolders;
-use notify_debouncer_full::{FileNumber, PathBuf, Polled, RecursiveMode};
+use notify_debouncer_full::{FileNumber, PathBuf, Polled, RealFolders, RecursiveMode};
 use std::alloc::Global;
+use std::env::Env;
+use std::fs::Files;
 use std::process::Abort;
+use std::time::Clock;
+use std::{fs, process};
 
 type Numbered = ClosedFolders<Global, NumberedFolders<Global, TreeFolders<Global>>>;
 
@@ -126,4 +131,59 @@ fn rounds_tell_moves(rt: HostRuntime) {
     for story in MOVES {
         check_story(&rt, story);
     }
+}
+
+/// Makes a folder with a file, and with a folder that has one.
+fn make_files(rt: &(impl Abort + AllocGlobal + Files), top: &str) {
+    fs::create_dir(rt, top).expect(rt, "the top");
+    fs::write(rt, entry(rt, top, "/a").as_str(), "x").expect(rt, "a file");
+    fs::create_dir(rt, entry(rt, top, "/d").as_str()).expect(rt, "a folder");
+    fs::write(rt, entry(rt, top, "/d/f").as_str(), "x").expect(rt, "a file");
+}
+
+/// Renames an entry of the folder.
+fn mv(rt: &(impl Abort + AllocGlobal + Files), top: &str, from: &str, to: &str) {
+    let to = entry(rt, top, to);
+    fs::rename(rt, entry(rt, top, from).as_str(), to.as_str()).expect(rt, from);
+}
+
+/// Watches the folder, renames its file and its folder, and makes a round.
+fn move_files<R: Files + Clock + Abort + AllocGlobal + Copy + Drop>(
+    rt: R,
+    top: &str,
+    notes: &mut Notes,
+) {
+    let mut folders = RealFolders::new(rt, rt.alloc());
+    folders.tell_numbers();
+    let mut polled = Polled::new(rt.alloc());
+    let root = path(&rt, rt.alloc(), top);
+    polled
+        .watch(&mut folders, &root, RecursiveMode::Recursive)
+        .expect(&rt, top);
+    mv(&rt, top, "/a", "/b");
+    mv(&rt, top, "/d", "/n");
+    polled.kept_round(&mut folders, &mut Some(0), notes);
+    drop(polled);
+}
+
+/// Checks what that round tells.
+fn check_moved(rt: &(impl Abort + AllocGlobal), notes: &mut Notes, top: &str) {
+    let wanted = format!(in rt.alloc(); "Remove(File) {top}/a #0, Remove(Folder) {top}/d #1, \
+        Create(File) {top}/b #0, Create(Folder) {top}/n #1, Create(File) {top}/n/f #1");
+    check_text(rt, notes.take().as_str(), wanted.expect(rt, "memory").as_str(), top);
+}
+
+/// Renames in a folder of this number's.
+fn check_renames<R: Files + Clock + Abort + AllocGlobal + Env + Copy + Drop>(rt: R, id: u32) {
+    let top = new_top(&rt, id, "moves");
+    make_files(&rt, top.as_str());
+    let mut notes = Notes::new(&rt);
+    move_files(rt, top.as_str(), &mut notes);
+    fs::remove_dir_all(&rt, top.as_str()).expect(&rt, "it is there");
+    check_moved(&rt, &mut notes, top.as_str());
+}
+
+#[test]
+fn real_files_and_folders_move(rt: HostRuntime) {
+    check_renames(rt, process::id(rt.process()));
 }
