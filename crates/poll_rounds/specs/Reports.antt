@@ -19,12 +19,13 @@ abbrev pub Reports : {H : Type 0} → (H → Result EventValue ErrorValue → H 
     ListingValue → H → H → Type 0
 Reports handles old new before after = Tells handles None old new before after
 
--- steps one after the other: what each leaves as the last listing, and of the handler
+-- steps one after the other, which may tell moves: what each leaves as the last listing, and of the handler
 abbrev pub ReportAll : {H : Type 0} → (H → Result EventValue ErrorValue → H → Type 0) → ListingValue → H →
     List (ListingValue × H) → Type 0
 ReportAll handles old before [] = Unit {0}
 ReportAll handles old before (step ∷ steps) =
-    IsListing step.0 × Reports handles old step.0 before step.1 × ReportAll handles step.0 step.1 steps
+    IsListing step.0 × ((trackers : Option ℕ) × Tells handles trackers old step.0 before step.1)
+    × ReportAll handles step.0 step.1 steps
 
 -- what the last step leaves
 abbrev pub left_by : {H : Type 0} → ListingValue → H → List (ListingValue × H) → ListingValue × H
@@ -41,13 +42,13 @@ Reported {H} handles begun last now =
 abbrev pub Begins : {H : Type 0} → (H → Result EventValue ErrorValue → H → Type 0) → Type 0
 Begins {H} handles = (begun : H) → Reported handles begun [] begun
 
--- one more step that reports all leads on
+-- one more step that reports all leads on, whatever moves it tells
 abbrev pub GoesOn : {H : Type 0} → (H → Result EventValue ErrorValue → H → Type 0) → Type 0
 GoesOn {H} handles =
-    (begun : H) (last : ListingValue) (now : H) (next : ListingValue) (later : H) →
+    (begun : H) (last : ListingValue) (now : H) (next : ListingValue) (later : H) (trackers : Option ℕ) →
     Reported handles begun last now →
     IsListing next →
-    Reports handles last next now later →
+    Tells handles trackers last next now later →
     Reported handles begun next later
 
 -- the handler's notes are the events that it was given, in order
