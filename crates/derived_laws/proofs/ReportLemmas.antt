@@ -18,7 +18,7 @@ use Rattle.debounce_model.specs.WellFormed.{IsWellFormed}
 use Rattle.folder_listing.specs.Changes.{LeadsTo}
 use Rattle.folder_listing.specs.Listing.{ListingValue, IsListing}
 use Rattle.folder_listing.specs.Moves.{told_changes}
-use Rattle.folder_listing.proofs.TrackedLemmas.{told_lead}
+use Rattle.folder_listing.proofs.MoveLemmas.{told_lead}
 use Rattle.poll_rounds.specs.Reports.{Notes, Tells, ReportAll, Reported, Begins, GoesOn, left_by}
 use Rattle.poll_rounds.specs.Rounds.{HandsEach}
 use Rattle.derived_laws.proofs.ListingLemmas.{lead-append, reader_led}
