@@ -68,10 +68,7 @@ const MOVES: [&str; 12] = [
 ];
 
 /// The numbers of a text, as that of `/f` in `/ folder, /f file 3 #7`.
-fn numbers_of(
-    rt: &(impl Abort + AllocGlobal),
-    text: &str,
-) -> Vec<(PathBuf, FileNumber)> {
+fn numbers_of(rt: &(impl Abort + AllocGlobal), text: &str) -> Vec<(PathBuf, FileNumber)> {
     let mut numbers = Vec::new(rt.alloc());
     for entry in text.split(", ") {
         if let Some((entry, digits)) = entry.split_once(" #") {
@@ -168,9 +165,16 @@ fn move_files<R: Files + Clock + Abort + AllocGlobal + Copy + Drop>(
 
 /// Checks what that round tells.
 fn check_moved(rt: &(impl Abort + AllocGlobal), notes: &mut Notes, top: &str) {
-    let wanted = format!(in rt.alloc(); "Remove(File) {top}/a #0, Remove(Folder) {top}/d #1, \
-        Create(File) {top}/b #0, Create(Folder) {top}/n #1, Create(File) {top}/n/f #1");
-    check_text(rt, notes.take().as_str(), wanted.expect(rt, "memory").as_str(), top);
+    let wanted = format!(in rt.alloc();
+        "Remove(File) {top}/a #0, Remove(Folder) {top}/d #1, \
+        Create(File) {top}/b #0, Create(Folder) {top}/n #1, Create(File) {top}/n/f #1"
+    );
+    check_text(
+        rt,
+        notes.take().as_str(),
+        wanted.expect(rt, "memory").as_str(),
+        top,
+    );
 }
 
 /// Renames in a folder of this number's.

@@ -170,12 +170,7 @@ impl<R: Files + Clock + Drop, A: Allocator + Copy> Folders<A> for RealFolders<R,
         let follows = self.follows(path);
         match self.metadata_at(path.as_str(), follows) {
             Ok(metadata) if follows => self.found_anew(path, &metadata),
-            Ok(metadata) => Ok(Some(found_of(
-                &self.rt,
-                &metadata,
-                &mut self.times,
-                self.numbers,
-            ))),
+            Ok(metadata) => Ok(Some(found_of(&self.rt, &metadata, &mut self.times, self.numbers))),
             Err(_) if has_zero(path) => Ok(None),
             Err(error) => {
                 self.fail_at(path, &error)?;
