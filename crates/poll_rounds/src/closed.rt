@@ -142,8 +142,8 @@ fn renew_near_kept<A: Allocator + Copy, D: NotesClosed<A>>(
 /// at, and below it, is kept, with the folders above: nothing is reported of it. What is noted of the folders then are
 /// these paths.
 ///
-/// If there is a tracker, the events of a move have one, this one or a later one, and afterwards it is the first that no
-/// event has had. With `None` no move is told.
+/// If there is a tracker, the events of a move have one, this one or a later one, and afterwards it is the first that
+/// no event has had. With `None` no move is told.
 pub fn kept_round<
     A: Allocator + Copy,
     D: NotesClosed<A>,

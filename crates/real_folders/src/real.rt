@@ -48,8 +48,8 @@ pub struct RealFolders<R: Drop, A: Allocator = Global> {
 }
 
 impl<R: Drop, A: Allocator + Copy> RealFolders<R, A> {
-    /// Returns the real file system, which tells no modified times and no numbers. Relative paths begin at the folder that
-    /// the program runs in.
+    /// Returns the real file system, which tells no modified times and no numbers. Relative paths begin at the folder
+    /// that the program runs in.
     pub fn new(rt: R, alloc: A) -> RealFolders<R, A>
         ensures counted { result.failures ≡ 0 }
         ensures none { result.left_out ≡ 0 }
