@@ -38,7 +38,7 @@ is_one_file before after =
 
 -- the old path, if of what has a number one entry is removed, which alone had it, and one has it now, the same file
 abbrev pub moved_from : ListingValue → ListingValue → ListingValue → Option PathValue
-moved_from (r ∷ []) (o ∷ []) (n ∷ []) = if is_one_file o.1 n.1 then Some o.0 else None
+moved_from (r ∷ []) (o ∷ []) (n ∷ []) = if is_one_file o.1 n.1 then Some r.0 else None
 moved_from gone olds news = None
 
 -- the old path of what has the number, if it moved
