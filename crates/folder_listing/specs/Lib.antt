@@ -6,3 +6,5 @@ pub mod Near
 pub mod MergedListings
 pub mod Updates
 pub mod Moves
+pub mod Holders
+pub mod Tracked

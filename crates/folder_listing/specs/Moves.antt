@@ -26,14 +26,19 @@ is_number number (Some own) = number == own
 abbrev pub having : ListingValue → ℕ → ListingValue
 having listing number = filter (λ e. is_number number (number_of e.1.number)) listing
 
+-- the number is known
+abbrev pub is_known : FileNumber → Bool
+is_known Unknown = false
+is_known (Known device file) = true
+
 -- the two are one file: the number is known, and it, the kind, the length and the modified time are the same
 abbrev pub is_one_file : Found → Found → Bool
 is_one_file before after =
-    is_some (number_of before.number) && (is_same_kind before.kind after.kind && is_same_state before after)
+    is_known before.number && (is_same_kind before.kind after.kind && is_same_state before after)
 
 -- the old path, if of what has a number one entry is removed, which alone had it, and one has it now, the same file
 abbrev pub moved_from : ListingValue → ListingValue → ListingValue → Option PathValue
-moved_from (r ∷ []) (o ∷ []) (n ∷ []) = if is_one_file o.1 n.1 then Some o.0 else None
+moved_from (r ∷ []) (o ∷ []) (n ∷ []) = if is_one_file o.1 n.1 then Some r.0 else None
 moved_from gone olds news = None
 
 -- the old path of what has the number, if it moved

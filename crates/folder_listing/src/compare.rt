@@ -156,7 +156,7 @@ pub fn compare_updates<A: Allocator + Copy>(
     update_events(alloc, &old.entries, updates).map_err(|_| Error::out_of_memory(alloc))
 }
 
-fn update_events<A: Allocator + Copy>(
+pub(crate) fn update_events<A: Allocator + Copy>(
     alloc: A,
     old: &BTreeMap<PathBuf<A>, Found, A>,
     updates: &Updates<A>,

@@ -2,6 +2,7 @@
 ghost use Rattle.std.specs.Prelude.{◌≡◌};
 ghost use Rattle.folder_listing.specs.Changes.{removal_of, creation_of, is_same_number, is_same_state, is_same_time};
 ghost use Rattle.folder_listing.specs.Listing.{is_same_kind};
+ghost use Rattle.folder_listing.specs.Moves.{is_known, is_one_file};
 ghost use Rattle.folder_listing.specs.declared.entry.EntryKind.TheVariants.{File, Folder};
 
 use notify_types::kind::{CreateKind, EventKind, RemoveKind};
@@ -86,6 +87,13 @@ impl FileNumber {
             _ => false,
         }
     }
+
+    /// Whether it is known.
+    pub fn is_known(self) -> bool
+        ensures { result ≡ is_known self }
+    {
+        matches!(self, FileNumber::Known(_, _))
+    }
 }
 
 /// What stands at a path, and its length in bytes.
@@ -109,6 +117,14 @@ impl Found {
         self.length == after.length
             && is_same_time(self.modified, after.modified)
             && self.number.is_same(after.number)
+    }
+
+    /// Whether this is the same file, before it moved: its number is known, and kind, length, modified time and
+    /// number are the same.
+    pub fn is_one_file(self, after: Found) -> bool
+        ensures { result ≡ is_one_file self after }
+    {
+        self.number.is_known() && self.kind.is_same(after.kind) && self.is_same_state(after)
     }
 }
 

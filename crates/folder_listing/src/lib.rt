@@ -12,6 +12,7 @@
 
 pub mod compare;
 pub mod entry;
+mod holders;
 pub mod listing;
 pub mod moves;
 pub mod near;
