@@ -9,7 +9,6 @@ ghost use Rattle.mirror_state.specs.After.{AllWait, IsAgainOf, IsCarriedOut, IsT
 ghost use Rattle.mirror_state.specs.Looked.{is_kept, lets_go_of};
 
 use crate::NAME;
-use crate::copied::Copied;
 use crate::kept::Kept;
 use crate::looks::Looks;
 use crate::seen::{FolderAndCopy, Seen};
@@ -62,6 +61,11 @@ fn has_request(batch: &[DebouncedEvent]) -> bool
     batch.iter().any(|event| event.need_rescan())
 }
 
+/// Whether an event of the batch has a tracker.
+fn tells_moves(batch: &[DebouncedEvent]) -> bool {
+    batch.iter().any(|event| event.event.tracker().is_some())
+}
+
 /// What the words allow.
 #[derive(Clone, Copy, Debug)]
 pub struct Leave {
@@ -75,7 +79,7 @@ pub struct Leave {
 /// was reported, what a reader of the batches has there, or the path waits.
 #[derive(Drop)]
 pub struct Mirror<C: Drop, O: Drop, E: Drop> {
-    alloc: Global,
+    pub(crate) alloc: Global,
     leave: Leave,
     pub kept: Kept<C>,
     pub waiting: Waiting,
@@ -89,7 +93,7 @@ pub struct Mirror<C: Drop, O: Drop, E: Drop> {
     copy_number: Option<u64>,
     /// What the copy has beside the folder wasn't removed since the folder was there again.
     has_beside: bool,
-    words: Words<O, E>,
+    pub(crate) words: Words<O, E>,
 }
 
 impl<C: FolderAndCopy, O: Write + Drop, E: Write + Drop> Mirror<C, O, E> {
@@ -99,10 +103,7 @@ impl<C: FolderAndCopy, O: Write + Drop, E: Write + Drop> Mirror<C, O, E> {
         Mirror {
             alloc,
             leave,
-            kept: Kept {
-                copy,
-                copied: Copied::new(alloc),
-            },
+            kept: Kept::new(alloc, copy),
             waiting: Waiting::new(alloc),
             pause: Duration::from_millis(PAUSE),
             has_failed: false,
@@ -144,6 +145,31 @@ impl<C: FolderAndCopy, O: Write + Drop, E: Write + Drop> Mirror<C, O, E> {
         self.carry_out_all(batch.as_slice())?;
         self.words.said.end_again();
         Ok(())
+    }
+
+    /// Makes the moves that the batch tells, and then carries out what it asks for, and these events.
+    fn take_moved(
+        &mut self,
+        batch: Vec<DebouncedEvent>,
+        added: Vec<DebouncedEvent>,
+    ) -> Result<(), Fault>
+        ensures { OnOk result ((copy : C) × WaitOrAreCopied (C.sees copy)
+            (events_of (batch.items ++ added.items)) self.new.waiting self.new.kept.copied) }
+    {
+        let mut batch = batch;
+        let mut events = self.move_first(batch.as_slice())?;
+        events.append(&mut batch)?;
+        self.take_both(events, added)
+    }
+
+    /// Makes the moves that the batch tells, if the folder and its copy are there. Returns removals of what came
+    /// along and isn't told, to be carried out before the batch.
+    fn move_first(&mut self, batch: &[DebouncedEvent]) -> Result<Vec<DebouncedEvent>, Fault> {
+        self.kept.forget_came(self.alloc);
+        if !tells_moves(batch) || !self.has_folders()? {
+            return Ok(Vec::new(self.alloc));
+        }
+        self.make_moves(batch)
     }
 
     /// Carries out what the batch asks for, and then these events.
@@ -633,7 +659,7 @@ impl<C: FolderAndCopy, O: Write + Drop, E: Write + Drop> TakesReports for Mirror
         // What is beside goes before the batch is taken, so that the copy is as the batch says in the end.
         self.remove_beside()?;
         match report {
-            Ok(batch) => self.take_both(batch, added),
+            Ok(batch) => self.take_moved(batch, added),
             Err(errors) => Ok(self.words.said.say_errors(errors.as_slice())?),
         }
     }
