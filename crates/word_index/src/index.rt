@@ -46,6 +46,11 @@ impl<A: Allocator + Copy> DocumentIndex<A> {
         }
     }
 
+    /// Returns the words of what stands at the path, if anything does.
+    pub fn get(&self, path: &PathBuf<A>) -> Option<&Words<A>> {
+        self.documents.get(path)
+    }
+
     /// Returns the documents that have the word, in the order of their paths. The word's case has to be
     /// folded, as `words_of` folds it.
     pub fn documents_with(&self, word: &str) -> Result<Vec<&PathBuf<A>, A>, AllocError>

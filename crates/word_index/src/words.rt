@@ -7,12 +7,28 @@ use caseless::default_case_fold_str;
 use std::alloc::{AllocError, Allocator, Global};
 use std::collections::BTreeSet;
 use std::marker::Model;
+use std::time::SystemTime;
 use unicode_segmentation::UnicodeSegmentation;
 
-/// The words of a document.
+/// What tells whether a file is as it was: its length, and when it was modified.
+#[derive(Clone, Copy)]
+pub struct Stamp {
+    pub length: u64,
+    pub modified: SystemTime,
+}
+
+impl Stamp {
+    /// Whether both are the same.
+    fn is_like(self, other: Stamp) -> bool {
+        self.length == other.length && self.modified == other.modified
+    }
+}
+
+/// The words of a document, and of which file they are, if that was asked.
 #[derive(Drop)]
 pub struct Words<A: Allocator = Global> {
     words: BTreeSet<String<A>, A>,
+    stamp: Option<Stamp>,
 }
 
 impl<A: Allocator> Model for Words<A> {
@@ -32,6 +48,25 @@ impl<A: Allocator> Words<A> {
     {
         Words {
             words: BTreeSet::new(alloc),
+            stamp: None,
+        }
+    }
+
+    /// Returns these words as those of this file.
+    pub fn stamped(self, stamp: Option<Stamp>) -> Words<A>
+        ensures { result ≡ self }
+    {
+        Words {
+            words: self.words,
+            stamp,
+        }
+    }
+
+    /// Whether they are those of this file, if both are known.
+    pub fn is_of(&self, stamp: Option<Stamp>) -> bool {
+        match (self.stamp, stamp) {
+            (Some(own), Some(other)) => own.is_like(other),
+            _ => false,
         }
     }
 
@@ -44,6 +79,14 @@ impl<A: Allocator> Words<A> {
 }
 
 impl<A: Allocator + Copy> Words<A> {
+    /// Returns the same words of the same file once more.
+    pub fn try_clone(&self) -> Result<Words<A>, AllocError> {
+        Ok(Words {
+            words: self.words.clone()?,
+            stamp: self.stamp,
+        })
+    }
+
     /// Puts in the word, if it isn't there yet.
     fn insert(&mut self, word: String<A>) -> Result<(), AllocError>
         ensures { OnOk result (self.new ≡ with_word self.old (string_bytes word)) }
