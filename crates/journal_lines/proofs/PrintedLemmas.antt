@@ -23,7 +23,8 @@ pub record IsJournal {P : Type 0} (program : Program P) (rule : P → Rule) (jou
   pub batch : (p p' : P) (batch : Vec Timed Global) → program.takes p (Ok batch) (Ok tt) p' →
       (rule p' ≡ rule p)
       × (journal p' ≡ record (journal p) { next = after (journal p).next (passing (rule p) batch.items) })
-      × WritesTimed (journal p).form (source_in batch.items) (journal p).next (passing (rule p) batch.items) (out p) (out p')
+      × WritesTimed (journal p).form (source_in batch.items) (journal p).next (passing (rule p) batch.items) (out p)
+      (out p')
   pub errors : (p p' : P) (errors : Vec ErrorValue Global) → program.takes p (Err errors) (Ok tt) p' →
       (rule p' ≡ rule p) × (journal p' ≡ journal p) × (out p' ≡ out p)
   pub pass : (p p' : P) → program.passes p (Ok tt) p' →

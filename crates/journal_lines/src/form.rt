@@ -23,7 +23,8 @@ pub enum Form {
     Zero,
 }
 
-/// Appends the event in this form, and where what it created was before, if it is known. Its number and when it was emitted are written in JSON alone.
+/// Appends the event in this form, and where what it created was before, if it is known. Its number and when it was
+/// emitted are written in JSON alone.
 pub(crate) fn push_event(
     text: &mut Vec<u8>,
     form: Form,

@@ -1,11 +1,11 @@
--- Words by their bytes, and the documents that have one. `has` and `documents_with` cite these.
+-- Words by their bytes, and the documents that have one. `has`, `try_clone` and `documents_with` cite these.
 use Rattle.std.proofs.Common.{◌≡◌, ℕ, true, false, ◌||◌, List, [], ◌∷◌, map, refl, ap, ◌∙◌}
 use Rattle.std.specs.BTreeMap.{is_at}
 use Rattle.std.specs.BTreeSet.{insert_key}
 use Rattle.std.specs.declared.cmp.Ordering.{Ordering}
 use Rattle.std.specs.declared.cmp.Ordering.TheVariants.{Less, Equal, Greater}
 use Rattle.std.specs.Cmp.Lexicographic.{slice_cmp}
-use Rattle.std.specs.List.{list_any}
+use Rattle.std.specs.List.{AllZip, list_any}
 use Rattle.std.specs.Ordering.{match_ordering, nat_cmp}
 use Rattle.std.specs.Str.{bytes_eq}
 use Rattle.std.proofs.lemmas.Map.Text.{is_eq-slice_cmp}
@@ -46,3 +46,10 @@ bytes_of-insert_key {T} bytes (x ∷ ts) t = by (slice_cmp nat_cmp (bytes t) (by
     by Less more = refl
     by Equal more = refl
     by Greater more = ap (λ ws. bytes x ∷ ws) more
+
+-- clones of texts have their bytes
+pub bytes_of-clones : {T : Type 0} (bytes : T → List ℕ) (ts us : List T) → AllZip (λ t u. bytes u ≡ bytes t) ts us →
+    map bytes us ≡ map bytes ts
+bytes_of-clones bytes [] [] same = refl
+bytes_of-clones bytes (t ∷ ts) (u ∷ us) same =
+    ap (λ w. w ∷ map bytes us) same.0 ∙ ap (λ ws. bytes t ∷ ws) (bytes_of-clones bytes ts us same.1)

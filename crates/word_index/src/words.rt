@@ -80,9 +80,12 @@ impl<A: Allocator> Words<A> {
 
 impl<A: Allocator + Copy> Words<A> {
     /// Returns the same words of the same file once more.
-    pub fn try_clone(&self) -> Result<Words<A>, AllocError> {
+    pub fn try_clone(&self) -> Result<Words<A>, AllocError>
+        ensures { IfOk result (λ words. words ≡ self.now) }
+    {
+        let words = self.words.clone()?;
         Ok(Words {
-            words: self.words.clone()?,
+            words,
             stamp: self.stamp,
         })
     }
