@@ -5,7 +5,7 @@ use lib.ListN.{get_elem?}
 use Rattle.atomic_table.specs.Table.{State, Me, Allows, Splits, Joins, keeps, takes, gives, opening, put_back, rest}
 use Rattle.atomic_table.proofs.Lists.{at_set, at_snoc, set_again}
 use Rattle.told_lock.specs.declared.hand.Hand.{Hand}
-use Rattle.told_lock.specs.History.{Begins, picked, opener, hand, has, had_it, knower, righted, without, beside, MayGive}
+use Rattle.told_lock.specs.History.{Begins, picked, opener, has, had_it, knower, righted, without, beside, MayGive}
 use Rattle.told_lock.specs.Rights.{Right, Emits, Feeds}
 use Rattle.told_lock.specs.Rule.{Fits, IsKept, TakesIt, GivesIt, Learns}
 
