@@ -152,6 +152,7 @@ module _ {C A : Type 0} where
       → Took StandsIn told_as u x v → Begins seen v.seen → picked is_emitting seen ≡ picked is_emitting v.seen
       → Begins fed v.seen → picked is_fed fed ≡ picked is_fed v.seen
       → (all : IsTold u.seen seen (entries_of u.taken) x.book.value x.missed) × HasAllFed fed all.0
+  unfolding told_by
   told_fed u v x seen fed keeps took begins told begun all =
       (told_by u v x seen keeps took begins told, (begun, all))
 

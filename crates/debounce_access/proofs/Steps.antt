@@ -39,6 +39,11 @@ pub done : {X E : Type 0} (P : Type 0) (res : Result X E) → is_err res ≡ fal
 done P (Ok x) e p = p
 done P (Err x) e p = absurd (cc)
 
+-- .. and one that is wasn't
+pub refused : {X E : Type 0} (P : Type 0) (res : Result X E) → is_err res ≡ true → OnErr res P → P
+refused P (Ok x) e p = absurd (cc)
+refused P (Err x) e p = p
+
 pub nil_is : {X : Type 0} (xs : List X) → is_nil xs ≡ true → xs ≡ []
 nil_is [] h = refl
 nil_is (x ∷ xs) h = cc

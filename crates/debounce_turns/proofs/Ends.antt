@@ -30,6 +30,7 @@ module _ {L : Type 0} (tells : L → History → Type 0) (left : L) where
   pub ends_fed : {C : Type 0} (seen told fed : History) (parts : List EntryValue) (book : Kept C) (count : ℕ)
       → ((all : IsTold seen told parts book count) × HasAllFed fed all.0) → tells left (picked is_emitting told)
       → IsEndedFed tells left seen fed parts book count
+  unfolding ends
   ends_fed seen told fed parts book count ((log, goes, begins, led, same), all_fed) says = record {
     ended = ends seen told parts book count (log, goes, begins, led, same) says;
     all_fed = all_fed;

@@ -112,14 +112,13 @@ fn not_found<A: Allocator>(alloc: A) -> Error<A> {
     Error::new(alloc, ErrorKind::PathNotFound)
 }
 
-/// Feeds whatever is fed and takes turns.
-fn feed_both<I, E: Drop, B, L, G: Gate<I, E, B, L>>(
-    gate: &mut G,
-    first: Result<I, E>,
-    second: Result<I, E>,
-) -> Result<(), E> {
-    feed_one(gate, first, 0, true)?;
-    feed_one(gate, second, 1, false)
+/// Feeds an event and an error to whatever is fed and takes turns.
+fn feed_both<
+    G: Gate<Event<A>, Error<A>, Vec<DebouncedEvent<A>, A>, Vec<Error<A>, A>>,
+    A: Allocator,
+>(gate: &mut G, event: Event<A>, error: Error<A>) -> Result<(), Error<A>> {
+    feed_one(gate, Ok(event), 0, true)?;
+    feed_one(gate, Err(error), 1, false)
 }
 
 #[test]
@@ -145,7 +144,7 @@ fn a_turn_hands_out_what_a_book_gives(rt: HostRuntime) {
     let mut gate = OpenGate {
         book: Book::new(alloc, NoCache::new(), 50),
     };
-    feed_both(&mut gate, Ok(created(&rt, alloc)), Err(not_found(alloc))).expect(&rt, "memory");
+    feed_both(&mut gate, created(&rt, alloc), not_found(alloc)).expect(&rt, "memory");
     check_turn(&rt, &mut gate, 49, "errors PathNotFound; ", "");
     check_turn(&rt, &mut gate, 50, "batch Create(Any) /a 0; ", "");
     check_turn(&rt, &mut gate, 100, "", "");
