@@ -5,7 +5,7 @@
 //! the places in order. All that can fail comes before the first change.
 //!
 //! ```text
-//! let emitted = emit(&mut queues, &mut rescan_slot, alloc, due, false)?;
+//! let emitted = emit(&mut queues, &mut rescan_slot, alloc, due)?;
 //! ```
 #![tactic(auto)]
 

@@ -1,4 +1,4 @@
-//! A tick at which few queues are due: it searches for each, by the paths that the index has.
+//! A tick at which something stays: it searches for each queue that is due, by the paths that the index has.
 ghost use Rattle.std.specs.Prelude.{◌≡◌, ◌++◌, ◌+◌, ◌≤◌, IfOk, OnErr, OnOk, is_some, length, true, vec_capacity, vec_len};
 ghost use Rattle.notify_types.specs.Borrowed.{borrowed};
 ghost use Rattle.debounce_model.specs.Due.{due_fronts, place_list, rests};

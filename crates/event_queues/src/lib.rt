@@ -5,14 +5,16 @@
 //! what its first event says of the path. [`queues::IndexedQueues`] holds the queues of all paths and the
 //! index, and each of its methods leaves the index with just the fronts of the queues. A tick looks at the
 //! oldest pair of the index. If it is due, the tick goes by a plan ([`plan::DuePlan`]): if all that waits is
-//! due, which it asks first, it takes the map apart; if few queues are, it searches for each; and else it
-//! goes over all.
+//! due, it takes the map apart, and else it searches for each queue that is due.
 //!
 //! ```text
 //! let mut queues = IndexedQueues::new(rt.alloc());
 //! queues.push(event)?;
 //! if queues.is_any_due(due) {
-//!     let visited = queues.trim(due)?;
+//!     let mut plan = queues.plan(due)?;
+//!     queues.lend_due(&mut plan, &mut places, due)?;
+//!     ..
+//!     let visited = queues.take_due(plan, due, &mut batch)?;
 //! }
 //! ```
 #![tactic(auto)]
@@ -34,5 +36,4 @@ pub mod queues;
 mod removal;
 mod room;
 mod settle;
-mod trim;
 mod whole;

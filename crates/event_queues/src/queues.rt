@@ -1,5 +1,5 @@
 //! The queues of all paths, with the index of their fronts.
-ghost use Rattle.std.specs.Prelude.{◌≡◌, ◌∷◌, ◌++◌, ◌+◌, ◌<◌, ◌≤◌, ◌^◌, [], OnOk, OnErr, IfOk, false, true, length, vec_len, vec_capacity};
+ghost use Rattle.std.specs.Prelude.{◌≡◌, ◌∷◌, ◌++◌, ◌+◌, ◌<◌, ◌≤◌, ◌^◌, [], OnOk, OnErr, IfOk, false, length, vec_len, vec_capacity};
 ghost use Rattle.notify_types.specs.Borrowed.{borrowed};
 ghost use Rattle.notify_types.specs.Event.{first_of};
 ghost use Rattle.debounce_model.specs.Due.{place_list, rests, is_any_due, due_fronts};
@@ -9,7 +9,7 @@ ghost use Rattle.debounce_model.specs.Moved.{with_queues};
 ghost use Rattle.debounce_model.specs.Queues.{with_queue, without_queue, without_below, push, waiting_in};
 ghost use Rattle.debounce_model.specs.WellFormed.{IsNonempty};
 ghost use Rattle.event_queues.specs.Due.{is_due};
-ghost use Rattle.event_queues.specs.Plan.{IsLent, IsPlan, moves};
+ghost use Rattle.event_queues.specs.Plan.{IsLent, IsPlan};
 ghost use Rattle.event_queues.specs.Steps.{AreFilled};
 
 use crate::due::Due;
@@ -169,14 +169,13 @@ impl<A: Allocator + Copy> IndexedQueues<A> {
         ensures places { OnOk result (borrowed places.new.items
             ≡ borrowed places.old.items ++ place_list (is_due due) self.now) }
         ensures lent { OnOk result (IsLent due self.now plan.new) }
-        ensures same { moves plan.new ≡ moves plan.old }
     {
         plan.lend(places, &self.index.map, due)
     }
 
     /// Moves what is due to the end of `out`, which has room for it, in the order of the paths, and
-    /// returns how many queues had something. The plan is one that moves, and it has lent. If an
-    /// allocation fails, nothing has changed.
+    /// returns how many queues had something. The plan has lent. If an allocation fails, nothing
+    /// has changed.
     pub fn take_due(
         &mut self,
         plan: DuePlan<A>,
@@ -184,7 +183,6 @@ impl<A: Allocator + Copy> IndexedQueues<A> {
         out: &mut Vec<DebouncedEvent<A>, A>,
     ) -> Result<usize, AllocError>
         requires lent { IsLent due self.old plan }
-        requires moves { moves plan ≡ true }
         requires room { vec_len out.old + length (place_list (is_due due) self.old)
             ≤ vec_capacity out.old }
         ensures moved { OnOk result (out.new.items ≡ out.old.items
@@ -196,16 +194,6 @@ impl<A: Allocator + Copy> IndexedQueues<A> {
         ensures kept { OnErr result (out.new.items ≡ out.old.items) }
     {
         plan.take(&mut self.index, due, out)
-    }
-
-    /// Drops the due beginning of each queue, and returns how many queues had one. It goes over all
-    /// queues. If an allocation fails, nothing has changed.
-    pub fn trim(&mut self, due: Due) -> Result<usize, AllocError>
-        ensures count { IfOk result (λ count. count ≡ due_fronts (is_due due) self.old) }
-        ensures ok { OnOk result (self.new ≡ rests (is_due due) self.old) }
-        ensures unchanged { OnErr result (self.new ≡ self.old) }
-    {
-        self.index.trim(due)
     }
 
     /// Returns how many events wait.
