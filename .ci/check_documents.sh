@@ -93,13 +93,10 @@ sections() {
         }' page="$1" "$room/defined" "$1"
 }
 
-# Each block of code or of a proof, and each script with its output, stands in a crate. A whole program of a
-# page is one that .ci/examples/vendor.sh takes from there and runs.
+# Each block of code or of a proof, and each script with its output, stands in a crate.
 blocks() {
     for number in $(seq "$(grep -cE '^```(rust|antt|script)' "$1")"); do
         block=$(awk -v wanted="$number" '/^```/ { inside = /^```(rust|antt|script)/ && ++seen == wanted; next } inside' "$1" | squeezed)
-        program=$(sed -n 's,^//! \(The program `[a-z]*`\): .*,\1,p' <<<"$block")
-        [ -z "$program" ] || ! grep -qF -- "$program" .ci/examples/vendor.sh || continue
         [ -n "$block" ] && grep -qF -- "$block" "$room/code" || echo "block $number stands in no crate"
     done
 }
@@ -144,13 +141,18 @@ bodies() {
     done
 }
 
-# Lengths; the kit's line; the README's script is the one that the gate runs, and prints what stands there.
+# Lengths; the kit's line; the README's script is the one that the gate runs, and prints what stands there; each script is a
+# worked case's.
 facts() {
     [ "$(wc -w <README.md)" -le 800 ] || echo 'README.md has more than 800 words'
     [ "$(wc -l <docs/PROOFS.md)" -le 200 ] || echo 'docs/PROOFS.md has more than 200 lines'
     cmp <(grep -o 'rattle-kit[^`]*' README.md) <(grep -o 'rattle-kit[^`]*' docs/TRUSTED.md)
     cmp "$(sed -n 's,^\./mirror \(scripts/.*\),\1,p' README.md | head -n 1)" crates/mirror/data/example
     [[ $(cat README.md) == *"$(cat crates/mirror/stdout)"* ]] || echo 'README.md: the script prints something else'
+    for script in scripts/*.script; do
+        awk -v head="## $(basename "$script" .script)" '$0 == head { at = 1; next } at && /^```/ { if (inside) exit; inside = 1; next } inside' \
+            crates/worked_cases/data/CASES.md | cmp - "$script"
+    done
 }
 
 # Each function on the way of an event and of a tick is in the file that stands beside it, and none is left out: what

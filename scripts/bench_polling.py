@@ -4,9 +4,10 @@
 usage: scripts/bench_polling.py [FILES..]
 
 FILES are numbers of files, 1000 10000 100000 if none is given; a hundred stand in a folder, and nothing
-changes. The program `bench` has to be built (rt ci bench). It times each round itself, with modified times and
-without, and the plain walk, scripts/plain_walk.rs, compiled by rustc, does too; they run in turns, and each
-figure is the least of all its rounds. The peak memory is that of the rounds with times, as Linux tells it.
+changes. The program `bench` has to be built (rt ci bench). It times each round itself, with modified times,
+with numbers too, and with neither, and the plain walk, scripts/plain_walk.rs, compiled by rustc, does too; they
+run in turns, and each figure is the least of all its rounds. The peak memory is that of the rounds with numbers,
+as Linux tells it.
 """
 import os
 import subprocess
@@ -52,13 +53,14 @@ def run(*words):
 
 
 def times_of(walk, folder):
-    """Returns the least seconds of a round, of one without times and of a walk, and the peak memory."""
-    least, memory = [float("inf")] * 3, 0
+    """Returns the least nanoseconds of each form of a round and of a walk, and the peak memory."""
+    least, memory = [float("inf")] * 4, 0
     for _ in range(TURNS):
-        timed, peak = run(BENCH, "rounds", ROUNDS, folder)
+        timed, _ = run(BENCH, "rounds", ROUNDS, folder)
+        numbered, peak = run(BENCH, "rounds-with-numbers", ROUNDS, folder)
         untimed, _ = run(BENCH, "rounds-without-times", ROUNDS, folder)
         walked, _ = run(walk, folder, ROUNDS)
-        took = [int(timed[0]), int(untimed[0]), int(walked[1])]
+        took = [int(timed[0]), int(numbered[0]), int(untimed[0]), int(walked[1])]
         least = list(map(min, least, took))
         memory = max(memory, peak)
     return least, memory
@@ -69,8 +71,8 @@ def main(*counts):
         walk = os.path.join(room, "plain_walk")
         source = os.path.join(TOP, "scripts", "plain_walk.rs")
         subprocess.run(["rustc", "-O", "-o", walk, source], check=True)
-        print("| files | a round | without modified times | a plain walk | peak memory |")
-        print("|---:|---:|---:|---:|---:|")
+        print("| files | a round | with numbers | without modified times | a plain walk | peak memory |")
+        print("|---:|---:|---:|---:|---:|---:|")
         for count in map(int, counts or ("1000", "10000", "100000")):
             folder = os.path.join(room, str(count))
             os.mkdir(folder)

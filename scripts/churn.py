@@ -1,7 +1,8 @@
 #!/usr/bin/env python3
 """Changes a folder under folder_mirror and document_index, and says whether copy and answers are right at the end.
 
-usage: scripts/churn.py [--times N] [--changes N] [--seed N] [--mirror PROGRAM] [--index PROGRAM]
+usage: scripts/churn.py [--times N] [--changes N] [--seed N] [--renames] [--mirror PROGRAM] [--index PROGRAM]
+                        [--journal PROGRAM]
 
 The programs are crates/folder_mirror/out/folder_mirror and crates/document_index/out/document_index if none are
 given (rt ci builds them). Each of the 50 times both watch one folder, in which 150 changes follow one another
@@ -11,8 +12,15 @@ the programs run as nobody, so that permission means something. The mirror is en
 last change; then its status is 0 and the copy is the folder, path by path and byte by byte. The index is asked for each
 word until its answers are right, for ten seconds at most. The last line is 'N right, M wrong'; a wrong one is said
 with its seed.
+
+With --renames half of the changes are renames, of files and of folders: onto each other, into each other's place,
+through a third name, out of the folder and back. A journal of the folder (crates/change_journal/out/change_journal)
+is read too, and its reader's paths are those of the folder at the end. Now and then a folder that lay still is
+renamed to where nothing is: the line before the last says how many of these the mirror moved, of how many. If it is
+less than nine of ten, the status is 1.
 """
 import argparse
+import contextlib
 import os
 import random
 import shutil
@@ -103,6 +111,56 @@ class Folder:
             for name in names:
                 os.chmod(os.path.join(at, name), 0o644)
 
+    def folders(self):
+        return sorted(os.path.join(at, it) for at, names, _ in os.walk(self.top) for it in names)
+
+    def rename_folder(self):
+        folders = self.folders()
+        if folders:
+            # Into itself it can't go, nor onto a folder that has something.
+            with contextlib.suppress(OSError):
+                os.rename(self.draw.choice(folders), os.path.join(self.place(), self.draw.choice("abcd")))
+
+    def exchange(self):
+        every = [*self.files(), *self.folders()]
+        if len(every) > 1:
+            one, other = self.draw.sample(every, 2)
+            third = os.path.join(self.top, "third")
+            if not one.startswith(other) and not other.startswith(one):
+                os.rename(one, third)
+                os.rename(other, one)
+                os.rename(third, other)
+
+    def out_and_back(self):
+        every = [*self.files(), *self.folders()]
+        if every:
+            path = self.draw.choice(every)
+            os.rename(path, self.top + ".away")
+            time.sleep(self.draw.choice([0, 0.06]))
+            os.rename(self.top + ".away", path)
+
+    def rename_still(self):
+        """Renames a folder that lay still for a while to where nothing is. Returns both paths."""
+        self.number += 1
+        old, new = (os.path.join(self.top, f"{name}{self.number}") for name in ("still", "moved"))
+        os.mkdir(old)
+        for number in range(3):
+            self.write(os.path.join(old, f"file{number}"))
+        time.sleep(0.5)
+        os.rename(old, new)
+        time.sleep(0.5)
+        return old, new
+
+    def change_or_rename(self):
+        renames = [self.rename, self.rename_folder, self.rename_folder, self.exchange, self.out_and_back]
+        # A file can have come to a folder's name, and a folder to a file's: what can't be done is left.
+        with contextlib.suppress(OSError):
+            if self.draw.randrange(2):
+                self.draw.choice(renames)()
+                time.sleep(self.draw.choice([0, 0, 0.01, 0.05]))
+            else:
+                self.change()
+
     def change(self):
         deeds = [self.write, self.write, self.write_over, self.rename, self.remove, self.come_and_go]
         self.draw.choice([*deeds, self.come_and_go, self.come_and_go_as_folder, self.close, self.open])()
@@ -136,7 +194,8 @@ def ask(index, word):
     answer = []
     while line := index.stdout.readline().decode().rstrip("\n"):
         answer.append(line)
-    return answer
+    # Texts sort otherwise than paths do: `d.new` comes before `d/file`.
+    return sorted(answer)
 
 
 def documents_with(word, room):
@@ -150,6 +209,18 @@ def documents_with(word, room):
     return sorted(found)
 
 
+def paths_of(journal):
+    """Returns the paths of whoever plays the journal's lines."""
+    paths = set()
+    for line in journal.splitlines():
+        kind, path, *_ = [*line.split("\t"), ""]
+        if kind.startswith("Remove"):
+            paths = {it for it in paths if it != path and not it.startswith(path + "/")}
+        elif kind.startswith("Create"):
+            paths.add(path)
+    return paths
+
+
 def wait_for(path, text):
     for _ in range(600):
         with open(path, encoding="utf-8") as it:
@@ -158,8 +229,9 @@ def wait_for(path, text):
         time.sleep(0.1)
 
 
-def churn(seed, changes, mirror, index):
-    """Returns what was wrong."""
+def churn(seed, changes, mirror, index, journal=None):
+    """Returns what was wrong, how many folders that lay still were moved by the mirror, and of how many. With a
+    journal half of the changes are renames."""
     draw = random.Random(seed)
     with tempfile.TemporaryDirectory() as room:
         os.chmod(room, 0o777)
@@ -173,17 +245,34 @@ def churn(seed, changes, mirror, index):
         answers = start([index, "from", *words], room, "index")
         wait_for(os.path.join(room, "mirror.said"), "watching")
         wait_for(os.path.join(room, "index.said"), "watching")
-        for _ in range(changes):
-            folder.change()
+        lines = start([journal, "from", *words, "--initial", "--until-eof"], room, "journal") if journal else None
+        if lines:
+            wait_for(os.path.join(room, "journal.said"), "watching")
+        still = []
+        for number in range(changes):
+            (folder.change_or_rename if journal else folder.change)()
+            if journal and number % 30 == 29:
+                folder.open()
+                still.append(folder.rename_still())
         folder.open()
         copies.stdin.close()
+        done = copies.stdout.read().decode()
         status = copies.wait()
         copies.stdout.close()
+        moves = {line for line in done.splitlines() if line.startswith("move ")}
+        told = sum(f"move {os.path.relpath(old, room)}\t{os.path.relpath(new, room)}" in moves for old, new in still)
         wrong = [] if status == 0 else [f"the mirror's status is {status}"]
         here, there = shape(os.path.join(room, "from")), shape(os.path.join(room, "to"))
         for path in sorted(here.keys() | there.keys()):
             if here.get(path) != there.get(path):
                 wrong.append(f"the copy at {path}: {there.get(path)!r:.60}, and not {here.get(path)!r:.60}")
+        if lines:
+            lines.stdin.close()
+            read = paths_of(lines.stdout.read().decode())
+            lines.wait()
+            lines.stdout.close()
+            stand = {"from", *(os.path.join("from", it) for it in here)}
+            wrong += [f"the journal's reader at {it}" for it in sorted(read ^ stand)]
         for word in WORDS:
             wanted = documents_with(word, room)
             until = time.monotonic() + 10
@@ -195,10 +284,10 @@ def churn(seed, changes, mirror, index):
         answers.wait()
         answers.stdout.close()
         if wrong:
-            for name in ("mirror", "index"):
+            for name in ("mirror", "index", *(["journal"] if lines else [])):
                 with open(os.path.join(room, f"{name}.said"), encoding="utf-8", errors="replace") as it:
                     wrong += [f"  it said: {line.strip()}" for line in list(it)[-3:]]
-        return wrong
+        return wrong, told, len(still)
 
 
 def main():
@@ -206,21 +295,26 @@ def main():
     words.add_argument("--times", type=int, default=50)
     words.add_argument("--changes", type=int, default=150)
     words.add_argument("--seed", type=int, default=random.randrange(1 << 32))
+    words.add_argument("--renames", action="store_true")
     words.add_argument("--mirror", default=program("folder_mirror"))
     words.add_argument("--index", default=program("document_index"))
+    words.add_argument("--journal", default=program("change_journal"))
     words = words.parse_args()
-    right = 0
+    right = told = still = 0
     with tempfile.TemporaryDirectory() as reached:
         # Whoever runs the programs can reach these copies of them.
         os.chmod(reached, 0o755)
         mirror, index = (shutil.copy(it, reached) for it in (words.mirror, words.index))
+        journal = shutil.copy(words.journal, reached) if words.renames else None
         for seed in range(words.seed, words.seed + words.times):
-            wrong = churn(seed, words.changes, mirror, index)
-            right += not wrong
+            wrong, moved, folders = churn(seed, words.changes, mirror, index, journal)
+            right, told, still = right + (not wrong), told + moved, still + folders
             for it in [f"seed {seed}:", *wrong] if wrong else []:
                 print(it, flush=True)
+    if words.renames:
+        print(f"{told} of {still} folders that lay still were moved")
     print(f"{right} right, {words.times - right} wrong")
-    return 1 if right < words.times else 0
+    return 1 if right < words.times or 10 * told < 9 * still else 0
 
 
 if __name__ == "__main__":

@@ -7,7 +7,8 @@ FOLDER is where a check keeps what it checked, as out/incremental/NAME in a crat
 --jobs 1` of a crate that wasn't checked before. Each file there is of one function and one step of its proof;
 `Lts` is the table of its steps for the borrow checker. The seconds of a file are those since the file before
 it: a clock's, not a processor's, and of no use after a check by several jobs. The first function that asks for
-something pays for what is loaded then.
+something pays for what is loaded then. After any check the sizes tell nearly as much, at some four seconds a MB:
+`ls -S out/incremental/*/*.Lts.oantt`; one of 8 MB wants to be cut.
 """
 import collections
 import os

@@ -59,10 +59,10 @@ report 'a journal in plain lines' $well
 
 # The same events as JSON, numbered from 1 without a gap.
 cat >wanted <<'END'
-{"at":W,"flag":null,"info":null,"kind":"Create(File)","paths":["watched/a.txt"],"seq":N,"time":T,"tracker":null}
-{"at":W,"flag":null,"info":null,"kind":"Create(Folder)","paths":["watched/notes"],"seq":N,"time":T,"tracker":null}
-{"at":W,"flag":null,"info":null,"kind":"Create(File)","paths":["watched/two\tnames"],"seq":N,"time":T,"tracker":null}
-{"at":W,"flag":null,"info":null,"kind":"Remove(Folder)","paths":["watched/notes"],"seq":N,"time":T,"tracker":null}
+{"at":W,"flag":null,"info":null,"kind":"Create(File)","moved_from":null,"paths":["watched/a.txt"],"seq":N,"time":T,"tracker":null}
+{"at":W,"flag":null,"info":null,"kind":"Create(Folder)","moved_from":null,"paths":["watched/notes"],"seq":N,"time":T,"tracker":null}
+{"at":W,"flag":null,"info":null,"kind":"Create(File)","moved_from":null,"paths":["watched/two\tnames"],"seq":N,"time":T,"tracker":null}
+{"at":W,"flag":null,"info":null,"kind":"Remove(Folder)","moved_from":null,"paths":["watched/notes"],"seq":N,"time":T,"tracker":null}
 END
 grep -v 'watched/end' json | sed 's/"seq":[0-9]*,"time":[0-9]*/"seq":N,"time":T/; s/"at":"[^"]*"/"at":W/' >got
 cmp -s got wanted && cmp -s <(grep -o '"seq":[0-9]*' json) <(seq -f '"seq":%.0f' "$(wc -l <json)") || well=no

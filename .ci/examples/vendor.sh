@@ -40,13 +40,11 @@ report "the tutorial's own crate" "$([ $? = 0 ] && [ "$(wc -l <commands)" = 4 ] 
     [ "$(cd own/crates/mine && find . -type f)" = ./src/main.rt ] &&
     [ "$(tail -n 1 own/crates.txt)" = 'mine: notify_debouncer_full anyhow' ] && echo yes)"
 
-# The tutorial's two programs over folders, with the crates that it names.
-for head in 'The program `changed`' 'The program `keeper`'; do
-    name=$(tr -d '`' <<<"${head##* }")
+# The programs of the tutorial over folders, with the crates that it names.
+for name in changed keeper; do
     mkdir -p programs/crates/$name/src
     grep -o "$name: watch_loop [a-z_ ]*" "$top/docs/TUTORIAL.md" >>programs/crates.txt
-    awk -v head="//! $head: " '/^```/ { if (index(block, head) == 1) printf "%s", block; block = ""; next } { block = block $0 "\n" }' \
-        "$top/docs/TUTORIAL.md" >programs/crates/$name/src/main.rt
+    cp "$top/docs/examples/$name.rt" programs/crates/$name/src/main.rt
 done
 "$top/scripts/vendor" programs notify_debouncer_full watch_loop watch_program batch_plan >out 2>err
 mkdir grown

@@ -70,7 +70,8 @@ impl<A: Allocator + Copy> Moves<A> {
 
     /// Returns the moves, in the order of their trackers.
     pub fn pairs(&self) -> Values<'_, u64, Move<A>>
-        ensures { result ≡ values_of self.now }
+        ensures all { result ≡ values_of self.now }
+        ensures sorted { IsStrictlySortedBy nat_cmp (keys_of self.now) }
     {
         self.by_tracker.values()
     }

@@ -4,8 +4,8 @@
 //! For each workload it prints `KIND N total_ns per_op_ns` on standard error, and on standard output a
 //! line `KIND N CHECKSUM` with a sum over what was emitted, which is the same in each run.
 //!
-//! `bench rounds|rounds-without-times N FOLDER` makes N rounds over the folder, and prints the nanoseconds of
-//! the fastest.
+//! `bench rounds|rounds-with-numbers|rounds-without-times N FOLDER` makes N rounds over the folder, and prints the
+//! nanoseconds of the fastest.
 #![tactic(auto)]
 
 mod checksum;
@@ -16,7 +16,7 @@ mod workloads;
 
 use anyhow::{Result, bail};
 use kind::{KINDS, Kind};
-use rounds::fastest_round;
+use rounds::{Compared, fastest_round};
 use std::env;
 use std::process::ExitCode;
 use workloads::run_workload;
@@ -35,10 +35,10 @@ fn run_kind(rt: &HostRuntime, kind: Kind, n: u64) -> Result<()> {
     Ok(())
 }
 
-fn run_rounds(rt: &HostRuntime, n: &str, folder: &str, has_times: bool) -> Result<()> {
+fn run_rounds(rt: &HostRuntime, n: &str, folder: &str, compared: Compared) -> Result<()> {
     match n.parse::<u64>() {
         Ok(n) if 0 < n && n <= MOST => {
-            println!(rt; "{}", fastest_round(rt, folder, n, has_times)?)?;
+            println!(rt; "{}", fastest_round(rt, folder, n, compared)?)?;
             Ok(())
         }
         _ => bail!("a number of rounds is from 1 to {MOST}"),
@@ -53,10 +53,9 @@ fn run_asked(rt: &HostRuntime, words: &[String]) -> Result<()> {
             }
             Ok(())
         }
-        [form, n, folder] => match form.as_str() {
-            "rounds" => run_rounds(rt, n.as_str(), folder.as_str(), true),
-            "rounds-without-times" => run_rounds(rt, n.as_str(), folder.as_str(), false),
-            _ => bail!("usage: bench rounds|rounds-without-times N FOLDER"),
+        [form, n, folder] => match Compared::from_word(form.as_str()) {
+            Some(compared) => run_rounds(rt, n.as_str(), folder.as_str(), compared),
+            None => bail!("usage: bench rounds|rounds-with-numbers|rounds-without-times N FOLDER"),
         },
         [n, kind] => match (n.parse::<u64>(), Kind::from_word(kind.as_str())) {
             (Ok(n), Some(kind)) if 0 < n && n <= MOST => run_kind(rt, kind, n),

@@ -24,19 +24,58 @@ impl EventHandler<Result<Event, Error>> for Counter {
 
 type Real = RealFolders<HostRuntime, Global>;
 
-/// The real file system, with modified times or without.
-fn folders_of(rt: &HostRuntime, has_times: bool) -> Real {
-    if has_times {
-        RealFolders::with_modified_times(*rt, rt.alloc())
-    } else {
-        RealFolders::new(*rt, rt.alloc())
+/// What a round compares.
+#[derive(Clone, Copy)]
+pub enum Compared {
+    Lengths,
+    LengthsAndTimes,
+    /// Numbers too, by which it tells moves.
+    Numbers,
+}
+
+impl Compared {
+    /// What the word asks for. It is `None` if the word says another thing.
+    pub fn from_word(word: &str) -> Option<Compared> {
+        match word {
+            "rounds" => Some(Compared::LengthsAndTimes),
+            "rounds-with-numbers" => Some(Compared::Numbers),
+            "rounds-without-times" => Some(Compared::Lengths),
+            _ => None,
+        }
+    }
+
+    /// The first tracker, if moves are told.
+    fn trackers(self) -> Option<u64> {
+        match self {
+            Compared::Lengths | Compared::LengthsAndTimes => None,
+            Compared::Numbers => Some(0),
+        }
+    }
+
+    /// The real file system, which tells what is compared.
+    fn folders(self, rt: &HostRuntime) -> Real {
+        match self {
+            Compared::Lengths => RealFolders::new(*rt, rt.alloc()),
+            Compared::LengthsAndTimes => RealFolders::with_modified_times(*rt, rt.alloc()),
+            Compared::Numbers => {
+                let mut folders = RealFolders::with_modified_times(*rt, rt.alloc());
+                folders.tell_numbers();
+                folders
+            }
+        }
     }
 }
 
 /// Makes so many rounds over the folder, while nothing changes there, and returns the nanoseconds of the
 /// fastest.
-pub fn fastest_round(rt: &HostRuntime, folder: &str, rounds: u64, has_times: bool) -> Result<u128> {
-    let mut folders = folders_of(rt, has_times);
+pub fn fastest_round(
+    rt: &HostRuntime,
+    folder: &str,
+    rounds: u64,
+    compared: Compared,
+) -> Result<u128> {
+    let mut folders = compared.folders(rt);
+    let mut trackers = compared.trackers();
     let mut polled = Polled::new(rt.alloc());
     let root = PathBuf::parse(rt.alloc(), folder)?;
     polled.watch(&mut folders, &root, RecursiveMode::Recursive)?;
@@ -44,7 +83,7 @@ pub fn fastest_round(rt: &HostRuntime, folder: &str, rounds: u64, has_times: boo
     let mut least = u128::MAX;
     for _ in 0..rounds {
         let start = Instant::now(rt)?;
-        polled.round(&mut folders, &mut counter);
+        polled.kept_round(&mut folders, &mut trackers, &mut counter);
         least = least.min(start.elapsed(rt)?.as_nanos());
     }
     ensure!(counter.reported == 0, "{folder} changed meanwhile");

@@ -4,7 +4,7 @@ use Rattle.told_lock.specs.History.{Begins, picked}
 use Rattle.debounce_book.specs.Book.{Kept}
 use Rattle.debounce_book.specs.Journal.{EntryValue}
 use Rattle.debounce_access.specs.Happened.{History, is_emitting}
-use Rattle.debounce_access.specs.Stands.{LeadsTo}
+use Rattle.debounce_access.specs.Stands.{HasAllFed, LeadsTo}
 
 -- if nothing was emitted, the handler is as it was
 abbrev pub StaysUncalled : {H : Type 0} → H → H → History → Type 0
@@ -14,3 +14,9 @@ StaysUncalled began left emitted = emitted ≡ [] → left ≡ began
 abbrev pub EndsCalled : {C : Type 0} → History → List EntryValue → Kept C → ℕ → Type 0
 EndsCalled seen parts book count =
     (log : History) × Begins seen log × LeadsTo book count parts log × (picked is_emitting log ≡ [] → ⊥)
+
+-- a history that goes on from what was seen leads to the book and to the count, and nothing was fed or missed in it but
+-- what the feed shows
+abbrev pub EndsFed : {C : Type 0} → History → History → List EntryValue → Kept C → ℕ → Type 0
+EndsFed seen fed parts book count =
+    (log : History) × Begins seen log × LeadsTo book count parts log × HasAllFed fed log

@@ -1,8 +1,10 @@
-//! A caller whose handler comes back: what it knows of its calls is known of the debouncer's history.
+//! A caller whose handler comes back, and one who feeds by hand: what they know of the calls is known of the
+//! debouncer's history.
 ghost use Rattle.std.specs.Prelude.{◌≡◌, true, false, IfOk};
-ghost use Rattle.calls_by_hand.specs.Told.{EndsCalled};
+ghost use Rattle.calls_by_hand.specs.Told.{EndsCalled, EndsFed};
 
 use debounce_book::book::Book;
+use debounce_shell::by_hand::{ByHand, new_told_debouncer_by_hand};
 use debounce_shell::debouncer::{Debouncer, new_told_debouncer};
 use debounce_turns::feed::Feed;
 use debounce_turns::left::Leaves;
@@ -70,4 +72,36 @@ pub fn finish_told<
 {
     let (book, missed, handler) = debouncer.finish_left();
     (book, missed, handler.once)
+}
+
+/// A debouncer that is fed by hand, and its feed.
+pub type ToldByHand<R, A> = (
+    Debouncer<ByHand, NoCache, R, A, Called>,
+    Feed<NoCache, R, A>,
+);
+
+/// Starts a debouncer that is fed by hand, whose handler is such a one.
+pub fn start_told_by_hand<
+    R: Threads + Wait + Clock + Files + Copy + Send + Sync + 'static,
+    A: Allocator + Copy + Send + Sync + 'static,
+>(rt: R, alloc: A, timeout: Duration) -> Result<ToldByHand<R, A>, Error<A>>
+    ensures began { IfOk result (λ r. r.0.began.once ≡ false) }
+    ensures feed { IfOk result (λ r. (r.1.lock ≡ r.0.lock) × (r.1.seen ≡ r.0.seen)) }
+{
+    let handler = Called { once: false };
+    new_told_debouncer_by_hand(rt, alloc, timeout, None, handler, NoCache::new())
+}
+
+/// Stops it, and returns the book and how much was missed: all that was fed is what the feed shows.
+pub fn finish_told_fed<
+    R: Threads + Wait + Clock + Files + Copy + Send + Sync + 'static,
+    A: Allocator + Copy + Send + Sync + 'static,
+>(
+    debouncer: Debouncer<ByHand, NoCache, R, A, Called>,
+    feed: Feed<NoCache, R, A>,
+) -> (Book<NoCache, A>, u64)
+    requires { feed.lock ≡ debouncer.lock }
+    ensures fed { EndsFed debouncer.seen feed.seen debouncer.parts result.0 result.1 }
+{
+    debouncer.finish_fed(feed)
 }

@@ -1,7 +1,7 @@
 -- What each step under the lock does to the history.
 use Rattle.std.proofs.Common.{◌≡◌, inl, inr, ℕ, ◌+◌, Bool, true, false, if◌then◌else◌, List, [], ◌∷◌, ◌++◌, Option, Some, None, Result, Ok, Err, OnOk, OnErr, IfErr, IfOk, sym, refl, ap, ◌∙◌, subst, ⊎_elim, append_assoc, append-nil, arith}
 use Rattle.std.specs.Option.{option_or, option_map}
-use Rattle.std.specs.Prelude.{◌-◌, ◌^◌, min, is_some, unwrap_or}
+use Rattle.std.specs.Prelude.{◌-◌, ◌^◌, min, is_err, is_some, unwrap_or}
 use Rattle.std.specs.declared.vec.Vec.{Vec}
 use Rattle.notify_paths.specs.Errors.{ErrorValue, out_of_memory}
 use Rattle.notify_paths.specs.Path.{PathValue}
@@ -15,8 +15,9 @@ use Rattle.debounce_book.specs.Book.{Kept, kept_entries, written, parted, with_e
 use Rattle.debounce_book.specs.Journal.{EntryValue, Accepts, IsLegal}
 use Rattle.debounce_book.proofs.Replay.{IsLegal-append, state-refused, Accepts-step, timeout-accepts}
 use Rattle.told_lock.specs.History.{Begins, picked}
+use Rattle.told_lock.specs.Rights.{Right, Emits, Feeds}
 use Rattle.debounce_access.specs.Adds.{CommandMakes, FedMakes, BatchMakes, ErrorsMake, TickMakes}
-use Rattle.debounce_access.specs.Happened.{HappenedValue, History, Missed, accepted, asks, entry_in, entries_of, missed_in, is_emitting, is_nil, is_journaled, journal_of}
+use Rattle.debounce_access.specs.Happened.{HappenedValue, History, Missed, accepted, asks, takes, entry_in, entries_of, missed_in, is_emitting, is_nil, is_journaled, journal_of, told_as}
 use Rattle.debounce_access.specs.Stands.{BeginsAs, IsRest, LeadsTo, Stands, ToldJournal}
 use Rattle.debounce_access.specs.Taken.{all_out}
 
@@ -27,6 +28,21 @@ Entries = List EntryValue
 pub on_err : {X E : Type 0} (P : Type 0) (res : Result X E) → P → OnErr res P
 on_err P (Ok x) p = tt
 on_err P (Err e) p = p
+
+-- what follows from what holds, holds as well
+pub on_ok : {X E : Type 0} (P Q : Type 0) (res : Result X E) → OnOk res P → (P → Q) → OnOk res Q
+on_ok P Q (Ok x) p f = f p
+on_ok P Q (Err e) p f = tt
+
+-- a call that isn't refused was done
+pub done : {X E : Type 0} (P : Type 0) (res : Result X E) → is_err res ≡ false → OnOk res P → P
+done P (Ok x) e p = p
+done P (Err x) e p = absurd (cc)
+
+-- .. and one that is wasn't
+pub refused : {X E : Type 0} (P : Type 0) (res : Result X E) → is_err res ≡ true → OnErr res P → P
+refused P (Ok x) e p = absurd (cc)
+refused P (Err x) e p = p
 
 pub nil_is : {X : Type 0} (xs : List X) → is_nil xs ≡ true → xs ≡ []
 nil_is [] h = refl
@@ -47,10 +63,11 @@ if_append : (b : Bool) (x : HappenedValue) (xs ys zs : History) → zs ≡ xs ++
 if_append true x xs ys zs h = ap (λ l. x ∷ l) h
 if_append false x xs ys zs h = h
 
-pub picked_append : (xs ys : History) → picked is_emitting (xs ++ ys) ≡ picked is_emitting xs ++ picked is_emitting ys
-picked_append [] ys = refl
-picked_append (x ∷ xs) ys = if_append (is_emitting x) x (picked is_emitting xs) (picked is_emitting ys)
-    (picked is_emitting (xs ++ ys)) (picked_append xs ys)
+pub picked_append : (test : HappenedValue → Bool) (xs ys : History) → picked test (xs ++ ys)
+    ≡ picked test xs ++ picked test ys
+picked_append test [] ys = refl
+picked_append test (x ∷ xs) ys = if_append (test x) x (picked test xs) (picked test ys) (picked test (xs ++ ys))
+    (picked_append test xs ys)
 
 -- a history that is longer begins in the same way
 begins_more : (timeout : ℕ) (journaled : Bool) (log more : History) → BeginsAs timeout journaled log
@@ -71,8 +88,15 @@ some_more (Some es) p e = refl
 some_more None (Some es) e = refl
 some_more None None e = refl
 
-quiet_one : (c : CommandValue) (y : ReplyValue) → asks c ≡ false → picked is_emitting (accepted c y ∷ []) ≡ []
-quiet_one c y quiet = ap (λ (b : Bool). if b then accepted c y ∷ [] else []) quiet
+quiet_one : (right : Right) (c : CommandValue) (y : ReplyValue) → told_as right (accepted c y) ≡ false
+    → picked (told_as right) (accepted c y ∷ []) ≡ []
+quiet_one right c y quiet = ap (λ (b : Bool). if b then accepted c y ∷ [] else []) quiet
+
+-- a command for which there is no right
+neither : (c : CommandValue) (y : ReplyValue) → asks c ≡ false → takes c ≡ false → (right : Right)
+    → told_as right (accepted c y) ≡ false
+neither c y asked taken Emits = asked
+neither c y asked taken Feeds = taken
 
 -- the journal of a history by its opening
 whole_journal : (timeout : ℕ) (k : Bool) (l : History) → BeginsAs timeout k l → journal_of l
@@ -162,12 +186,21 @@ module _ {C : Type 0} where
   command_stands : (r : Rules C) (old new : Kept C) (count : ℕ) (out log : History) (c : CommandValue) (y : ReplyValue)
       (res : Result (Unit {0}) ErrorValue) → Stands old count out log
       → OnOk res (IsDone r old 0 c y new) → IfErr res (λ e. IsNotDone r old c e new)
-      → (IsDone r old 0 c y new → Accepts old.core.state c y new.core.state) → asks c ≡ false
-      → (hs : History) × CommandMakes c y res hs × Stands new count out (log ++ hs) × (picked is_emitting hs ≡ [])
-  command_stands r old new count out log c y (Ok u) stands ok err accepts quiet =
-      (accepted c y ∷ [], refl, done_stands r old new count out log c y stands (accepts ok) ok, quiet_one c y quiet)
-  command_stands r old new count out log c y (Err error) stands ok err accepts quiet =
-      ([], refl, again new count out log (refused_stands r old new count out log c error stands err), refl)
+      → (IsDone r old 0 c y new → Accepts old.core.state c y new.core.state)
+      → (hs : History) × CommandMakes c y res hs × Stands new count out (log ++ hs)
+      × ((right : Right) → told_as right (accepted c y) ≡ false → picked (told_as right) hs ≡ [])
+  command_stands r old new count out log c y (Ok u) stands ok err accepts = (
+    accepted c y ∷ [],
+    refl,
+    done_stands r old new count out log c y stands (accepts ok) ok,
+    λ right quiet. quiet_one right c y quiet,
+  )
+  command_stands r old new count out log c y (Err error) stands ok err accepts = (
+    [],
+    refl,
+    again new count out log (refused_stands r old new count out log c error stands err),
+    λ right quiet. refl,
+  )
 
   -- .. by a root
   pub root_stands : (r : Rules C) (old new : Kept C) (count : ℕ) (out log : History) (path : PathValue)
@@ -175,11 +208,12 @@ module _ {C : Type 0} where
       → OnOk res (IsDone r old 0 (RootCommand path mode) RootedReply new)
       → IfErr res (λ e. IsNotDone r old (RootCommand path mode) e new)
       → (hs : History) × CommandMakes (RootCommand path mode) RootedReply res hs × Stands new count out (log ++ hs)
-      × (picked is_emitting hs ≡ [])
+      × ((right : Right) → picked (told_as right) hs ≡ [])
   root_stands r old new count out log path mode res stands ok err =
       let c = RootCommand path mode in
-      command_stands r old new count out log c RootedReply res stands ok err
-      (λ done. Accepts-step r old.core new.core c RootedReply refl done.0) refl
+      let made = command_stands r old new count out log c RootedReply res stands ok err
+      (λ done. Accepts-step r old.core new.core c RootedReply refl done.0) in
+      (made.0, made.1, made.2, λ right. made.3 right (neither c RootedReply refl refl right))
 
   -- .. by a root less
   pub unroot_stands : (r : Rules C) (old new : Kept C) (count : ℕ) (out log : History) (path : PathValue)
@@ -187,11 +221,12 @@ module _ {C : Type 0} where
       → OnOk res (IsDone r old 0 (UnrootCommand path) UnrootedReply new)
       → IfErr res (λ e. IsNotDone r old (UnrootCommand path) e new)
       → (hs : History) × CommandMakes (UnrootCommand path) UnrootedReply res hs × Stands new count out (log ++ hs)
-      × (picked is_emitting hs ≡ [])
+      × ((right : Right) → picked (told_as right) hs ≡ [])
   unroot_stands r old new count out log path res stands ok err =
       let c = UnrootCommand path in
-      command_stands r old new count out log c UnrootedReply res stands ok err
-      (λ done. Accepts-step r old.core new.core c UnrootedReply refl done.0) refl
+      let made = command_stands r old new count out log c UnrootedReply res stands ok err
+      (λ done. Accepts-step r old.core new.core c UnrootedReply refl done.0) in
+      (made.0, made.1, made.2, λ right. made.3 right (neither c UnrootedReply refl refl right))
 
   -- .. by what is fed
   pub fed_stands : (r : Rules C) (old new : Kept C) (count : ℕ) (out log : History)
@@ -205,13 +240,13 @@ module _ {C : Type 0} where
       let c = EventCommand event now exists in
       let y = TakenReply new.core.answer in
       let made = command_stands r old new count out log c y res stands ok err
-      (λ done. Accepts-step r old.core new.core c y refl done.0) refl in
-      (made.0, (new.core.answer, made.1), made.2, made.3)
+      (λ done. Accepts-step r old.core new.core c y refl done.0) in
+      (made.0, (new.core.answer, made.1), made.2, made.3 Emits refl)
   fed_stands r old new count out log (Err error) now exists res stands ok err =
       let c = ErrorCommand error in
       let made = command_stands r old new count out log c NotedReply res stands ok err
-      (λ done. Accepts-step r old.core new.core c NotedReply refl done.0) refl in
-      (made.0, (new.core.answer, made.1), made.2, made.3)
+      (λ done. Accepts-step r old.core new.core c NotedReply refl done.0) in
+      (made.0, (new.core.answer, made.1), made.2, made.3 Emits refl)
 
   batch_stands : {A : Type 0} (r : Rules C) (old new : Kept C) (count : ℕ) (out log : History) (now : ℕ)
       (res : Result (Vec Timed A) ErrorValue) → Stands old count out log → Ticks r old now res new

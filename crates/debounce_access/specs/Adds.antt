@@ -1,5 +1,5 @@
 -- What a step adds to a history.
-use Rattle.std.specs.Prelude.{◌≡◌, ◌⊎◌, ℕ, Bool, List, [], ◌∷◌, ◌++◌, Option, Result, Ok, Err}
+use Rattle.std.specs.Prelude.{◌≡◌, ◌⊎◌, ℕ, Bool, List, [], ◌∷◌, ◌++◌, Option, Result, Ok, Err, OnOk, OnErr}
 use Rattle.std.specs.declared.vec.Vec.{Vec}
 use Rattle.notify_paths.specs.Errors.{ErrorValue}
 use Rattle.notify_types.specs.Event.{EventValue, Timed}
@@ -9,22 +9,33 @@ use Rattle.debounce_book.specs.Book.{fed_command, fed_reply}
 use Rattle.told_lock.specs.History.{Begins, picked}
 use Rattle.debounce_access.specs.declared.made.Made.{Made}
 use Rattle.debounce_access.specs.declared.made.Made.TheVariants as made
-use Rattle.debounce_access.specs.Happened.{HappenedValue, History, Missed, accepted, is_emitting}
+use Rattle.debounce_access.specs.Happened.{HappenedValue, History, Missed, accepted, is_emitting, is_fed}
 use Rattle.debounce_access.specs.Stands.{Known}
 
 -- this happened, after other things perhaps
 abbrev pub Adds : History → HappenedValue → History → Type 0
 Adds before h after = (mid : History) × Begins before mid × (after ≡ mid ++ h ∷ [])
 
--- what was fed was taken, with some answer of the cache
-abbrev pub AddsFed : History → Result EventValue ErrorValue → ℕ → Bool → History → Type 0
-AddsFed before item now exists after =
-    (answer : Option FileId) × Adds before (accepted (fed_command item now exists) (fed_reply item answer)) after
+-- .. of which none was fed or missed
+abbrev pub GainsOne : History → HappenedValue → History → Type 0
+GainsOne before h after = Adds before h after × (picked is_fed after ≡ picked is_fed before ++ h ∷ [])
 
--- .. at some moment, or it was missed
-abbrev pub AddsItem : History → Result EventValue ErrorValue → History → Type 0
-AddsItem before item after =
-    ((now : ℕ) × (exists : Bool) × AddsFed before item now exists after) ⊎ Adds before Missed after
+-- this is what was fed, taken with some answer of the cache
+abbrev pub IsFedBy : Result EventValue ErrorValue → ℕ → Bool → HappenedValue → Type 0
+IsFedBy item now exists h =
+    (answer : Option FileId) × (h ≡ accepted (fed_command item now exists) (fed_reply item answer))
+
+-- what was fed was taken, and nothing else was fed
+abbrev pub GainsFed : History → Result EventValue ErrorValue → ℕ → Bool → History → Type 0
+GainsFed before item now exists after = (h : HappenedValue) × IsFedBy item now exists h × GainsOne before h after
+
+-- this is an item that was taken at some moment, or that it was missed
+abbrev pub ItemMakes : Result EventValue ErrorValue → HappenedValue → Type 0
+ItemMakes item h = ((now : ℕ) × (exists : Bool) × IsFedBy item now exists h) ⊎ (h ≡ Missed)
+
+-- an item was taken or missed, and nothing else was fed
+abbrev pub GainsItem : History → Result EventValue ErrorValue → History → Type 0
+GainsItem before item after = (h : HappenedValue) × ItemMakes item h × GainsOne before h after
 
 -- what happens by a command: it is accepted, or it is refused and nothing happens
 abbrev pub CommandMakes : CommandValue → ReplyValue → Result (Unit {0}) ErrorValue → History → Type 0
@@ -66,6 +77,12 @@ abbrev pub TicksOn : {A : Type 0} → Known → ℕ → Result (Vec Timed A) Err
 TicksOn old now batch errors new = (new.lock ≡ old.lock)
     × AddsTick old.seen now batch errors new.seen
     × GainsTick (picked is_emitting old.seen) now batch errors (picked is_emitting new.seen)
+
+-- a feed goes on in the same history: what it gave was taken, and nothing else fed, or it was refused, and nothing was
+abbrev pub FeedsOn : Known → Result EventValue ErrorValue → ℕ → Bool → Result (Unit {0}) ErrorValue → Known → Type 0
+FeedsOn old item now exists answered new = (new.lock ≡ old.lock)
+    × OnOk answered (GainsFed old.seen item now exists new.seen)
+    × OnErr answered (Begins old.seen new.seen × (picked is_fed new.seen ≡ picked is_fed old.seen))
 
 -- what happens by what was done under the lock
 abbrev pub Makes : {A : Type 0} → Made A → History → Type 0

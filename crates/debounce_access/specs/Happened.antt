@@ -1,8 +1,9 @@
 -- What happens to the book of a debouncer, from its start on.
 use Rattle.std.specs.Prelude.{◌+◌, ℕ, Bool, true, false, if◌then◌else◌, List, [], ◌∷◌, ◌++◌}
-use Rattle.debounce_model.specs.Command.{CommandValue, TickCommand, ErrorsCommand, ReplyValue}
+use Rattle.debounce_model.specs.Command.{CommandValue, EventCommand, ErrorCommand, TickCommand, ErrorsCommand, ReplyValue}
 use Rattle.debounce_book.specs.Book.{entry_of}
 use Rattle.debounce_book.specs.Journal.{EntryValue}
+use Rattle.told_lock.specs.Rights.{Right, Emits, Feeds}
 
 -- a book was opened with this timeout, and with a journal or without; a command was accepted; or an event or an error
 -- was refused, so that it is missed
@@ -60,6 +61,23 @@ asks command = false
 abbrev pub is_emitting : HappenedValue → Bool
 is_emitting (Accepted entry) = asks entry.command
 is_emitting h = false
+
+-- the command is an event or an error of a watcher
+abbrev pub takes : CommandValue → Bool
+takes (EventCommand event now exists) = true
+takes (ErrorCommand error) = true
+takes command = false
+
+-- an event or an error was fed, or missed
+abbrev pub is_fed : HappenedValue → Bool
+is_fed (Accepted entry) = takes entry.command
+is_fed Missed = true
+is_fed h = false
+
+-- what each right is for
+abbrev pub told_as : Right → HappenedValue → Bool
+told_as Emits = is_emitting
+told_as Feeds = is_fed
 
 -- nothing happened, or nothing is in the list
 abbrev pub is_nil : {X : Type 0} → List X → Bool

@@ -5,7 +5,7 @@ use Rattle.told_lock.specs.Passes.{Pass, view}
 use Rattle.debounce_book.specs.Book.{Kept, kept_entries}
 use Rattle.debounce_book.specs.Journal.{EntryValue, IsLegal}
 use Rattle.told_lock.specs.History.{Begins, picked}
-use Rattle.debounce_access.specs.Happened.{History, Opened, entries_of, is_journaled, journal_of, missed_in, is_emitting}
+use Rattle.debounce_access.specs.Happened.{History, Opened, entries_of, is_journaled, journal_of, missed_in, is_emitting, is_fed}
 
 -- it begins with the opening of a book of this timeout, with a journal or without
 abbrev pub BeginsAs : ℕ → Bool → History → Type 0
@@ -37,6 +37,10 @@ IsTold seen told parts book count =
     (log : History) × Begins seen log × Begins told log × LeadsTo book count parts log
     × (picked is_emitting told ≡ picked is_emitting log)
 
+-- what a feed has seen is a beginning of this history, in which nothing else was fed or missed
+abbrev pub HasAllFed : History → History → Type 0
+HasAllFed fed log = Begins fed log × (picked is_fed fed ≡ picked is_fed log)
+
 -- the history of a book that was just opened
 abbrev pub opening : {C : Type 0} → Kept C → History
 opening book = Opened book.core.state.timeout (is_some (kept_entries book)) ∷ []
@@ -57,25 +61,31 @@ keeps_of pass = (view pass).keeps
 abbrev pub tells_of : {T E : Type 0} → Pass T E → Bool
 tells_of pass = (view pass).tells
 
+-- whether it alone feeds
+abbrev pub feeds_of : {T E : Type 0} → Pass T E → Bool
+feeds_of pass = (view pass).feeds
+
 -- what a feed, a receipt or the worker shows: of which lock it is, and the history as far as it has seen it
 pub record Known : Type 0 where
   pub lock : TableId
   pub seen : History
 
 -- what each that reaches a book shows: also at which history entries were last taken out, and whether it alone takes
--- them out, and alone emits
+-- them out, alone emits, and alone feeds
 pub record Reach : Type 0 where
   pub lock : TableId
   pub seen : History
   pub out : History
   pub keeps : Bool
   pub tells : Bool
+  pub feeds : Bool
 
 -- the same lock and rights, where a history goes on
 pub record GoesOn (old new : Reach) : Type 0 where
   pub lock : new.lock ≡ old.lock
   pub keeps : new.keeps ≡ old.keeps
   pub tells : new.tells ≡ old.tells
+  pub feeds : new.feeds ≡ old.feeds
   pub seen : Begins old.seen new.seen
 
 -- .. and nothing was taken out
@@ -85,6 +95,18 @@ Lasts old new = GoesOn old new × (old.keeps ≡ true → new.out ≡ old.out)
 -- all stays but the right to emit, which another has now
 abbrev pub StaysButTells : Reach → Reach → Type 0
 StaysButTells old new =
+    (new.lock ≡ old.lock) × (new.seen ≡ old.seen) × (new.out ≡ old.out) × (new.keeps ≡ old.keeps)
+    × (new.feeds ≡ old.feeds)
+
+-- .. but the right to feed
+abbrev pub StaysButFeeds : Reach → Reach → Type 0
+StaysButFeeds old new =
+    (new.lock ≡ old.lock) × (new.seen ≡ old.seen) × (new.out ≡ old.out) × (new.keeps ≡ old.keeps)
+    × (new.tells ≡ old.tells)
+
+-- .. but both
+abbrev pub StaysButRights : Reach → Reach → Type 0
+StaysButRights old new =
     (new.lock ≡ old.lock) × (new.seen ≡ old.seen) × (new.out ≡ old.out) × (new.keeps ≡ old.keeps)
 
 -- what a debouncer that runs shows: its watcher, of which lock it is, the history as far as it has seen it, the parts

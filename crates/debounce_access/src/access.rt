@@ -8,9 +8,9 @@ ghost use Rattle.debounce_model.specs.State.{State};
 ghost use Rattle.debounce_model.specs.Tick.{IsOutlook};
 ghost use Rattle.debounce_book.specs.Journal.{IsJournal, IsLegal, IsPart};
 ghost use Rattle.debounce_book.specs.JournalLaws.{LosesNoChange, GivesRawPaths, InventsNoRename};
-ghost use Rattle.debounce_access.specs.Adds.{Adds, AddsFed, AddsTick, CommandMakes, GainsTick};
-ghost use Rattle.debounce_access.specs.Happened.{Missed, accepted, entries_of, is_emitting, journal_of};
-ghost use Rattle.debounce_access.specs.Stands.{GoesOn, IsTold, Lasts, Stands, StaysButTells, ToldJournal, opening, seen_by, tells_of};
+ghost use Rattle.debounce_access.specs.Adds.{Adds, AddsTick, CommandMakes, GainsFed, GainsOne, GainsTick};
+ghost use Rattle.debounce_access.specs.Happened.{Missed, accepted, entries_of, is_emitting, is_fed, journal_of};
+ghost use Rattle.debounce_access.specs.Stands.{GoesOn, HasAllFed, IsTold, Lasts, Stands, StaysButFeeds, StaysButTells, ToldJournal, feeds_of, opening, seen_by, tells_of};
 
 use crate::locked::{BookLock, BookPass, Goes, Locked, TakesOut};
 use crate::made::Made;
@@ -41,7 +41,7 @@ pub struct Access<C: Drop, A: Allocator> {
 impl<C: Drop, A: Allocator> Model for Access<C, A> {
     ghost use Rattle.std.specs.Arc.{arc_value};
     ghost use Rattle.told_lock.specs.Passes.{IsPassOf};
-    ghost use Rattle.debounce_access.specs.Stands.{Reach, keeps_of, seen_by, taken_by, tells_of};
+    ghost use Rattle.debounce_access.specs.Stands.{Reach, feeds_of, keeps_of, seen_by, taken_by, tells_of};
 
     ghost Value = { Reach };
 
@@ -51,17 +51,18 @@ impl<C: Drop, A: Allocator> Model for Access<C, A> {
       out = taken_by a.pass;
       keeps = keeps_of a.pass;
       tells = tells_of a.pass;
+      feeds = feeds_of a.pass;
     } };
 
     ghost invariant = { λ a. IsPassOf (arc_value a.lock).table.shared.table_id a.pass };
 }
 
 impl<C: Drop, A: Allocator + Copy> Access<C, A> {
-    /// Puts a new book under a lock. This way to it alone takes entries out, and emits.
+    /// Puts a new book under a lock. This way to it alone takes entries out, emits and feeds.
     pub fn open(alloc: A, book: Book<C, A>) -> Result<Access<C, A>, AllocError>
         requires { Stands book 0 [] (opening book) }
         ensures seen { IfOk result (λ a. (a.seen ≡ opening book) × (a.out ≡ [])) }
-        ensures rights { IfOk result (λ a. (a.keeps ≡ true) × (a.tells ≡ true)) }
+        ensures rights { IfOk result (λ a. (a.keeps ≡ true) × (a.tells ≡ true) × (a.feeds ≡ true)) }
     {
         let held = Locked {
             book: Box::new(alloc, book)?,
@@ -95,6 +96,18 @@ impl<C: Drop, A: Allocator + Copy> Access<C, A> {
         let pass = self.lock.telling(&mut self.pass);
         Ok(Access { lock, pass })
     }
+
+    /// Another way to the book, which alone feeds from then on.
+    pub fn feeding(&mut self) -> Result<Access<C, A>, AllocError>
+        requires { self.old.feeds ≡ true }
+        ensures same { StaysButFeeds self.old self.new }
+        ensures other { IfOk result (λ a.
+            (a.lock ≡ self.old.lock) × (a.seen ≡ self.old.seen) × (a.feeds ≡ true)) }
+    {
+        let lock = Arc::try_clone(&self.lock)?;
+        let pass = self.lock.feeding(&mut self.pass);
+        Ok(Access { lock, pass })
+    }
 }
 
 impl<C: Drop, A: Allocator> Access<C, A> {
@@ -111,7 +124,8 @@ impl<C: Drop, A: Allocator> Access<C, A> {
     pub fn into_pass(self) -> BookPass<C, A>
         ensures lock { result.table_id ≡ self.lock }
         ensures free { result.me.1 ≡ [] }
-        ensures same { (seen_by result ≡ self.seen) × (tells_of result ≡ self.tells) }
+        ensures same { (seen_by result ≡ self.seen) × (tells_of result ≡ self.tells)
+            × (feeds_of result ≡ self.feeds) }
     {
         let Access { lock: _, pass } = self;
         pass
@@ -129,10 +143,11 @@ impl<C: Drop, A: Allocator> Access<C, A> {
         lock.give::<Unchanged>(guard, pass, held);
     }
 
-    /// Notes that an event or an error was refused.
+    /// Notes that an event or an error was refused. Nothing else was fed or missed since the last such call.
     pub fn miss<R: Wait>(&mut self, rt: &R)
+        requires { self.old.feeds ≡ true }
         ensures lasts { Lasts self.old self.new }
-        ensures missed { Adds self.old.seen Missed self.new.seen }
+        ensures missed { GainsOne self.old.seen Missed self.new.seen }
     {
         let Access { lock, pass } = self;
         let (guard, mut held) = lock.take(rt, pass);
@@ -143,7 +158,8 @@ impl<C: Drop, A: Allocator> Access<C, A> {
 }
 
 impl<C: FileIdCache<A> + Drop, A: Allocator + Copy> Access<C, A> {
-    /// Takes an event or an error at a moment. It is in every history that is seen later.
+    /// Takes an event or an error at a moment. It is in every history that is seen later, and nothing else was fed
+    /// or missed since the last such call.
     pub fn feed<R: Wait>(
         &mut self,
         rt: &R,
@@ -151,8 +167,10 @@ impl<C: FileIdCache<A> + Drop, A: Allocator + Copy> Access<C, A> {
         now: Moment,
         exists: bool,
     ) -> Result<(), Error<A>>
+        requires { self.old.feeds ≡ true }
         ensures lasts { Lasts self.old self.new }
-        ensures ok { OnOk result (AddsFed self.old.seen item now exists self.new.seen) }
+        ensures ok { OnOk result (GainsFed self.old.seen item now exists self.new.seen) }
+        ensures err { OnErr result (picked is_fed self.new.seen ≡ picked is_fed self.old.seen) }
     {
         let Access { lock, pass } = self;
         let (guard, mut held) = lock.take(rt, pass);
@@ -290,13 +308,45 @@ impl<C: Drop, A: Allocator + Copy> Access<C, A> {
         let (guard, held) = lock.take(rt, &mut pass);
         lock.compare(&mut pass, teller);
         drop(guard);
-        let Locked {
-            book,
-            missed,
-            made: _,
-        } = held;
-        (Box::into_inner(book), missed)
+        end_of(held)
     }
+
+    /// Waits as `close` does. `worker` is the pass by which all was emitted that was, and `feed` the one by which all
+    /// was fed or missed.
+    pub fn close_fed<R: Wait + Clock>(
+        self,
+        rt: &R,
+        worker: BookPass<C, A>,
+        feed: BookPass<C, A>,
+    ) -> (Book<C, A>, u64)
+        requires keeps { self.keeps ≡ true }
+        requires lock { (worker.table_id ≡ self.lock) × (worker.me.1 ≡ [])
+            × (feed.table_id ≡ self.lock) × (feed.me.1 ≡ []) }
+        requires tells { tells_of worker ≡ true }
+        requires feeds { feeds_of feed ≡ true }
+        ensures told { (told : IsTold self.seen (seen_by worker) (entries_of self.out) result.0
+            result.1) × HasAllFed (seen_by feed) told.0 }
+    {
+        let Access { lock, mut pass } = self;
+        let lock = wait_for_last(rt, lock);
+        let (guard, held) = lock.take(rt, &mut pass);
+        lock.compare(&mut pass, worker);
+        lock.compare(&mut pass, feed);
+        drop(guard);
+        end_of(held)
+    }
+}
+
+/// The book and the count of what was missed, as they were under the lock.
+fn end_of<C: Drop, A: Allocator>(held: Locked<C, A>) -> (Book<C, A>, u64)
+    ensures { (result.0 ≡ held.book.value) × (result.1 ≡ held.missed) }
+{
+    let Locked {
+        book,
+        missed,
+        made: _,
+    } = held;
+    (Box::into_inner(book), missed)
 }
 
 /// Waits until all others have dropped the value, and returns it.

@@ -18,14 +18,14 @@ pub struct Locked<C: Drop, A: Allocator> {
 }
 
 impl<C: Drop, A: Allocator> Told<Happened> for Locked<C, A> {
-    ghost use Rattle.debounce_access.specs.Happened.{is_emitting};
+    ghost use Rattle.debounce_access.specs.Happened.{told_as};
     ghost use Rattle.debounce_access.specs.Stands.{Stands, opening};
 
     ghost begins = { λ l. opening l.book.value };
 
     ghost stands = { λ l out log. Stands l.book.value l.missed out log };
 
-    ghost told = { is_emitting };
+    ghost told = { told_as };
 }
 
 /// The history goes on by the step that was done.

@@ -62,15 +62,6 @@ pub(crate) fn give_first<A: Allocator>(
     }
 }
 
-/// Empties the slot, if its event is due.
-pub(crate) fn trim_slot<A: Allocator>(slot: &mut Option<DebouncedEvent<A>>, due: Due)
-    ensures { slot.new ≡ rest_of (is_due due) slot.old }
-{
-    if is_slot_due(slot, due) {
-        *slot = None;
-    }
-}
-
 /// How many events the slot holds.
 pub fn held<A: Allocator>(slot: &Option<DebouncedEvent<A>>) -> u64
     ensures { result ≡ held slot.now }

@@ -1,5 +1,4 @@
-//! The calls of a book: each is the call of the core that has its name, and one entry. (With a journal a tick
-//! is the core's call that also copies.)
+//! The calls of a book: each is the call of the core that has its name, and one entry.
 ghost use Rattle.std.specs.Prelude.{◌≡◌, IfErr, IfOk, OnOk};
 ghost use Rattle.notify_paths.specs.Errors.{out_of_memory};
 ghost use Rattle.debounce_model.specs.Command.{EventCommand, ErrorCommand, RootCommand, UnrootCommand, ErrorsCommand, TickCommand, TakenReply, NotedReply, RootedReply, UnrootedReply, ErrorsReply, BatchReply};
@@ -145,8 +144,8 @@ impl<C: FileIdCache<A>, A: Allocator + Copy> Book<C, A> {
     }
 
     /// Emits what is expired at the moment. With a journal each tick is an entry, also one that emits
-    /// nothing, and can be refused for want of room for it. The entry's batch is a copy, which the core makes
-    /// before it moves anything out: what was moved out couldn't be put back after a refusal.
+    /// nothing, and can be refused for want of room for it. The entry's batch is a copy, which is asked for
+    /// before the tick: what was emitted couldn't be put back after a refusal.
     pub(crate) fn debounced_events(
         &mut self,
         from: usize,
@@ -167,7 +166,8 @@ impl<C: FileIdCache<A>, A: Allocator + Copy> Book<C, A> {
             return core.debounced_events(now);
         };
         reserve(*alloc, journal)?;
-        let (batch, copy) = core.debounced_events_and_copy(now)?;
+        let copy = core.batch_at(now)?;
+        let batch = core.debounced_events(now)?;
         write(journal, from, Command::Tick(now), Reply::Batch(copy));
         Ok(batch)
     }

@@ -124,7 +124,7 @@ impl Desk {
         Ok(())
     }
 
-    /// Emits what is expired. The entry's batch is a copy, which the core makes before it moves anything out.
+    /// Emits what is expired. The entry's batch is a copy, which is asked for before the tick.
     pub(crate) fn emit(&mut self, now: Moment) -> Result<Vec<DebouncedEvent>, Fault>
         ensures batch { IfOk result (λ batch. IsBatch self.old.core.state now batch.items) }
         ensures only { IfOk result (λ batch. IsOnlyBatch self.old.core.state now batch.items) }
@@ -144,7 +144,10 @@ impl Desk {
         let Ok(()) = reserve(journal) else {
             return Err(Fault::NoMemory);
         };
-        let Ok((batch, copy)) = core.debounced_events_and_copy(now) else {
+        let Ok(copy) = core.batch_at(now) else {
+            return Err(Fault::NoMemory);
+        };
+        let Ok(batch) = core.debounced_events(now) else {
             return Err(Fault::NoMemory);
         };
         write(journal, Command::Tick(now), Reply::Batch(copy));

@@ -11,13 +11,14 @@ ghost use Rattle.debounce_book.specs.JournalLaws.{LosesNoChange, GivesRawPaths, 
 ghost use Rattle.told_lock.specs.History.{Begins, picked};
 ghost use Rattle.debounce_access.specs.Adds.{Adds};
 ghost use Rattle.debounce_access.specs.Happened.{Opened, accepted, entries_of, is_emitting, journal_of};
-ghost use Rattle.debounce_access.specs.Stands.{IsStarted, RunsOn, StaysButTells};
+ghost use Rattle.debounce_access.specs.Stands.{IsStarted, RunsOn, StaysButRights};
 ghost use Rattle.debounce_turns.specs.Clock.{IsIo};
 ghost use Rattle.debounce_turns.specs.Handed.{LeavesAll};
 ghost use Rattle.debounce_turns.specs.Watched.{AsksFirst, ListsFirst};
-ghost use Rattle.debounce_turns.specs.Ended.{EndsJournal, IsEnded};
+ghost use Rattle.debounce_turns.specs.Ended.{EndsJournal, IsEnded, IsEndedFed};
 ghost use Rattle.debounce_shell.specs.Start.{IsStartError, IsStopped, IsTooSlow, too_slow, tick_nanos};
 
+use crate::by_hand::ByHand;
 use crate::worker::{Worker, start_worker};
 use debounce_book::book::Book;
 use debounce_book::entry::Entry;
@@ -41,7 +42,7 @@ use std::snapshot::Snapshot;
 use std::sync::Wait;
 use std::sync::atomic::Ordering;
 use std::thread::Threads;
-use std::time::{Clock, Duration, Instant};
+use std::time::{Clock, Duration};
 
 /// A debouncer that runs: a watcher of type `T` feeds it, and a thread of its own calls the handler.
 /// `C` is the cache of file numbers, and `R` the runtime.
@@ -58,11 +59,9 @@ pub struct Debouncer<
     A: Allocator = Global,
     L: Leaves = Forgotten,
 > {
-    watcher: T,
-    shared: Shared<C, R, A>,
-    worker: Worker<C, L, A>,
-    /// The moment from which it counts.
-    start: Instant,
+    pub(crate) watcher: T,
+    pub(crate) shared: Shared<C, R, A>,
+    pub(crate) worker: Worker<C, L, A>,
 }
 
 impl<T: Drop, C: Drop, R: Threads + Wait + Drop, A: Allocator, L: Leaves> Model
@@ -94,7 +93,6 @@ impl<T: Drop, C: Drop, R: Threads + Wait + Drop, A: Allocator, L: Leaves> Drop
             watcher: _,
             shared: _,
             worker: _,
-            start: _,
         } = self;
     }
 }
@@ -209,7 +207,7 @@ pub fn new_told_debouncer<
 
 /// How long the worker sleeps before each turn: the tick rate, if it isn't above the timeout, and
 /// without one a quarter of the timeout.
-fn tick_of(timeout: Duration, tick_rate: Option<Duration>) -> Option<Duration>
+pub(crate) fn tick_of(timeout: Duration, tick_rate: Option<Duration>) -> Option<Duration>
     ensures some { IfSome result (λ tick. as_nanos tick ≡ tick_nanos timeout tick_rate) }
     ensures none { (result ≡ None) ↔ IsTooSlow timeout tick_rate }
 {
@@ -241,24 +239,20 @@ fn start<
     requires ready { F.ready handler }
     requires leaves { LeavesAll F.handles E.ends L.tells handler began.value }
     requires takes { (feed : _) → T.takes feed }
-    requires rights { (shared.owner.keeps ≡ true) × (shared.owner.tells ≡ true) }
+    requires rights { (shared.owner.keeps ≡ true) × (shared.owner.tells ≡ true)
+        × (shared.owner.feeds ≡ true) }
     requires fresh { (picked is_emitting shared.owner.seen ≡ []) × (shared.owner.out ≡ []) }
     ensures opened { IfOk result (λ d.
         (d.seen ≡ shared.owner.seen) × (d.parts ≡ []) × (d.is_whole ≡ true)
         × (d.began ≡ began.value)) }
     ensures err { IfErr result (IsStopped T.refuses) }
 {
-    let Fed {
-        feed,
-        worker,
-        start,
-    } = start_fed::<F, E, L, C, R, A>(&mut shared, tick, handler, began)?;
+    let Fed { feed, worker } = start_fed::<F, E, L, C, R, A>(&mut shared, tick, handler, began)?;
     match start_watcher(shared.rt, shared.alloc, feed, config) {
         Ok(watcher) => Ok(Debouncer {
             watcher,
             shared,
             worker,
-            start,
         }),
         Err(error) => {
             shared.set_stop();
@@ -268,14 +262,13 @@ fn start<
 }
 
 /// A debouncer but for its watcher.
-struct Fed<C: Drop, R: Wait + Drop, L: Leaves, A: Allocator> {
-    feed: Feed<C, R, A>,
-    worker: Worker<C, L, A>,
-    start: Instant,
+pub(crate) struct Fed<C: Drop, R: Wait + Drop, L: Leaves, A: Allocator> {
+    pub(crate) feed: Feed<C, R, A>,
+    pub(crate) worker: Worker<C, L, A>,
 }
 
 /// Starts the worker, and makes the feed, which counts from the same start.
-fn start_fed<
+pub(crate) fn start_fed<
     F: DebounceEventHandler<DebounceEventResult<A>>,
     E: Ending<F, L> + Send + 'static,
     L: Leaves,
@@ -290,23 +283,21 @@ fn start_fed<
 ) -> Result<Fed<C, R, L, A>, Error<A>>
     requires ready { F.ready handler }
     requires leaves { LeavesAll F.handles E.ends L.tells handler began.value }
-    requires tells { shared.old.owner.tells ≡ true }
+    requires rights { (shared.old.owner.tells ≡ true) × (shared.old.owner.feeds ≡ true) }
     requires fresh { picked is_emitting shared.old.owner.seen ≡ [] }
-    ensures same { StaysButTells shared.old.owner shared.new.owner }
+    ensures same { StaysButRights shared.old.owner shared.new.owner }
     ensures ok { IfOk result (λ f.
         (f.worker.promise.access.value.lock ≡ shared.old.owner.lock)
         × (f.worker.promise.began.value ≡ began.value)) }
+    ensures feed { IfOk result (λ f. (f.feed.lock ≡ shared.old.owner.lock)
+        × (f.feed.seen ≡ shared.old.owner.seen)) }
     ensures err { IfErr result (λ e. (e ≡ out_of_memory) ⊎ IsIo e) }
 {
     let start = start_of(&shared.rt, shared.alloc)?;
     let feed = shared.feed(start)?;
     let pace = Pace { start, tick };
     let worker = start_worker::<F, E, L, C, R, A>(shared, handler, began, pace)?;
-    Ok(Fed {
-        feed,
-        worker,
-        start,
-    })
+    Ok(Fed { feed, worker })
 }
 
 /// Makes the watcher and starts its thread.
@@ -399,7 +390,7 @@ impl<
     /// has applied all that the watcher reported, but for what was missed. The journal comes out by
     /// `into_journal`, and is not copied; the last part of one that was taken in parts, by `take_journal`.
     ///
-    /// It waits until each [`Feed`] was dropped: for ever, if a watcher keeps one after its own drop.
+    /// It waits until the [`Feed`] was dropped: for ever, if the watcher keeps it after its own drop.
     pub fn finish(self) -> (Book<C, A>, u64)
         ensures ended { (left : L)
             × IsEnded (L.tells self.began) left self.seen self.parts result.0 result.1 }
@@ -424,13 +415,38 @@ impl<
             mut watcher,
             shared,
             worker,
-            start: _,
         } = self;
         watcher.look_last();
         drop(watcher);
         let (teller, left) = worker.join(&shared.rt);
         let (book, missed) = shared.into_book(teller);
         (book, missed, left)
+    }
+}
+
+impl<
+    C: FileIdCache<A> + Drop + Send + 'static,
+    R: Threads + Wait + Clock + Files + Copy + Send + Sync + 'static,
+    A: Allocator + Copy + Send + Sync + 'static,
+    L: Leaves,
+> Debouncer<ByHand, C, R, A, L> {
+    /// Stops as `finish` does, and takes the feed: all that was fed is what the feed shows.
+    pub fn finish_fed(self, feed: Feed<C, R, A>) -> (Book<C, A>, u64)
+        requires { feed.lock ≡ self.lock }
+        ensures ended { (left : L) × IsEndedFed (L.tells self.began) left self.seen feed.seen
+            self.parts result.0 result.1 }
+        ensures legal { IfSome result.0.journal (λ es. IsLegal es result.0.core.state) }
+        ensures part { IfSome result.0.part (λ es. IsPart es result.0.core.state) }
+    {
+        self.shared.set_stop();
+        let Self {
+            watcher: _,
+            shared,
+            worker,
+        } = self;
+        let (emitted, left) = worker.join(&shared.rt);
+        drop(left);
+        shared.into_book_fed(emitted, feed)
     }
 }
 
@@ -493,18 +509,6 @@ impl<T: Drop, C: Drop, R: Threads + Wait + Clock + Drop, A: Allocator + Copy, L:
         self.shared.owner.take_journal(&self.shared.rt)
     }
 
-    /// Returns another feed of this debouncer, for whoever reports by hand what its watcher doesn't.
-    /// `finish` waits until it was dropped.
-    pub fn feed(&mut self) -> Result<Feed<C, R, A>, Error<A>>
-    where
-        R: Copy,
-        ensures unchanged { self.new ≡ self.old }
-        ensures ok { IfOk result (λ f. (f.lock ≡ self.old.lock) × (f.seen ≡ self.old.seen)) }
-        ensures err { IfErr result (λ e. e ≡ out_of_memory) }
-    {
-        self.shared.feed(self.start)
-    }
-
     /// Looks at the history up to now. What the receipt shows is in it.
     pub fn catch_up(&mut self, receipt: Receipt<C, A>)
         requires { receipt.lock ≡ self.old.lock }
@@ -525,7 +529,6 @@ impl<T: Drop, C: Drop, R: Threads + Wait + Clock + Drop, A: Allocator + Copy, L:
             watcher: _,
             shared,
             worker,
-            start: _,
         } = self;
         worker.join(&shared.rt);
     }
@@ -553,7 +556,6 @@ impl<T: Drop, C: Drop, R: Threads + Wait + Clock + Drop, A: Allocator + Copy, L:
             watcher: _,
             shared,
             worker,
-            start: _,
         } = self;
         let (teller, left) = worker.join(&shared.rt);
         drop(left);

@@ -14,8 +14,11 @@
 //!     new_debouncer_opt(rt, rt.alloc(), timeout, None, handler, NoCache::new(), Config::default())?;
 //! debouncer.watch(&path, RecursiveMode::Recursive)?;
 //! ```
+//!
+//! [`by_hand::new_debouncer_by_hand`] starts one without a watcher, and returns its feed.
 #![tactic(auto)]
 
+pub mod by_hand;
 pub mod debouncer;
 pub mod send_to;
 mod worker;

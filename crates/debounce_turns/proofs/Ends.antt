@@ -7,8 +7,8 @@ use Rattle.debounce_book.specs.Journal.{EntryValue}
 use Rattle.debounce_book.proofs.JournalRuns.{journal_gives_raw_paths, journal_invents_no_rename, journal_loses_no_change}
 use Rattle.told_lock.specs.History.{picked}
 use Rattle.debounce_access.specs.Happened.{History, entries_of, is_emitting}
-use Rattle.debounce_access.specs.Stands.{IsTold, ToldJournal}
-use Rattle.debounce_turns.specs.Ended.{EndsJournal, IsEnded}
+use Rattle.debounce_access.specs.Stands.{HasAllFed, IsTold, ToldJournal}
+use Rattle.debounce_turns.specs.Ended.{EndsJournal, IsEnded, IsEndedFed}
 
 module _ {L : Type 0} (tells : L → History → Type 0) (left : L) where
   -- what is left tells all that was emitted
@@ -24,6 +24,16 @@ module _ {L : Type 0} (tells : L → History → Type 0) (left : L) where
         book.core.state refl led.legal paths rest ordered honest shown;
     kept = journal_loses_no_change book.core.state.timeout (entries_of log);
     founded = journal_invents_no_rename book.core.state.timeout (entries_of log);
+  }
+
+  -- .. and the feed has seen all that was fed
+  pub ends_fed : {C : Type 0} (seen told fed : History) (parts : List EntryValue) (book : Kept C) (count : ℕ)
+      → ((all : IsTold seen told parts book count) × HasAllFed fed all.0) → tells left (picked is_emitting told)
+      → IsEndedFed tells left seen fed parts book count
+  unfolding ends
+  ends_fed seen told fed parts book count ((log, goes, begins, led, same), all_fed) says = record {
+    ended = ends seen told parts book count (log, goes, begins, led, same) says;
+    all_fed = all_fed;
   }
 
   pub ends_journal : {A : Type 0} (seen told : History) (res : Result (ℕ × Vec EntryValue A) ErrorValue)

@@ -7,7 +7,7 @@ use Rattle.debounce_book.specs.Journal.{EntryValue}
 use Rattle.debounce_book.specs.JournalLaws.{EndsInRawPaths, InventsNoRename, LosesNoChange}
 use Rattle.told_lock.specs.History.{Begins, picked}
 use Rattle.debounce_access.specs.Happened.{History, entries_of, is_emitting, is_journaled, journal_of}
-use Rattle.debounce_access.specs.Stands.{BeginsAs, LeadsTo}
+use Rattle.debounce_access.specs.Stands.{BeginsAs, HasAllFed, LeadsTo}
 
 -- one history goes on from what was seen and leads to the book and to the count, and what is left of the handler tells
 -- what was emitted in it. Who played every batch, and then what waits, has the raw paths; without renames no change
@@ -21,6 +21,13 @@ pub record IsEnded {C L : Type 0} (tells : L → History → Type 0) (left : L) 
   pub raw : (rest : List Timed) → IsOutlook book.core.state rest → EndsInRawPaths (entries_of log) rest
   pub kept : LosesNoChange book.core.state.timeout (entries_of log)
   pub founded : InventsNoRename book.core.state.timeout (entries_of log)
+
+-- .. of a debouncer whose feed came back: it has seen a beginning of that history, in which nothing else was fed or
+-- missed
+pub record IsEndedFed {C L : Type 0} (tells : L → History → Type 0) (left : L) (seen fed : History)
+    (parts : List EntryValue) (book : Kept C) (count : ℕ) : Type 0 where
+  pub ended : IsEnded tells left seen parts book count
+  pub all_fed : HasAllFed fed ended.log
 
 -- these are the timeout and the journal of one history that goes on from what was seen, and what is left of the handler
 -- tells what was emitted in it

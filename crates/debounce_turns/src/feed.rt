@@ -1,13 +1,15 @@
 //! What a watcher reports to.
-ghost use Rattle.std.specs.Prelude.{◌≡◌, ℕ, Bool, [], IfErr, IfOk, OnErr, OnOk};
+ghost use Rattle.std.specs.Prelude.{◌≡◌, ℕ, Bool, [], true, IfErr, IfOk, OnErr, OnOk};
 ghost use Rattle.notify_paths.specs.Errors.{out_of_memory};
-ghost use Rattle.told_lock.specs.History.{Begins};
-ghost use Rattle.debounce_access.specs.Adds.{AddsFed, AddsItem};
-ghost use Rattle.debounce_access.specs.Stands.{Lasts};
+ghost use Rattle.told_lock.specs.History.{Begins, picked};
+ghost use Rattle.debounce_access.specs.Adds.{GainsFed, GainsItem};
+ghost use Rattle.debounce_access.specs.Happened.{is_fed};
+ghost use Rattle.debounce_access.specs.Stands.{Lasts, StaysButFeeds, feeds_of, seen_by};
 
 use crate::clock::now;
+use crate::feeding::Feeding;
 use crate::shared::{Shared, Signals};
-use debounce_access::access::Access;
+use crate::turn::feed_one;
 use debounce_access::locked::BookPass;
 use file_id_cache::cache::FileIdCache;
 use notify_paths::error::Error;
@@ -21,13 +23,15 @@ use std::sync::atomic::Ordering;
 use std::sync::{Arc, Wait};
 use std::time::{Clock, Instant};
 
-/// The handler that a debouncer gives to its watcher: it feeds events and errors to the book. Clauses
+/// The handler that a debouncer gives to its watcher: it alone feeds events and errors to the book. Clauses
 /// see how much of the book's history it has seen.
+///
+/// A debouncer has one, which can't be cloned.
 #[derive(Drop)]
 pub struct Feed<C: Drop, R: Wait + Drop, A: Allocator = Global> {
     rt: R,
     alloc: A,
-    access: Access<C, A>,
+    gate: Feeding<C, R, A>,
     signals: Arc<Signals, A>,
     start: Instant,
 }
@@ -37,7 +41,7 @@ impl<C: Drop, R: Wait + Drop, A: Allocator> Model for Feed<C, R, A> {
 
     ghost Value = { Known };
 
-    ghost view = { λ f. record { lock = f.access.lock; seen = f.access.seen } };
+    ghost view = { λ f. record { lock = f.gate.lock; seen = f.gate.seen } };
 }
 
 /// Shows that something was taken. Clauses see the history up to then. It has no bytes.
@@ -58,19 +62,20 @@ impl<C: Drop, A: Allocator> Model for Receipt<C, A> {
 }
 
 impl<C: Drop, R: Wait + Copy + Drop, A: Allocator + Copy> Shared<C, R, A> {
-    /// A feed of the debouncer, which counts from this start.
+    /// The feed of the debouncer, which counts from this start, and alone feeds from then on.
     pub fn feed(&mut self, start: Instant) -> Result<Feed<C, R, A>, Error<A>>
-        ensures same { self.new.owner ≡ self.old.owner }
+        requires { self.old.owner.feeds ≡ true }
+        ensures same { StaysButFeeds self.old.owner self.new.owner }
         ensures ok { IfOk result (λ f.
             (f.lock ≡ self.old.owner.lock) × (f.seen ≡ self.old.owner.seen)) }
         ensures err { IfErr result (λ e. e ≡ out_of_memory) }
     {
-        let access = self.another()?;
+        let access = self.feeding()?;
         let signals = self.signals()?;
         Ok(Feed {
             rt: self.rt,
             alloc: self.alloc,
-            access,
+            gate: Feeding::new(self.rt, access),
             signals,
             start,
         })
@@ -96,17 +101,17 @@ impl<
 > EventHandler<Result<Event<A>, Error<A>>> for Feed<C, R, A> {
     ghost ready = { λ _. Unit {0} };
 
-    ghost handles = { λ old item new. (new.lock ≡ old.lock) × AddsItem old.seen item new.seen };
+    ghost handles = { λ old item new. (new.lock ≡ old.lock) × GainsItem old.seen item new.seen };
 
-    /// Feeds an event or an error to the book. One that is refused is counted as missed, under the lock for
+    /// Feeds an event or an error to the book, once. One that is refused is counted as missed, under the lock for
     /// `finish`, and beside it for `Debouncer::missed`.
     fn handle_event(&mut self, event: Result<Event<A>, Error<A>>)
         ensures again { Unit {0} }
         ensures handled { (self.new.lock ≡ self.old.lock)
-            × AddsItem self.old.seen event self.new.seen }
+            × GainsItem self.old.seen event self.new.seen }
     {
         if self.feed(event).is_err() {
-            self.access.miss(&self.rt);
+            self.gate.miss();
             self.signals.missed.fetch_add(1, Ordering::SeqCst);
         }
     }
@@ -118,15 +123,16 @@ impl<C: FileIdCache<A> + Drop, R: Clock + Files + Wait + Drop, A: Allocator + Co
     pub fn feed(&mut self, item: Result<Event<A>, Error<A>>) -> Result<(), Error<A>>
         ensures lock { self.new.lock ≡ self.old.lock }
         ensures ok { OnOk result ((now : ℕ) × (exists : Bool)
-            × AddsFed self.old.seen item now exists self.new.seen) }
-        ensures err { OnErr result (Begins self.old.seen self.new.seen) }
+            × GainsFed self.old.seen item now exists self.new.seen) }
+        ensures err { OnErr result (Begins self.old.seen self.new.seen
+            × (picked is_fed self.new.seen ≡ picked is_fed self.old.seen)) }
     {
         let exists = match &item {
             Ok(event) => exists(&self.rt, event),
             Err(_) => false,
         };
         let now = now(&self.rt, self.alloc, self.start)?;
-        self.access.feed(&self.rt, item, now, exists)
+        feed_one(&mut self.gate, item, now, exists)
     }
 }
 
@@ -137,8 +143,24 @@ impl<C: Drop, R: Wait + Drop, A: Allocator> Feed<C, R, A> {
         ensures shown { result ≡ self.old }
     {
         Receipt {
-            pass: self.access.shown(),
+            pass: self.gate.shown(),
         }
+    }
+
+    /// The pass alone, by which it fed.
+    pub(crate) fn into_pass(self) -> BookPass<C, A>
+        ensures lock { result.table_id ≡ self.lock }
+        ensures free { result.me.1 ≡ [] }
+        ensures same { (seen_by result ≡ self.seen) × (feeds_of result ≡ true) }
+    {
+        let Feed {
+            rt: _,
+            alloc: _,
+            gate,
+            signals: _,
+            start: _,
+        } = self;
+        gate.into_pass()
     }
 }
 

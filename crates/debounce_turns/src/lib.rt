@@ -8,6 +8,7 @@
 
 pub mod clock;
 pub mod feed;
+pub mod feeding;
 pub mod left;
 pub mod life;
 pub mod shared;

@@ -6,7 +6,7 @@ ghost use Rattle.debounce_book.specs.Journal.{IsJournal, IsLegal, IsPart};
 ghost use Rattle.debounce_book.specs.JournalLaws.{LosesNoChange, GivesRawPaths, InventsNoRename};
 ghost use Rattle.debounce_access.specs.Adds.{Adds};
 ghost use Rattle.debounce_access.specs.Happened.{accepted, entries_of};
-ghost use Rattle.debounce_access.specs.Stands.{IsTold, Lasts, Stands, StaysButTells, ToldJournal, opening, seen_by, tells_of};
+ghost use Rattle.debounce_access.specs.Stands.{HasAllFed, IsTold, Lasts, Stands, StaysButFeeds, StaysButTells, ToldJournal, opening, seen_by, tells_of};
 ghost use Rattle.debounce_turns.specs.Watched.{AsksFirst};
 
 use crate::feed::Feed;
@@ -70,7 +70,7 @@ impl<C: Drop, R: Wait + Copy + Drop, A: Allocator + Copy> Shared<C, R, A> {
         ensures seen { IfOk result (λ s.
             (s.owner.seen ≡ opening book) × (s.owner.out ≡ [])) }
         ensures rights { IfOk result (λ s.
-            (s.owner.keeps ≡ true) × (s.owner.tells ≡ true)) }
+            (s.owner.keeps ≡ true) × (s.owner.tells ≡ true) × (s.owner.feeds ≡ true)) }
         ensures err { IfErr result (λ e. e ≡ out_of_memory) }
     {
         let Ok(owner) = Access::open(alloc, book) else {
@@ -109,6 +109,20 @@ impl<C: Drop, R: Wait + Copy + Drop, A: Allocator + Copy> Shared<C, R, A> {
         ensures err { IfErr result (λ e. e ≡ out_of_memory) }
     {
         match self.owner.telling() {
+            Ok(access) => Ok(access),
+            Err(_) => Err(Error::out_of_memory(self.alloc)),
+        }
+    }
+
+    /// The feed's way to the book, which alone feeds.
+    pub fn feeding(&mut self) -> Result<Access<C, A>, Error<A>>
+        requires { self.old.owner.feeds ≡ true }
+        ensures same { StaysButFeeds self.old.owner self.new.owner }
+        ensures other { IfOk result (λ a. (a.lock ≡ self.old.owner.lock)
+            × (a.seen ≡ self.old.owner.seen) × (a.feeds ≡ true)) }
+        ensures err { IfErr result (λ e. e ≡ out_of_memory) }
+    {
+        match self.owner.feeding() {
             Ok(access) => Ok(access),
             Err(_) => Err(Error::out_of_memory(self.alloc)),
         }
@@ -185,6 +199,30 @@ impl<C: FileIdCache<A> + Drop, R: Wait + Clock + Drop, A: Allocator + Copy> Shar
         } = self;
         let (book, missed) = owner.close(&rt, teller);
         // This call shows the proof that the journal is legal, or the part of it.
+        let _ = book.is_journaled();
+        (book, missed)
+    }
+
+    /// Returns the book as `into_book` does. `worker` is the pass by which all was emitted that was, and by this feed
+    /// alone was fed.
+    pub fn into_book_fed(self, worker: BookPass<C, A>, feed: Feed<C, R, A>) -> (Book<C, A>, u64)
+        requires keeps { self.owner.keeps ≡ true }
+        requires lock { (worker.table_id ≡ self.owner.lock) × (worker.me.1 ≡ []) }
+        requires tells { tells_of worker ≡ true }
+        requires feed { feed.lock ≡ self.owner.lock }
+        ensures told { (told : IsTold self.owner.seen (seen_by worker) (entries_of self.owner.out)
+            result.0 result.1) × HasAllFed feed.seen told.0 }
+        ensures legal { IfSome result.0.journal (λ es. IsLegal es result.0.core.state) }
+        ensures part { IfSome result.0.part (λ es. IsPart es result.0.core.state) }
+    {
+        let Shared {
+            rt,
+            alloc: _,
+            owner,
+            signals: _,
+        } = self;
+        let (book, missed) = owner.close_fed(&rt, worker, feed.into_pass());
+        // As in `into_book`.
         let _ = book.is_journaled();
         (book, missed)
     }

@@ -1,16 +1,15 @@
 //! The worker's way to a book.
-ghost use Rattle.std.specs.Prelude.{◌≡◌, [], true, OnErr, OnOk};
-ghost use Rattle.told_lock.specs.History.{Begins};
-ghost use Rattle.debounce_access.specs.Adds.{AddsFed, TicksOn};
+ghost use Rattle.std.specs.Prelude.{◌≡◌, [], true};
+ghost use Rattle.debounce_access.specs.Adds.{TicksOn};
 ghost use Rattle.debounce_access.specs.Stands.{seen_by, tells_of};
 
-use crate::turn::Gate;
+use crate::turn::TickGate;
 use debounce_access::access::Access;
 use debounce_access::locked::BookPass;
 use debounce_book::steps::Ticked;
 use file_id_cache::cache::FileIdCache;
 use notify_paths::error::Error;
-use notify_types::event::{DebouncedEvent, Event};
+use notify_types::event::DebouncedEvent;
 use notify_types::time::Moment;
 use std::alloc::Allocator;
 use std::marker::Model;
@@ -55,34 +54,14 @@ impl<C: Drop, R: Wait + Drop, A: Allocator> Ticking<C, R, A> {
     }
 }
 
-impl<C: FileIdCache<A> + Drop, R: Wait + Drop, A: Allocator + Copy> Gate<
-    Event<A>,
+impl<C: FileIdCache<A> + Drop, R: Wait + Drop, A: Allocator + Copy> TickGate<
     Error<A>,
     Vec<DebouncedEvent<A>, A>,
     Vec<Error<A>, A>,
 > for Ticking<C, R, A> {
-    ghost use Rattle.std.specs.Prelude.{◌≡◌, OnErr, OnOk};
-    ghost use Rattle.told_lock.specs.History.{Begins};
-    ghost use Rattle.debounce_access.specs.Adds.{AddsFed, TicksOn};
-
-    ghost feeds = { λ old item now exists answer new. (new.lock ≡ old.lock)
-        × OnOk answer (AddsFed old.seen item now exists new.seen)
-        × OnErr answer (Begins old.seen new.seen) };
+    ghost use Rattle.debounce_access.specs.Adds.{TicksOn};
 
     ghost ticks = { λ old now batch errors new. TicksOn old now batch errors.items new };
-
-    fn feed(
-        &mut self,
-        item: Result<Event<A>, Error<A>>,
-        now: Moment,
-        exists: bool,
-    ) -> Result<(), Error<A>>
-        ensures { (self.new.lock ≡ self.old.lock)
-            × OnOk result (AddsFed self.old.seen item now exists self.new.seen)
-            × OnErr result (Begins self.old.seen self.new.seen) }
-    {
-        self.access.feed(&self.rt, item, now, exists)
-    }
 
     fn tick(&mut self, now: Moment) -> Ticked<A>
         ensures { TicksOn self.old now result.0 result.1.items self.new }

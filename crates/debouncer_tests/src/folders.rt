@@ -15,13 +15,13 @@ use std::time::Clock;
 use std::{env, fs, process};
 
 /// A path for the folder of one test.
-fn new_top(rt: &(impl Abort + AllocGlobal + Env), id: u32, name: &str) -> String {
+pub fn new_top(rt: &(impl Abort + AllocGlobal + Env), id: u32, name: &str) -> String {
     let base = env::temp_dir(rt).expect(rt, "a folder for tests");
     format!(in rt.alloc(); "{}/{name}_{id}", base.as_str()).expect(rt, "memory")
 }
 
 /// The path of an entry of the folder at `top`.
-fn entry(rt: &(impl Abort + AllocGlobal), top: &str, name: &str) -> String {
+pub fn entry(rt: &(impl Abort + AllocGlobal), top: &str, name: &str) -> String {
     format!(in rt.alloc(); "{top}{name}").expect(rt, "memory")
 }
 

@@ -18,6 +18,8 @@ mod listings;
 #[cfg(test)]
 mod memory;
 #[cfg(test)]
+mod moved;
+#[cfg(test)]
 mod readme;
 #[cfg(test)]
 mod rounds;

@@ -310,7 +310,7 @@ fn check_shut(rt: &(impl Abort + AllocGlobal), polled: &mut Polled, text: &str, 
     let shut = paths_of(rt, places);
     let mut notes = Notes::new(rt);
     let mut folders = ClosedFolders::new(rt.alloc(), tree(rt, rt.alloc(), text), shut);
-    polled.kept_round(&mut folders, &mut notes);
+    polled.kept_round(&mut folders, &mut None, &mut notes);
     check_notes(rt, &mut notes, line, wanted);
 }
 
@@ -325,7 +325,7 @@ fn check_peek(rt: &(impl Abort + AllocGlobal), polled: &mut Polled, text: &str, 
         tree(rt, rt.alloc(), text),
         paths_of(rt, place),
     );
-    polled.kept_look(&mut folders, &mut notes, paths.as_slice());
+    polled.kept_look(&mut folders, &mut None, &mut notes, paths.as_slice());
     check_notes(rt, &mut notes, line, wanted);
 }
 

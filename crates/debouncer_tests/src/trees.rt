@@ -40,7 +40,7 @@ pub fn roots<A: Allocator + Copy + Debug>(
     roots
 }
 
-/// The entries of a text, as `/ folder, /f file 3`.
+/// The entries of a text, as `/ folder, /f file 3`. A number, as in `/f file 3 #7`, is none of a listing.
 pub fn entries<A: Allocator + Copy + Debug>(
     rt: &impl Abort,
     alloc: A,
@@ -49,6 +49,7 @@ pub fn entries<A: Allocator + Copy + Debug>(
     let mut entries = Vec::new(alloc);
     for entry in text.split(", ") {
         let (place, found) = entry.split_once(' ').expect(rt, entry);
+        let (found, _number) = found.split_once(" #").unwrap_or((found, ""));
         let (kind, length) = found_of(rt, found);
         entries
             .push((path(rt, alloc, place), kind, length))
@@ -66,10 +67,10 @@ fn found_of(rt: &impl Abort, found: &str) -> (EntryKind, u64) {
     }
 }
 
-fn number(rt: &impl Abort, text: &str) -> u64 {
+pub fn number(rt: &impl Abort, text: &str) -> u64 {
     match text.parse::<u64>() {
         Ok(number) => number,
-        Err(_) => panic!(rt; "{text} is no length"),
+        Err(_) => panic!(rt; "{text} is no number"),
     }
 }
 
@@ -84,7 +85,7 @@ pub fn tree<A: Allocator + Copy + Debug>(rt: &impl Abort, alloc: A, text: &str) 
     TreeFolders::new(alloc, listing(rt, alloc, text)).expect(rt, text)
 }
 
-/// What the events say, as `Create(File) /f, Remove(Folder) /d`.
+/// What the events say, as `Create(File) /f, Remove(Folder) /d`, and `Create(File) /f #7` if there is a tracker.
 pub fn text_of(rt: &(impl Abort + AllocGlobal), events: &[Event]) -> String {
     let mut text = String::new(rt.alloc());
     for event in events {
@@ -100,7 +101,16 @@ fn add_event<A: Allocator>(text: &mut String, event: &Event<A>) -> Result<(), Al
         text.push(' ')?;
         text.push_str(place.as_str())?;
     }
-    Ok(())
+    add_tracker(text, event.tracker())
+}
+
+/// Adds the tracker, if there is one.
+fn add_tracker(text: &mut String, tracker: Option<u64>) -> Result<(), AllocError> {
+    let Some(tracker) = tracker else {
+        return Ok(());
+    };
+    let words = format!(in *text.allocator(); " #{tracker}")?;
+    text.push_str(words.as_str())
 }
 
 /// Adds the words, after a comma if there are others.

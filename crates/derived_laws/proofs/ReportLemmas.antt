@@ -1,7 +1,6 @@
 -- The events of steps that report all lead from listing to listing.
 use Rattle.std.proofs.Common.{◌≡◌, ◌∙◌, ap, refl, sym, subst, List, [], ◌∷◌, ◌++◌, append_assoc, inl, inr}
-use Rattle.std.specs.Prelude.{Result}
-use Rattle.std.specs.List.{AllByRecursion}
+use Rattle.std.specs.Prelude.{ℕ, Option, Result}
 use Rattle.std.specs.List.Sorted.{IsStrictlySortedBy}
 use Rattle.std.specs.Map.{keys_of}
 use mathlib.Core.List.{append-nil}
@@ -16,12 +15,13 @@ use Rattle.debounce_model.specs.Run.{Run}
 use Rattle.debounce_model.specs.State.{Core, waiting}
 use Rattle.debounce_model.specs.Tick.{IsOutlook}
 use Rattle.debounce_model.specs.WellFormed.{IsWellFormed}
-use Rattle.folder_listing.specs.Changes.{changes}
+use Rattle.folder_listing.specs.Changes.{LeadsTo}
 use Rattle.folder_listing.specs.Listing.{ListingValue, IsListing}
-use Rattle.poll_rounds.specs.Reports.{Notes, Reports, ReportAll, Reported, Begins, GoesOn, left_by}
+use Rattle.folder_listing.specs.Moves.{told_changes}
+use Rattle.folder_listing.proofs.MoveLemmas.{told_lead}
+use Rattle.poll_rounds.specs.Reports.{Notes, Tells, ReportAll, Reported, Begins, GoesOn, left_by}
 use Rattle.poll_rounds.specs.Rounds.{HandsEach}
-use Rattle.derived_laws.specs.Listings.{changes_through, last_of}
-use Rattle.derived_laws.proofs.ListingLemmas.{reader_has_the_last}
+use Rattle.derived_laws.proofs.ListingLemmas.{lead-append, reader_led}
 
 -- no entries ascend
 none_sorted : IsStrictlySortedBy path_cmp []
@@ -32,12 +32,11 @@ none_sorted = tt
 nothing : IsListing []
 nothing = record { ordered = none_sorted; nonempty = refl; closed = refl }
 
--- these listings, one after the other from the first on, end with the last, and the changes between them were noted
+-- events that were noted lead from the first listing's paths to the last one's
 record Chain (first last : ListingValue) (before after : List EventValue) : Type 0 where
-  others : List ListingValue
-  laws : AllByRecursion IsListing (first ∷ others)
-  ends : last_of first others ≡ last
-  noted : after ≡ before ++ changes_through first others
+  events : List EventValue
+  leads : LeadsTo (keys_of first) (keys_of last) events
+  noted : after ≡ before ++ events
 
 module _ {H : Type 0} (handles : H → Result EventValue ErrorValue → H → Type 0) (notes : H → List EventValue)
     (noting : Notes handles notes) where
@@ -50,27 +49,27 @@ module _ {H : Type 0} (handles : H → Result EventValue ErrorValue → H → Ty
       ∙ (ap (λ es. es ++ xs) (noting.event before h.0 x h.1) ∙ append_assoc (notes before) (x ∷ []) xs)
 
   -- one more listing in front
-  chain-next : (first next last : ListingValue) (before between after : List EventValue) → IsListing first →
-      between ≡ before ++ changes first next → Chain next last between after → Chain first last before after
-  chain-next first next last before between after law told c = record {
-    others = next ∷ c.others;
-    laws = (law, c.laws);
-    ends = c.ends;
-    noted = c.noted ∙ (ap (λ es. es ++ changes_through next c.others) told
-        ∙ append_assoc before (changes first next) (changes_through next c.others));
+  chain-next : (first next last : ListingValue) (told before between after : List EventValue) →
+      LeadsTo (keys_of first) (keys_of next) told → between ≡ before ++ told → Chain next last between after →
+      Chain first last before after
+  chain-next first next last told before between after lead noted c = record {
+    events = told ++ c.events;
+    leads = lead-append (keys_of first) (keys_of next) (keys_of last) told c.events lead c.leads;
+    noted = c.noted ∙ (ap (λ es. es ++ c.events) noted ∙ append_assoc before told c.events);
   }
 
   -- a step is followed by the others
-  chain-step : (first next last : ListingValue) (before between : H) (after : List EventValue) →
-      IsListing first → Reports handles first next before between → Chain next last (notes between) after →
-      Chain first last (notes before) after
-  chain-step first next last before between after law (inl each) c =
-      chain-next first next last (notes before) (notes between) after law
-      (noted-each (changes first next) before between each) c
-  chain-step first next last before between after law (inr (same, inl quiet)) c =
+  chain-step : (first next last : ListingValue) (before between : H) (after : List EventValue) (trackers : Option ℕ) →
+      IsListing first → IsListing next → Tells handles trackers first next before between →
+      Chain next last (notes between) after → Chain first last (notes before) after
+  chain-step first next last before between after trackers law next_law (inl each) c =
+      let told = told_changes trackers first next in
+      chain-next first next last told (notes before) (notes between) after (told_lead trackers first next law next_law)
+      (noted-each told before between each) c
+  chain-step first next last before between after trackers law next_law (inr (same, inl quiet)) c =
       subst (λ l. Chain l last (notes before) after) same
       (subst (λ h. Chain next last (notes h) after) quiet c)
-  chain-step first next last before between after law (inr (same, inr (e, refused))) c =
+  chain-step first next last before between after trackers law next_law (inr (same, inr (e, refused))) c =
       subst (λ l. Chain l last (notes before) after) same
       (subst (λ es. Chain next last es after) (noting.error before between e refused) c)
 
@@ -79,24 +78,24 @@ module _ {H : Type 0} (handles : H → Result EventValue ErrorValue → H → Ty
       ReportAll handles first before steps → Chain first (left_by first before steps).0 (notes before)
       (notes (left_by first before steps).1)
   chain first before [] law h = record {
-    others = [];
-    laws = (law, tt);
-    ends = refl;
+    events = [];
+    leads = record { closed = law.closed; honest = refl; played = refl };
     noted = sym (append-nil (notes before));
   }
   chain first before (step ∷ steps) law h =
       chain-step first step.0 (left_by step.0 step.1 steps).0 before step.1
-      (notes (left_by step.0 step.1 steps).1) law h.1 (chain step.0 step.1 steps h.0 h.2)
+      (notes (left_by step.0 step.1 steps).1) h.1.0 law h.0 h.1.1 (chain step.0 step.1 steps h.0 h.2)
 
 -- one more step after others
 report-push : {H : Type 0} (handles : H → Result EventValue ErrorValue → H → Type 0) (old : ListingValue) (before : H)
-    (steps : List (ListingValue × H)) (next : ListingValue) (later : H) → ReportAll handles old before steps →
-    IsListing next → Reports handles (left_by old before steps).0 next (left_by old before steps).1 later →
+    (steps : List (ListingValue × H)) (next : ListingValue) (later : H) (trackers : Option ℕ) →
+    ReportAll handles old before steps → IsListing next →
+    Tells handles trackers (left_by old before steps).0 next (left_by old before steps).1 later →
     ReportAll handles old before (steps ++ (next, later) ∷ [])
     × (left_by old before (steps ++ (next, later) ∷ []) ≡ (next, later))
-report-push handles old before [] next later h law r = ((law, r, tt), refl)
-report-push handles old before (step ∷ steps) next later h law r =
-    let more = report-push handles step.0 step.1 steps next later h.2 law r in
+report-push handles old before [] next later trackers h law r = ((law, (trackers, r), tt), refl)
+report-push handles old before (step ∷ steps) next later trackers h law r =
+    let more = report-push handles step.0 step.1 steps next later trackers h.2 law r in
     ((h.0, h.1, more.0), more.1)
 
 -- no step
@@ -105,10 +104,10 @@ begins handles = λ begun. ([], tt, refl)
 
 -- one more
 pub goes_on : {H : Type 0} (handles : H → Result EventValue ErrorValue → H → Type 0) → GoesOn handles
-goes_on {H} handles = λ begun last now next later reported law r.
+goes_on {H} handles = λ begun last now next later trackers reported law r.
     let steps = reported.0 in
-    let more = report-push handles [] begun steps next later reported.1 law
-    (subst (λ (e : ListingValue × H). Reports handles e.0 next e.1 later) (sym reported.2) r) in
+    let more = report-push handles [] begun steps next later trackers reported.1 law
+    (subst (λ (e : ListingValue × H). Tells handles trackers e.0 next e.1 later) (sym reported.2) r) in
     (steps ++ (next, later) ∷ [], more.0, more.1)
 
 -- so a reader of a run that takes what was noted has the last listing's paths
@@ -122,7 +121,8 @@ reader_has_what_is_reported {C} {H} r handles notes begun last now s t commands 
     run laws empty taken shown =
     let c = chain handles notes noting [] begun reported.0 nothing reported.1 in
     let end : left_by [] begun reported.0 ≡ (last, now) = reported.2 in
-    reader_has_the_last r s t commands replies [] c.others outlook run laws empty c.laws
+    reader_led r s t commands replies [] (keys_of (left_by [] begun reported.0).0) c.events outlook run laws empty
+    none_sorted c.leads
     (taken ∙ (sym (ap (λ (e : ListingValue × H). notes e.1) end)
-    ∙ (c.noted ∙ ap (λ es. es ++ changes_through [] c.others) none))) shown
-    ∙ (ap keys_of c.ends ∙ ap (λ (e : ListingValue × H). keys_of e.0) end)
+    ∙ (c.noted ∙ ap (λ es. es ++ c.events) none))) shown
+    ∙ ap (λ (e : ListingValue × H). keys_of e.0) end

@@ -14,8 +14,9 @@ use std::alloc::Allocator;
 /// whether they overlap or not, whenever they are watched.
 ///
 /// That steps have led to a listing is said by `Reported`: it holds at first, and after one more step. A step
-/// is one call of `round` or `look_at` of `Polled`, refused or not. `watch_reported` and `unwatch_reported` leave the last
-/// listing as it was and report nothing, so they may stand between any two.
+/// is one call of `round` or `look_at` of `Polled`, or of `kept_round` or `kept_look`, whatever moves these tell,
+/// refused or not. `watch_reported` and `unwatch_reported` leave the last listing as it was and report nothing, so they
+/// may stand between any two.
 pub fn law_of_reports<
     C: FileIdCache<A>,
     H: EventHandler<Result<Event<A>, Error<A>>>,

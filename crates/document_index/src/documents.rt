@@ -6,17 +6,20 @@ ghost use Rattle.batch_plan.specs.Naming.{namings};
 ghost use Rattle.document_index.specs.Read.{IsReadAmong, PutsAt};
 
 use batch_plan::naming::name_listed;
-use notify_debouncer_full::{DebouncedEvent, Folders, PathBuf, RealFolders, RecursiveMode, list};
+use notify_debouncer_full::{
+    DebouncedEvent, Folders, Found, PathBuf, RealFolders, RecursiveMode, list,
+};
 use std::collections::BTreeMap;
 use std::fs::Files;
 use std::time::Clock;
 use std::{fs, io};
 use watch_program::Fault;
+use word_index::before::Before;
 use word_index::kept::ReadsDocuments;
 use word_index::words::{Words, words_of};
 
-/// What stands below a folder, read anew at each call. What is no text has no words; what can't be read, as a file that
-/// permission closes, counts as missing until it can.
+/// What stands below a folder, read anew at each call, but for a file that moved and is as it was. What is no text has
+/// no words; what can't be read, as a file that permission closes, counts as missing until it can.
 #[derive(Drop)]
 pub(crate) struct Documents<R: Drop> {
     rt: R,
@@ -47,32 +50,42 @@ impl<R: Files + Clock + AllocGlobal + Copy + Drop> Documents<R> {
     }
 
     /// Reads what stands at these paths.
-    fn read_all(&self, paths: &BTreeMap<PathBuf, ()>) -> Result<BTreeMap<PathBuf, Words>, Fault>
+    fn read_all(
+        &self,
+        paths: &BTreeMap<PathBuf, ()>,
+        before: &Before<'_>,
+    ) -> Result<BTreeMap<PathBuf, Words>, Fault>
         ensures among { IfOk result (λ read.
             IsReadAmong (keys_of paths.now.entries) read.entries) }
     {
         let mut read = BTreeMap::new(self.rt.alloc());
         for path in paths.keys() {
-            self.read_one(&mut read, path)?;
+            self.read_one(&mut read, path, before)?;
         }
         Ok(read)
     }
 
     /// Puts in the words of what stands at the path, if something does.
-    fn read_one(&self, read: &mut BTreeMap<PathBuf, Words>, path: &PathBuf) -> Result<(), Fault>
+    fn read_one(
+        &self,
+        read: &mut BTreeMap<PathBuf, Words>,
+        path: &PathBuf,
+        before: &Before<'_>,
+    ) -> Result<(), Fault>
         ensures put { OnOk result (PutsAt path.now read.old.entries read.new.entries) }
     {
         let key = path.clone()?;
-        if let Some(words) = self.words_at(path)? {
+        if let Some(words) = self.words_at(path, before)? {
             read.insert(key, words)?;
         }
         Ok(())
     }
 
-    /// What is looked at. A link is followed at the folder itself, and nowhere else.
+    /// What is looked at, with modified times and numbers. A link is followed at the folder itself, and nowhere else.
     fn folders(&self) -> Result<RealFolders<R>, Fault> {
         let alloc = self.rt.alloc();
-        let mut folders = RealFolders::new(self.rt, alloc);
+        let mut folders = RealFolders::with_modified_times(self.rt, alloc);
+        folders.tell_numbers();
         let mut followed = Vec::new(alloc);
         followed.push(self.folder.clone()?)?;
         folders.follow(&mut followed);
@@ -80,11 +93,45 @@ impl<R: Files + Clock + AllocGlobal + Copy + Drop> Documents<R> {
     }
 
     /// The words of what stands at the path, if something does that can be read. Links aren't followed.
-    fn words_at(&self, path: &PathBuf) -> Result<Option<Words>, Fault> {
-        match self.folders()?.look(path) {
-            Ok(Some(found)) if found.kind.is_file() => self.words_in(path),
+    fn words_at(&self, path: &PathBuf, before: &Before<'_>) -> Result<Option<Words>, Fault> {
+        let mut folders = self.folders()?;
+        match folders.look(path) {
+            Ok(Some(found)) if found.kind.is_file() => {
+                self.words_of_file(&mut folders, path, found, before)
+            }
             Ok(Some(found)) if found.kind.is_folder() => Ok(Some(Words::new(self.rt.alloc()))),
             Ok(_) | Err(_) => Ok(None),
+        }
+    }
+
+    /// The words of the file. If it moved, and is as it was when they were read, it isn't read again.
+    fn words_of_file(
+        &self,
+        folders: &mut RealFolders<R>,
+        path: &PathBuf,
+        found: Found,
+        before: &Before<'_>,
+    ) -> Result<Option<Words>, Fault> {
+        match before.words(path) {
+            Some(words) if words.is_of(found) => Ok(Some(words.try_clone()?)),
+            _ => self.words_read(folders, path, found),
+        }
+    }
+
+    /// The words of the file, read anew, as those of what was found.
+    fn words_read(
+        &self,
+        folders: &mut RealFolders<R>,
+        path: &PathBuf,
+        found: Found,
+    ) -> Result<Option<Words>, Fault> {
+        let Some(words) = self.words_in(path)? else {
+            return Ok(None);
+        };
+        // Another file may have come there before it was opened: then nobody knows whose words these are.
+        match folders.look(path) {
+            Ok(Some(now)) if found.is_one_file(now) => Ok(Some(words.of(found))),
+            Ok(_) | Err(_) => Ok(Some(words)),
         }
     }
 
@@ -107,8 +154,12 @@ impl<R: Files + Clock + AllocGlobal + Copy + Drop> ReadsDocuments for Documents<
     // What a file holds is in no contract; but nothing is read at another path.
     ghost reads = { λ documents paths read. IsReadAmong paths read };
 
-    fn read(&self, paths: &BTreeMap<PathBuf, ()>) -> Result<BTreeMap<PathBuf, Words>, Fault> {
-        self.read_all(paths)
+    fn read(
+        &self,
+        paths: &BTreeMap<PathBuf, ()>,
+        before: &Before<'_>,
+    ) -> Result<BTreeMap<PathBuf, Words>, Fault> {
+        self.read_all(paths, before)
     }
 
     /// Nothing stands there, or a file that couldn't be read: whoever asks has read nothing there.

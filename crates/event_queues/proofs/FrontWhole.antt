@@ -1,4 +1,4 @@
--- A tick that goes over all queues: the fronts that come, and the index of what is left.
+-- A tick that goes over all queues: the later fronts, and the index of what is left.
 use Rattle.std.proofs.Common.{◌≡◌, ℕ, ◌+◌, ◌≤◌, arith, append_assoc, length, length-append, Bool, true, false, cond, not, ◌&&◌, ◌||◌, refl, ap, sym, ◌∙◌, Option, Some, None, List, [], ◌∷◌, ◌++◌}
 use Rattle.std.specs.Bool.{◌==◌}
 use Rattle.std.specs.BTreeMap.{is_at}
@@ -17,39 +17,10 @@ use Rattle.debounce_model.proofs.DueCounts.{count_of, due_step}
 use Rattle.event_queues.specs.declared.due.Due.{Due}
 use Rattle.event_queues.specs.Due.{is_due, is_due_at}
 use Rattle.event_queues.specs.Fronts.{has, is_time, front_of, IsIndexed, front_time}
-use Rattle.event_queues.specs.Steps.{is_due_front, front_after, is_later_front, is_pair, has_pair, pair_of, later_pair, AreLater, HasLater}
+use Rattle.event_queues.specs.Steps.{is_due_front, front_after, is_later_front, has_pair, pair_of, later_pair, AreLater, HasLater}
 use Rattle.event_queues.proofs.FrontLemmas.{Fronts, same_front}
 use Rattle.event_queues.proofs.FrontMoves.{tied_path}
 use Rattle.event_queues.proofs.FrontTicks.{waits_nonempty, above_all, same_number, number_is, rest_quiet, front_not_due}
-
--- of those put in and those that are left one more is put in
-pub one_put : {E : Type 0} (f : E → List (ℕ × PathValue)) (e : E) (es : List E) (t : ℕ) (p : PathValue)
-    (h r : Bool) → (h || has_pair (f e ++ flat_map f es) t p) ≡ r →
-    ((has_pair (f e) t p || h) || has_pair (flat_map f es) t p) ≡ r
-one_put f e es t p h r i =
-    by h (has_pair (f e) t p) (has_pair (flat_map f es) t p)
-    ∙ ap (λ b. h || b) (sym (list_any-append _ (f e) (flat_map f es)))
-    ∙ i
-  where
-    by : (h x a : Bool) → ((x || h) || a) ≡ (h || (x || a))
-    by true true a = refl
-    by true false a = refl
-    by false true a = refl
-    by false false a = refl
-
--- at the end all are in
-pub or_swap : (h old all later : Bool) → (h || false) ≡ (old || all) → all ≡ later → h ≡ (later || old)
-or_swap h old all later i e = or_false h ∙ i ∙ ap (λ b. old || b) e ∙ swap old later
-  where
-    or_false : (b : Bool) → b ≡ (b || false)
-    or_false true = refl
-    or_false false = refl
-
-    swap : (a b : Bool) → (a || b) ≡ (b || a)
-    swap true true = refl
-    swap true false = refl
-    swap false true = refl
-    swap false false = refl
 
 -- the pair of a time and a path
 here : (o : Option ℕ) (t : ℕ) (p : PathValue) → has_pair (pair_of o p) t p ≡ is_time o t
@@ -149,15 +120,6 @@ indexed-trimmed due fs gs m after later h e = rw e (record {
         ≡ is_time (front_of (queue_at (rests (is_due due) m) p)) t
     by t p false d = later t p d
     by t p true d = sym (front_not_due due (queue_at (rests (is_due due) m) p) t (rest_not_due due m p) d)
-
--- one pair is a list of it
-pub one_pair : (s : ℕ) (k : PathValue) (t : ℕ) (p : PathValue) → is_pair (s, k) t p
-    ≡ has_pair (pair_of (Some s) k) t p
-one_pair s k t p = by (is_pair (s, k) t p)
-  where
-    by : (b : Bool) → b ≡ (b || false)
-    by true = refl
-    by false = refl
 
 -- one more is counted before the others
 pub count_first : (b : Bool) (n k : ℕ) → count_of b n + k ≡ n + count_of b k

@@ -1,6 +1,6 @@
 pub mod Due
+pub mod DuePaths
 pub mod FrontLaws
 pub mod Fronts
-pub mod Plan
 pub mod Removals
 pub mod Steps

@@ -47,6 +47,14 @@ pub(crate) fn is_oldest_due<A: Allocator>(fronts: &Fronts<A>, due: Due) -> bool
     }
 }
 
+/// Whether the newest front of the index is due: then each is.
+pub(crate) fn is_newest_due<A: Allocator>(fronts: &Fronts<A>, due: Due) -> bool {
+    match fronts.first() {
+        None => false,
+        Some(front) => due.is_due_at(front.time),
+    }
+}
+
 /// Takes the oldest front out of the index, if it is due.
 pub(crate) fn pop_due<A: Allocator>(fronts: &mut Fronts<A>, due: Due) -> Option<Front<A>>
     ensures due { IfSome result (λ k. is_due_at due k.0 ≡ true) }

@@ -1,12 +1,9 @@
 //! The queues of all paths and an index of their fronts, as two values that need not fit.
 ghost use Rattle.std.specs.Prelude.{◌≡◌, ◌<◌, ◌^◌, []};
-ghost use Rattle.debounce_model.specs.Due.{is_any_due};
 ghost use Rattle.debounce_model.specs.Queues.{waiting_in};
-ghost use Rattle.event_queues.specs.Due.{is_due};
 ghost use Rattle.event_queues.specs.Fronts.{IsIndexed};
 
-use crate::due::Due;
-use crate::fronts::{Fronts, is_oldest_due};
+use crate::fronts::Fronts;
 use crate::queues::QueueMap;
 use notify_paths::path::PathBuf;
 use std::alloc::Allocator;
@@ -35,16 +32,6 @@ impl<A: Allocator + Copy> Index<A> {
             spare: PathBuf::empty(alloc),
             alloc,
         }
-    }
-
-    /// Whether the front of some queue is due. It looks at one pair.
-    pub(crate) fn is_any_due(&self, due: Due) -> bool
-        requires { IsIndexed self.now.fronts self.now.map.entries }
-        ensures { result ≡ is_any_due (is_due due) self.now.map.entries }
-    {
-        // This call shows the proof that the paths ascend.
-        let _len = self.map.len();
-        is_oldest_due(&self.fronts, due)
     }
 
     /// Returns how many events wait.

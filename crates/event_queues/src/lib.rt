@@ -4,15 +4,16 @@
 //! [`queue::Queue`] is the queue of one path, [`due::Due`] says which of its events are due, and [`first`]
 //! what its first event says of the path. [`queues::IndexedQueues`] holds the queues of all paths and the
 //! index, and each of its methods leaves the index with just the fronts of the queues. A tick looks at the
-//! oldest pair of the index. If it is due, the tick goes by a plan ([`plan::DuePlan`]): if all that waits is
-//! due, which it asks first, it takes the map apart; if few queues are, it searches for each; and else it
-//! goes over all.
+//! oldest pair of the index. If it is due, the tick borrows what is due, and then takes it out: it searches for
+//! each queue that is due, by the paths that the index has, or takes the map apart if all that waits is due.
 //!
 //! ```text
 //! let mut queues = IndexedQueues::new(rt.alloc());
 //! queues.push(event)?;
 //! if queues.is_any_due(due) {
-//!     let visited = queues.trim(due)?;
+//!     let paths = queues.lend_due(due, &mut places)?;
+//!     ..
+//!     let visited = queues.take_due(paths, due, &mut batch)?;
 //! }
 //! ```
 #![tactic(auto)]
@@ -20,12 +21,11 @@
 mod below;
 mod change;
 pub mod due;
-mod few;
+pub mod due_paths;
 pub mod first;
 mod front;
 mod fronts;
 mod index;
-pub mod plan;
 mod push;
 mod put;
 mod put_all;
@@ -34,5 +34,4 @@ pub mod queues;
 mod removal;
 mod room;
 mod settle;
-mod trim;
 mod whole;

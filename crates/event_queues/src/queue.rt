@@ -180,18 +180,6 @@ impl<A: Allocator> Queue<A> {
         reverse_events(&mut self.events);
         self.has_events()
     }
-
-    /// Drops the due beginning, and returns whether something still waits.
-    pub fn trim(&mut self, due: Due) -> bool
-        ensures rest { self.new ≡ rest_after (is_due due) self.old }
-        ensures waits { result ≡ waits (rest_after (is_due due) self.old) }
-    {
-        let count = expired_count(self.events.as_slice(), due);
-        self.events.as_mut_slice().rotate_left(count);
-        let left = self.events.len() - count;
-        self.events.truncate(left);
-        self.has_events()
-    }
 }
 
 impl<A: Allocator> PartialEq for Queue<A> {

@@ -1,5 +1,5 @@
 //! The queues of all paths, with the index of their fronts.
-ghost use Rattle.std.specs.Prelude.{◌≡◌, ◌∷◌, ◌++◌, ◌+◌, ◌<◌, ◌≤◌, ◌^◌, [], OnOk, OnErr, IfOk, false, true, length, vec_len, vec_capacity};
+ghost use Rattle.std.specs.Prelude.{◌≡◌, ◌∷◌, ◌++◌, ◌+◌, ◌<◌, ◌≤◌, ◌^◌, [], OnOk, OnErr, IfOk, false, length, vec_len, vec_capacity};
 ghost use Rattle.notify_types.specs.Borrowed.{borrowed};
 ghost use Rattle.notify_types.specs.Event.{first_of};
 ghost use Rattle.debounce_model.specs.Due.{place_list, rests, is_any_due, due_fronts};
@@ -9,14 +9,16 @@ ghost use Rattle.debounce_model.specs.Moved.{with_queues};
 ghost use Rattle.debounce_model.specs.Queues.{with_queue, without_queue, without_below, push, waiting_in};
 ghost use Rattle.debounce_model.specs.WellFormed.{IsNonempty};
 ghost use Rattle.event_queues.specs.Due.{is_due};
-ghost use Rattle.event_queues.specs.Plan.{IsLent, IsPlan, moves};
+ghost use Rattle.event_queues.specs.DuePaths.{AreDueAt};
 ghost use Rattle.event_queues.specs.Steps.{AreFilled};
 
 use crate::due::Due;
+use crate::due_paths::{DuePaths, lend_each};
+use crate::fronts::{is_newest_due, is_oldest_due};
 use crate::index::Index;
-use crate::plan::DuePlan;
 use crate::put_all::take_only;
 use crate::queue::Queue;
+use crate::whole::{is_all_due, lend_all_places};
 use debounce_model::case::first_path;
 use notify_paths::path::PathBuf;
 use notify_types::event::DebouncedEvent;
@@ -147,44 +149,43 @@ impl<A: Allocator + Copy> IndexedQueues<A> {
     pub fn is_any_due(&self, due: Due) -> bool
         ensures { result ≡ is_any_due (is_due due) self.now }
     {
-        self.index.is_any_due(due)
-    }
-
-    /// Returns how a tick comes to the queues that are due. The plan is for the queues as they are now.
-    pub fn plan(&self, due: Due) -> Result<DuePlan<A>, AllocError>
-        ensures { IfOk result (λ plan. IsPlan due self.now plan) }
-    {
-        DuePlan::new(&self.index, due)
+        // This call shows the proof that the paths ascend.
+        let _len = self.index.map.len();
+        is_oldest_due(&self.index.fronts, due)
     }
 
     /// Adds references to what is due, in the order of the paths: of each queue's due beginning the last
-    /// of each kind. If an allocation fails, `places` may hold some of them.
+    /// of each kind. Returns the paths of the queues that are due, or none if all that waits is due. It
+    /// opens only queues whose front is due. If an allocation fails, `places` may hold some of them.
     pub fn lend_due<'a>(
         &'a self,
-        plan: &mut DuePlan<A>,
-        places: &mut Vec<&'a DebouncedEvent<A>, A>,
         due: Due,
-    ) -> Result<(), AllocError>
-        requires { IsPlan due self.now plan.old }
+        places: &mut Vec<&'a DebouncedEvent<A>, A>,
+    ) -> Result<Option<DuePaths<A>>, AllocError>
         ensures places { OnOk result (borrowed places.new.items
             ≡ borrowed places.old.items ++ place_list (is_due due) self.now) }
-        ensures lent { OnOk result (IsLent due self.now plan.new) }
-        ensures same { moves plan.new ≡ moves plan.old }
+        ensures paths { IfOk result (λ paths. AreDueAt due self.now paths) }
     {
-        plan.lend(places, &self.index.map, due)
+        let index = &self.index;
+        if is_newest_due(&index.fronts, due) && is_all_due(&index.map, due) {
+            lend_all_places(places, &index.map, due)?;
+            return Ok(None);
+        }
+        let paths = index.due_paths(due)?;
+        let later = lend_each(places, &index.map, &paths, due)?;
+        Ok(Some(DuePaths { paths, later }))
     }
 
     /// Moves what is due to the end of `out`, which has room for it, in the order of the paths, and
-    /// returns how many queues had something. The plan is one that moves, and it has lent. If an
+    /// returns how many queues had something. The paths are those that `lend_due` returned. If an
     /// allocation fails, nothing has changed.
     pub fn take_due(
         &mut self,
-        plan: DuePlan<A>,
+        paths: Option<DuePaths<A>>,
         due: Due,
         out: &mut Vec<DebouncedEvent<A>, A>,
     ) -> Result<usize, AllocError>
-        requires lent { IsLent due self.old plan }
-        requires moves { moves plan ≡ true }
+        requires paths { AreDueAt due self.old paths }
         requires room { vec_len out.old + length (place_list (is_due due) self.old)
             ≤ vec_capacity out.old }
         ensures moved { OnOk result (out.new.items ≡ out.old.items
@@ -195,17 +196,10 @@ impl<A: Allocator + Copy> IndexedQueues<A> {
         ensures unchanged { OnErr result (self.new ≡ self.old) }
         ensures kept { OnErr result (out.new.items ≡ out.old.items) }
     {
-        plan.take(&mut self.index, due, out)
-    }
-
-    /// Drops the due beginning of each queue, and returns how many queues had one. It goes over all
-    /// queues. If an allocation fails, nothing has changed.
-    pub fn trim(&mut self, due: Due) -> Result<usize, AllocError>
-        ensures count { IfOk result (λ count. count ≡ due_fronts (is_due due) self.old) }
-        ensures ok { OnOk result (self.new ≡ rests (is_due due) self.old) }
-        ensures unchanged { OnErr result (self.new ≡ self.old) }
-    {
-        self.index.trim(due)
+        match paths {
+            None => Ok(self.index.take_all(due, out)),
+            Some(DuePaths { paths, later }) => self.index.take_each(paths, later, due, out),
+        }
     }
 
     /// Returns how many events wait.

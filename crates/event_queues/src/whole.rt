@@ -1,5 +1,5 @@
-//! A tick at which all is due, or many queues: it goes over all queues in the order of their paths, and needs
-//! no search. If all is due, the map is taken apart.
+//! A tick at which all that waits is due: it goes over all queues in the order of their paths, and takes the map apart,
+//! which needs no search and no memory.
 ghost use Rattle.std.specs.Prelude.{◌≡◌, ◌==◌, ◌++◌, ◌+◌, ◌-◌, ◌^◌, ◌<◌, ◌≤◌, [], OnOk, length, vec_len, vec_capacity};
 ghost use Rattle.notify_types.specs.Borrowed.{borrowed};
 ghost use Rattle.debounce_model.specs.Due.{due_fronts, place_list, rests};
@@ -8,24 +8,12 @@ ghost use Rattle.debounce_model.proofs.DueCounts.{count_of};
 ghost use Rattle.event_queues.specs.Fronts.{IsIndexed};
 
 use crate::due::Due;
-use crate::fronts::Fronts;
 use crate::index::Index;
 use crate::queues::QueueMap;
 use notify_types::event::DebouncedEvent;
 use std::alloc::{AllocError, Allocator};
 use std::collections::{BTreeMap, BTreeSet};
 use std::mem::replace;
-
-/// Whether more than a sixteenth of the queues have a front that is due. To go over all of them then
-/// takes less time than to search for each that is due.
-pub(crate) fn are_many_due<A: Allocator>(fronts: &Fronts<A>, due: Due) -> bool {
-    let many = fronts.len() / 16 + 1;
-    fronts
-        .iter()
-        .rev()
-        .take(many)
-        .all(|front| due.is_due_at(front.time))
-}
 
 /// Adds references to what is due, in the order of the paths.
 pub(crate) fn lend_all_places<'a, A: Allocator>(
@@ -55,7 +43,7 @@ pub(crate) fn is_all_due<A: Allocator>(map: &QueueMap<A>, due: Due) -> bool
 }
 
 /// One more, if a queue counts.
-pub(crate) fn counted(counts: bool, count: usize) -> usize
+fn counted(counts: bool, count: usize) -> usize
     requires { count < 2 ^ 64 - 1 }
     ensures { result ≡ count_of counts count }
 {

@@ -1,4 +1,5 @@
-//! Folders for tests: a tree in memory, folders of which one call fails, and folders of which some are closed.
+//! Folders for tests: a tree in memory, folders of which one call fails, folders of which some are closed, and folders
+//! in which files have numbers.
 //!
 //! ```text
 //! let Some(folders) = TreeFolders::new(rt.alloc(), tree) else { .. };
@@ -9,4 +10,5 @@
 
 pub mod closed;
 pub mod failing;
+pub mod numbered;
 pub mod tree;

@@ -85,7 +85,7 @@ any-filter t p (x ∷ xs) h = by (p x) h (any-filter t p xs)
         at false k = more k
 
 -- what holds of each holds of each that is left
-each-filter : {X : Type 0} (P : X → Type 0) (p : X → Bool) (xs : List X) → AllByRecursion P xs →
+pub each-filter : {X : Type 0} (P : X → Type 0) (p : X → Bool) (xs : List X) → AllByRecursion P xs →
     AllByRecursion P (filter p xs)
 each-filter P p [] a = a
 each-filter P p (x ∷ xs) a = by (p x) (each-filter P p xs a.1)

@@ -10,3 +10,6 @@ pub mod MergeLemmas
 pub mod UpdateLemmas
 pub mod UpdatedPairs
 pub mod SameLemmas
+pub mod HolderLemmas
+pub mod TrackLemmas
+pub mod MoveLemmas

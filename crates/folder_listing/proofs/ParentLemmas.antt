@@ -1,5 +1,5 @@
 -- Paths whose nearest folders are all there have all their folders. The calls that make listings cite these.
-use Rattle.std.proofs.Common.{None, ◌≡◌, ℕ, zero, suc, ◌+◌, ◌-◌, ◌≤◌, arith, Bool, true, false, ◌&&◌, ◌||◌, List, [], ◌∷◌, ◌++◌, take, length, length-append, refl, ap, sym, ◌∙◌, Some, true≢false}
+use Rattle.std.proofs.Common.{◌≡◌, ℕ, zero, suc, ◌+◌, ◌-◌, ◌≤◌, arith, Bool, true, false, ◌&&◌, ◌||◌, List, [], ◌∷◌, ◌++◌, take, length, length-append, refl, ap, sym, ◌∙◌, Some, true≢false}
 use Rattle.std.specs.List.{list_all}
 use Rattle.std.specs.List.Sorted.{IsStrictlySortedBy}
 use Rattle.std.specs.Map.{keys_of}
@@ -10,7 +10,7 @@ use Rattle.notify_paths.specs.PathLaws.{path_eq_decides, path_matches_eq}
 use Rattle.debounce_model.specs.Play.{Paths, has_path}
 use Rattle.debounce_model.specs.Honest.{has_folders, folders_of}
 use Rattle.folder_listing.specs.declared.entry.EntryKind.{EntryKind}
-use Rattle.folder_listing.specs.Listing.{ListingValue, entry_at, is_nonempty, is_listing, last_or, put_all, IsListing}
+use Rattle.folder_listing.specs.Listing.{ListingValue, entry_at, is_nonempty, is_listing, last_or, put_all, untimed, IsListing}
 use Rattle.folder_listing.specs.Parents.{has_this, has_parent, have_parents}
 use Rattle.folder_listing.proofs.HonestLemmas.{and_both, each-there}
 use Rattle.folder_listing.proofs.ListingLemmas.{entry_at-insert, folders_of-push, all-push, all-passes}
@@ -153,6 +153,5 @@ pub found_last : (es : ListingValue) (entries : List (PathValue × EntryKind × 
     entry_at (put_all es entries) path ≡ last_or (entry_at es path) entries path
 found_last es [] path = refl
 found_last es (x ∷ xs) path =
-    found_last (insert_entry path_cmp es x.0 (record { kind = x.1; length = x.2; modified = None })) xs path
-    ∙ ap (λ o. last_or o xs path) (entry_at-insert es x.0 path (record { kind = x.1; length = x.2; modified = None })
-    (is_at (path_cmp path) x.0) refl)
+    found_last (insert_entry path_cmp es x.0 (untimed x.1 x.2)) xs path
+    ∙ ap (λ o. last_or o xs path) (entry_at-insert es x.0 path (untimed x.1 x.2) (is_at (path_cmp path) x.0) refl)

@@ -1,9 +1,8 @@
 -- Prefixes of paths, beside the lemmas of the paths' own crate.
 use Rattle.std.proofs.Common.{◌≡◌, Bool, true, false, [], ◌∷◌, refl, sym, ◌∙◌, true≢false}
-use Rattle.std.specs.declared.cmp.Ordering.{Ordering}
-use Rattle.std.specs.declared.cmp.Ordering.TheVariants.{Less, Equal, Greater}
-use Rattle.notify_paths.specs.Path.{PathValue, part_cmp, part_eq, path_cmp, is_prefix, is_below}
-use Rattle.notify_paths.specs.PathLaws.{part_cmp_total, part_eq_decides, path_eq_decides}
+use Rattle.std.specs.declared.cmp.Ordering.TheVariants.{Less}
+use Rattle.notify_paths.specs.Path.{PathValue, part_eq, path_cmp, is_prefix, is_below}
+use Rattle.notify_paths.specs.PathLaws.{part_eq_decides, path_eq_decides}
 use Rattle.notify_paths.proofs.Prefixes.{front_no_prefix, other_below, and_false}
 use Rattle.folder_listing.proofs.PairLemmas.{turned_less}
 

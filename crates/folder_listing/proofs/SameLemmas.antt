@@ -1,5 +1,5 @@
 -- A listing has no changes from itself.
-use Rattle.std.proofs.Common.{◌≡◌, ℕ, Bool, true, false, not, ◌&&◌, [], ◌∷◌, ◌++◌, filter, map, refl, ap, ◌∙◌, Some, None}
+use Rattle.std.proofs.Common.{◌≡◌, ℕ, Bool, true, false, not, ◌&&◌, ◌==◌, [], ◌∷◌, ◌++◌, filter, map, refl, ap, ◌∙◌, Some, None}
 use Rattle.std.specs.Prelude.{Option, is_some}
 use Rattle.std.specs.List.{AllByRecursion}
 use Rattle.std.specs.List.Sorted.{IsStrictlySortedBy}
@@ -9,9 +9,11 @@ use Rattle.std.proofs.lemmas.Map.Keys.{sorted_head, sorted_tail}
 use Rattle.notify_paths.specs.Path.{PathValue, path_cmp}
 use Rattle.folder_listing.specs.declared.entry.EntryKind.{EntryKind}
 use Rattle.folder_listing.specs.declared.entry.EntryKind.TheVariants.{File, Folder, Other}
+use Rattle.folder_listing.specs.declared.entry.FileNumber.{FileNumber}
+use Rattle.folder_listing.specs.declared.entry.FileNumber.TheVariants.{Unknown, Known}
 use Rattle.folder_listing.specs.declared.entry.Found.{Found}
 use Rattle.folder_listing.specs.Listing.{ListingValue, IsListing, entry_at, has_entry, is_same_kind}
-use Rattle.folder_listing.specs.Changes.{changes, created, gone, is_of_kind, is_rewritten, is_same_state, is_same_time, lies_below, lies_in, removal, creation, rewrite, removed, rewritten, staying}
+use Rattle.folder_listing.specs.Changes.{changes, created, gone, is_of_kind, is_rewritten, is_same_number, is_same_state, is_same_time, lies_below, lies_in, removal, creation, rewrite, removed, rewritten, staying}
 use Rattle.folder_listing.proofs.PairLemmas.{AreAbove, at_itself, turned_less}
 use Rattle.folder_listing.proofs.WalkLemmas.{has_entry-some}
 
@@ -26,13 +28,20 @@ same_time : (time : Option ℕ) → is_same_time time time ≡ true
 same_time None = refl
 same_time (Some t) = nat_eq_equiv.refl t
 
+-- a number is the same as itself
+same_number : (number : FileNumber) → is_same_number number number ≡ true
+same_number Unknown = refl
+same_number (Known device file) = ap (λ b. b && (file == file)) (nat_eq_equiv.refl device) ∙ nat_eq_equiv.refl file
+
 -- nothing was rewritten where all is the same
 pub same_state : (f : Found) → is_same_state f f ≡ true
-same_state f = ap (λ b. b && is_same_time f.modified f.modified) (nat_eq_equiv.refl f.length)
-    ∙ same_time f.modified
+same_state f =
+    ap (λ b. b && (is_same_time f.modified f.modified && is_same_number f.number f.number))
+    (nat_eq_equiv.refl f.length)
+    ∙ (ap (λ b. b && is_same_number f.number f.number) (same_time f.modified) ∙ same_number f.number)
 
 -- each entry is what a look-up at its path finds
-own : (es : ListingValue) → IsStrictlySortedBy path_cmp (keys_of es) →
+pub own : (es : ListingValue) → IsStrictlySortedBy path_cmp (keys_of es) →
     AllByRecursion (λ e. entry_at es e.0 ≡ Some e.1) es
 own [] s = tt
 own (e ∷ es) s = (

@@ -262,6 +262,12 @@ from-above : (path : PathValue) (os : ListingValue) → AreAbove path (keys_of o
 from-above path [] a = refl
 from-above path (o ∷ os) a = rw a.0 (ap (λ r. o ∷ r) (from-above path os a.1))
 
+-- those from the empty path on are all
+pub from-start : (os : ListingValue) → from_path [] os ≡ os
+from-start [] = refl
+from-start (([], f) ∷ os) = ap (λ r. ([], f) ∷ r) (from-start os)
+from-start ((x ∷ p, f) ∷ os) = ap (λ r. (x ∷ p, f) ∷ r) (from-start os)
+
 -- the entries before the first update tell nothing
 pub walked-from : (u : PathValue × Update) (us : UpdatesValue) (os : ListingValue) → Ascends os →
     walk None (updated_pairs (from_path u.0 os) (u ∷ us)) ≡ walk None (updated_pairs os (u ∷ us))

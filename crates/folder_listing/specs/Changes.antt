@@ -13,6 +13,8 @@ use Rattle.debounce_model.specs.Play.{Paths, play}
 use Rattle.debounce_model.specs.Honest.{is_closed, are_honest}
 use Rattle.folder_listing.specs.declared.entry.EntryKind.{EntryKind}
 use Rattle.folder_listing.specs.declared.entry.EntryKind.TheVariants.{File, Folder, Other}
+use Rattle.folder_listing.specs.declared.entry.FileNumber.{FileNumber}
+use Rattle.folder_listing.specs.declared.entry.FileNumber.TheVariants.{Unknown, Known}
 use Rattle.folder_listing.specs.declared.entry.Found.{Found}
 use Rattle.folder_listing.specs.Listing.{ListingValue, entry_at, has_entry, is_same_kind}
 
@@ -28,11 +30,20 @@ is_same_time None (Some after) = false
 is_same_time (Some before) None = false
 is_same_time (Some before) (Some after) = before == after
 
--- the two have the same length and the same modified time
-abbrev pub is_same_state : Found → Found → Bool
-is_same_state before after = (before.length == after.length) && is_same_time before.modified after.modified
+-- the two numbers are the same, or neither is known
+abbrev pub is_same_number : FileNumber → FileNumber → Bool
+is_same_number Unknown Unknown = true
+is_same_number Unknown (Known device file) = false
+is_same_number (Known device file) Unknown = false
+is_same_number (Known device file) (Known other_device other_file) =
+    (device == other_device) && (file == other_file)
 
--- something is there, and its length or its modified time is another
+-- the two have the same length, the same modified time and the same number
+abbrev pub is_same_state : Found → Found → Bool
+is_same_state before after = (before.length == after.length)
+    && (is_same_time before.modified after.modified && is_same_number before.number after.number)
+
+-- something is there, and its length, its modified time or its number is another
 abbrev pub is_rewritten : Found → Option Found → Bool
 is_rewritten before None = false
 is_rewritten before (Some after) = not (is_same_state before after)
@@ -65,7 +76,7 @@ removed old new = filter (λ e. not (lies_below (gone old new) e.0)) (gone old n
 abbrev pub created : ListingValue → ListingValue → ListingValue
 created old new = filter (λ e. not (has_entry (staying old new) e.0)) new
 
--- the entries that stay and whose length or modified time is another now
+-- the entries that stay and whose length, modified time or number is another now
 abbrev pub rewritten : ListingValue → ListingValue → ListingValue
 rewritten old new = filter (λ e. is_rewritten e.1 (entry_at new e.0)) (staying old new)
 
@@ -81,7 +92,7 @@ creation_of File = kind.Create create.File
 creation_of Folder = kind.Create create.Folder
 creation_of Other = kind.Create create.Other
 
--- the kind of event that tells of another length or modified time
+-- the kind of event that tells of another length, modified time or number
 abbrev pub rewriting : EventKind
 rewriting = kind.Modify (modify.Data change.Any)
 

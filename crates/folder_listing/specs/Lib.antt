@@ -5,3 +5,6 @@ pub mod Parents
 pub mod Near
 pub mod MergedListings
 pub mod Updates
+pub mod Moves
+pub mod Holders
+pub mod Tracked

@@ -9,6 +9,7 @@ use Rattle.debounce_model.specs.Play.{has_path}
 use Rattle.debounce_model.specs.Honest.{has_folders, is_closed}
 use Rattle.folder_listing.specs.declared.entry.EntryKind.{EntryKind}
 use Rattle.folder_listing.specs.declared.entry.EntryKind.TheVariants.{File, Folder, Other}
+use Rattle.folder_listing.specs.declared.entry.FileNumber.TheVariants.{Unknown}
 use Rattle.folder_listing.specs.declared.entry.Found.{Found}
 
 -- what stands at each path, in the paths' order
@@ -35,9 +36,9 @@ abbrev pub is_nonempty : PathValue → Bool
 is_nonempty [] = false
 is_nonempty (part ∷ parts) = true
 
--- what stands there, of which no modified time is known
+-- what stands there, of which no modified time and no number is known
 abbrev pub untimed : EntryKind → ℕ → Found
-untimed kind length = record { kind = kind; length = length; modified = None }
+untimed kind length = record { kind = kind; length = length; modified = None; number = Unknown }
 
 -- the entries are put in one after the other, so that a later one of a path wins
 abbrev pub put_all : ListingValue → List (PathValue × EntryKind × ℕ) → ListingValue

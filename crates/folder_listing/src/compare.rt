@@ -101,9 +101,9 @@ fn push_event<A: Allocator + Copy>(
 }
 
 /// Returns what changed from the old listing to the new one: the removals, then the creations, then
-/// what has another length or modified time, each in the order of their paths. What lay below a removed
-/// path has no removal of its own. Between listings without times the lengths alone decide. Each entry
-/// of both is looked at once.
+/// what has another length, modified time or number, each in the order of their paths. What lay below a
+/// removed path has no removal of its own. Between listings without times and numbers the lengths alone
+/// decide. Each entry of both is looked at once.
 pub fn compare<A: Allocator + Copy>(
     alloc: A,
     old: &Listing<A>,
@@ -156,7 +156,7 @@ pub fn compare_updates<A: Allocator + Copy>(
     update_events(alloc, &old.entries, updates).map_err(|_| Error::out_of_memory(alloc))
 }
 
-fn update_events<A: Allocator + Copy>(
+pub(crate) fn update_events<A: Allocator + Copy>(
     alloc: A,
     old: &BTreeMap<PathBuf<A>, Found, A>,
     updates: &Updates<A>,

@@ -1,7 +1,8 @@
 //! What stands at a path.
 ghost use Rattle.std.specs.Prelude.{◌≡◌};
-ghost use Rattle.folder_listing.specs.Changes.{removal_of, creation_of, is_same_state, is_same_time};
+ghost use Rattle.folder_listing.specs.Changes.{removal_of, creation_of, is_same_number, is_same_state, is_same_time};
 ghost use Rattle.folder_listing.specs.Listing.{is_same_kind};
+ghost use Rattle.folder_listing.specs.Moves.{is_known, is_one_file};
 ghost use Rattle.folder_listing.specs.declared.entry.EntryKind.TheVariants.{File, Folder};
 
 use notify_types::kind::{CreateKind, EventKind, RemoveKind};
@@ -64,6 +65,37 @@ impl EntryKind {
     }
 }
 
+/// The number that a file system has for what stands at a path.
+#[derive(Clone, Copy, Debug, PartialEq, Eq)]
+pub enum FileNumber {
+    /// It has none, or nobody asked for it.
+    Unknown,
+    /// The device, and the number on it.
+    Known(u32, u64),
+}
+
+impl FileNumber {
+    /// Whether the two numbers are the same, or neither is known.
+    pub fn is_same(self, other: FileNumber) -> bool
+        ensures { result ≡ is_same_number self other }
+    {
+        match (self, other) {
+            (FileNumber::Unknown, FileNumber::Unknown) => true,
+            (FileNumber::Known(device, file), FileNumber::Known(other_device, other_file)) => {
+                device == other_device && file == other_file
+            }
+            _ => false,
+        }
+    }
+
+    /// Whether it is known.
+    pub fn is_known(self) -> bool
+        ensures { result ≡ is_known self }
+    {
+        matches!(self, FileNumber::Known(_, _))
+    }
+}
+
 /// What stands at a path, and its length in bytes.
 #[derive(Clone, Copy, Debug, PartialEq, Eq)]
 pub struct Found {
@@ -73,14 +105,26 @@ pub struct Found {
     /// When it was modified last, in nanoseconds since 1970. `None` for a folder, whose time follows its
     /// entries, and if nobody asked for it or it isn't known.
     pub modified: Option<u64>,
+    /// What is at another path later has the same number there.
+    pub number: FileNumber,
 }
 
 impl Found {
-    /// Whether the two have the same length and the same modified time.
+    /// Whether the two have the same length, the same modified time and the same number.
     pub fn is_same_state(self, after: Found) -> bool
         ensures { result ≡ is_same_state self after }
     {
-        self.length == after.length && is_same_time(self.modified, after.modified)
+        self.length == after.length
+            && is_same_time(self.modified, after.modified)
+            && self.number.is_same(after.number)
+    }
+
+    /// Whether this is the same file, before it moved: its number is known, and kind, length, modified time and
+    /// number are the same.
+    pub fn is_one_file(self, after: Found) -> bool
+        ensures { result ≡ is_one_file self after }
+    {
+        self.number.is_known() && self.kind.is_same(after.kind) && self.is_same_state(after)
     }
 }
 

@@ -1,4 +1,4 @@
-//! Listings of folders, and what changed between two of them.
+//! Listings of folders, what changed between two of them, and what moved.
 //!
 //! ```text
 //! let mut entries = Vec::new(rt.alloc());
@@ -8,11 +8,16 @@
 //!     let events = compare(rt.alloc(), &last, &listing)?;
 //! }
 //! ```
+//!
+//! [`moves::compare_moves`] returns the same events, and which of them tell of a move: the removal of the old path and
+//! the event of the new one have one tracker.
 #![tactic(auto)]
 
 pub mod compare;
 pub mod entry;
+mod holders;
 pub mod listing;
+pub mod moves;
 pub mod near;
 mod pairs;
 pub mod updates;

@@ -14,7 +14,7 @@ ghost use Rattle.folder_listing.specs.Near.{outside, seen};
 ghost use Rattle.folder_listing.specs.Parents.{has_parent, have_parents};
 ghost use Rattle.folder_listing.specs.Updates.{IsUpdate, updated};
 
-use crate::entry::{EntryKind, Found};
+use crate::entry::{EntryKind, FileNumber, Found};
 use crate::near::is_seen;
 use crate::updates::{Updates, update_entries};
 use notify_paths::error::Error;
@@ -54,8 +54,8 @@ impl<A: Allocator + Copy> Listing<A> {
     }
 
     /// Returns the listing of these entries: paths, what kind of thing stands there, and its length
-    /// in bytes; no modified time is known. Of two entries of one path the later one counts. It is `None`
-    /// if one of the paths is empty, or if a folder above one is missing.
+    /// in bytes; no modified time and no number is known. Of two entries of one path the later one counts. It
+    /// is `None` if one of the paths is empty, or if a folder above one is missing.
     pub fn from_entries(
         alloc: A,
         entries: Vec<(PathBuf<A>, EntryKind, u64), A>,
@@ -221,6 +221,7 @@ fn gather<A: Allocator + Copy>(
             kind,
             length,
             modified: None,
+            number: FileNumber::Unknown,
         };
         map.insert(path, found)?;
     }

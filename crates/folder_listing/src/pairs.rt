@@ -24,7 +24,7 @@ pub(crate) enum Change {
     Created(EntryKind),
     /// There is another kind of thing now.
     Replaced(EntryKind, EntryKind),
-    /// Its length or its modified time is another now.
+    /// Its length, its modified time or its number is another now.
     Rewritten,
     /// Nothing, or nothing that is told by itself.
     Same,
@@ -249,6 +249,17 @@ impl<'a, A: Allocator> UpdatedPairs<'a, A> {
         }
     }
 
+    /// Begins with the first path of all.
+    pub(crate) fn all(
+        alloc: A,
+        old: &'a BTreeMap<PathBuf<A>, Found, A>,
+        updates: &'a Updates<A>,
+    ) -> UpdatedPairs<'a, A>
+        ensures { result ≡ updated_pairs old.now.entries updates.now.entries }
+    {
+        UpdatedPairs::new(old, &PathBuf::empty(alloc), updates)
+    }
+
     /// Returns the next pair, if something is left to be told, where `top` is the path that went last.
     pub(crate) fn next_told(&mut self, top: Option<&PathBuf<A>>) -> Option<Pair<'a, A>>
         ensures { MatchOption result (walk (option_copied top.entry) self.old ≡ no_parts)
@@ -262,7 +273,7 @@ impl<'a, A: Allocator> UpdatedPairs<'a, A> {
     }
 
     /// Returns the next pair.
-    fn next(&mut self) -> Option<Pair<'a, A>>
+    pub(crate) fn next(&mut self) -> Option<Pair<'a, A>>
         ensures { MatchOption result (self.old ≡ []) (λ pair. self.old ≡ pair ∷ self.new) }
     {
         match (self.before, self.update) {

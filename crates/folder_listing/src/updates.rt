@@ -13,7 +13,7 @@ use std::collections::BTreeMap;
 pub enum Update {
     /// Nothing stands there any longer.
     Gone,
-    /// Something else stands there now, or the same with another length or modified time.
+    /// Something else stands there now, or the same with another length, modified time or number.
     Changed(Found),
     /// Something stands there now, and nothing did before.
     Added(Found),

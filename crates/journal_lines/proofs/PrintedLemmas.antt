@@ -11,7 +11,7 @@ use Rattle.report_loop.specs.Loop.{Answer, Follows, Program, Source, Step}
 use Rattle.report_loop.specs.Gave.{CalledWith}
 use Rattle.report_loop.proofs.GaveLemmas.{all_taken}
 use Rattle.journal_lines.specs.Kept.{Rule, passing}
-use Rattle.journal_lines.specs.Lines.{BeginsTimed, WritesTimed, after}
+use Rattle.journal_lines.specs.Lines.{BeginsTimed, WritesTimed, after, source_in}
 use Rattle.journal_lines.specs.Printed.{BeginsEach, WritesAll, WritesEach, WritesSome}
 use Rattle.journal_lines.specs.declared.journal.Journal.{Journal}
 
@@ -23,7 +23,8 @@ pub record IsJournal {P : Type 0} (program : Program P) (rule : P → Rule) (jou
   pub batch : (p p' : P) (batch : Vec Timed Global) → program.takes p (Ok batch) (Ok tt) p' →
       (rule p' ≡ rule p)
       × (journal p' ≡ record (journal p) { next = after (journal p).next (passing (rule p) batch.items) })
-      × WritesTimed (journal p).form (journal p).next (passing (rule p) batch.items) (out p) (out p')
+      × WritesTimed (journal p).form (source_in batch.items) (journal p).next (passing (rule p) batch.items) (out p)
+      (out p')
   pub errors : (p p' : P) (errors : Vec ErrorValue Global) → program.takes p (Err errors) (Ok tt) p' →
       (rule p' ≡ rule p) × (journal p' ≡ journal p) × (out p' ≡ out p)
   pub pass : (p p' : P) → program.passes p (Ok tt) p' →
@@ -84,8 +85,10 @@ journal_program rule journal out = record {
       × MatchResult report
       (λ batch. MatchResult answer
       (λ _. (journal new ≡ record (journal old) { next = after (journal old).next (passing (rule old) batch.items) })
-      × WritesTimed (journal old).form (journal old).next (passing (rule old) batch.items) (out old) (out new))
-      (λ fault. BeginsTimed (journal old).form (journal old).next (passing (rule old) batch.items) (out old) (out new)))
+      × WritesTimed (journal old).form (source_in batch.items) (journal old).next (passing (rule old) batch.items)
+      (out old) (out new))
+      (λ fault. BeginsTimed (journal old).form (source_in batch.items) (journal old).next
+      (passing (rule old) batch.items) (out old) (out new)))
       (λ errors. (journal new ≡ journal old) × (out new ≡ out old));
   passes = λ old answer new. (rule new ≡ rule old) × (journal new ≡ journal old) × (out new ≡ out old);
 }
@@ -146,7 +149,8 @@ module _ {P : Type 0} (rule : P → Rule) (journal : P → Journal) (out : P →
   begun_batch batch steps p q p' (Err fault) answer took on h =
       inr (
         h.0,
-        subst (λ x. BeginsTimed (journal p).form (journal p).next (passing (rule p) batch.items) (out p) (out x))
+        subst (λ x. BeginsTimed (journal p).form (source_in batch.items) (journal p).next
+            (passing (rule p) batch.items) (out p) (out x))
             (sym h.2) took.1,
       )
 

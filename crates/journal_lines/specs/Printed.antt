@@ -1,18 +1,17 @@
 -- What a program prints of what is reported to it.
 use Rattle.std.specs.Prelude.{◌≡◌, ◌⊎◌, ℕ, List, [], ◌∷◌, Option, None, Some, Ok, Err}
-use Rattle.notify_types.specs.Event.{Timed}
 use Rattle.fault_runs.specs.Until.{GaveSome}
 use Rattle.report_loop.specs.Gave.{Gave}
 use Rattle.report_loop.specs.Loop.{Source, Step}
 use Rattle.journal_lines.specs.Kept.{Rule, passing}
-use Rattle.journal_lines.specs.Lines.{BeginsTimed, WritesTimed, after}
+use Rattle.journal_lines.specs.Lines.{BeginsTimed, WritesTimed, after, source_in}
 use Rattle.journal_lines.specs.declared.form.Form.{Form}
 
 -- of each batch the entries of what passes were written, numbered through from this number on, and nothing else
 abbrev pub WritesEach : Form → Rule → ℕ → List Step → Option (List ℕ) → Option (List ℕ) → Type 0
 WritesEach form rule seq [] old new = new ≡ old
 WritesEach form rule seq (Some (Ok batch) ∷ steps) old new =
-    (between : Option (List ℕ)) × WritesTimed form seq (passing rule batch.items) old between
+    (between : Option (List ℕ)) × WritesTimed form (source_in batch.items) seq (passing rule batch.items) old between
     × WritesEach form rule (after seq (passing rule batch.items)) steps between new
 WritesEach form rule seq (Some (Err errors) ∷ steps) old new = WritesEach form rule seq steps old new
 WritesEach form rule seq (None ∷ steps) old new = WritesEach form rule seq steps old new
@@ -21,9 +20,9 @@ WritesEach form rule seq (None ∷ steps) old new = WritesEach form rule seq ste
 abbrev pub BeginsEach : Form → Rule → ℕ → List Step → Option (List ℕ) → Option (List ℕ) → Type 0
 BeginsEach form rule seq [] old new = new ≡ old
 BeginsEach form rule seq (Some (Ok batch) ∷ steps) old new =
-    ((between : Option (List ℕ)) × WritesTimed form seq (passing rule batch.items) old between
+    ((between : Option (List ℕ)) × WritesTimed form (source_in batch.items) seq (passing rule batch.items) old between
     × BeginsEach form rule (after seq (passing rule batch.items)) steps between new)
-    ⊎ ((steps ≡ []) × BeginsTimed form seq (passing rule batch.items) old new)
+    ⊎ ((steps ≡ []) × BeginsTimed form (source_in batch.items) seq (passing rule batch.items) old new)
 BeginsEach form rule seq (Some (Err errors) ∷ steps) old new = BeginsEach form rule seq steps old new
 BeginsEach form rule seq (None ∷ steps) old new = BeginsEach form rule seq steps old new
 

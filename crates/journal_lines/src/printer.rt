@@ -2,7 +2,7 @@
 ghost use Rattle.std.specs.Prelude.{◌≡◌, IfErr, IfOk, OnErr, OnOk, MatchResult};
 ghost use Rattle.journal_lines.specs.Kept.{passing};
 ghost use Rattle.journal_lines.specs.KeptView.{filter_rule};
-ghost use Rattle.journal_lines.specs.Lines.{BeginsTimed, WritesTimed, after};
+ghost use Rattle.journal_lines.specs.Lines.{BeginsTimed, WritesTimed, after, source_in};
 
 use crate::filter::PathFilter;
 use crate::journal::Journal;
@@ -39,11 +39,11 @@ impl<R: Clock + Drop, O: Write + Drop, E: Write + Drop> Printer<'_, '_, R, O, E>
     /// a line for each error. After an error the watcher looks again, so no change is lost by one.
     fn print(&mut self, report: DebounceEventResult) -> Result<(), Fault>
         ensures written { OnOk result (IfOk report (λ batch.
-            WritesTimed self.old.journal.form self.old.journal.next
+            WritesTimed self.old.journal.form (source_in batch.items) self.old.journal.next
             (passing (filter_rule self.old.filter) batch.items)
             (O.contents self.old.out) (O.contents self.new.out))) }
         ensures begun { OnErr result (IfOk report (λ batch.
-            BeginsTimed self.old.journal.form self.old.journal.next
+            BeginsTimed self.old.journal.form (source_in batch.items) self.old.journal.next
             (passing (filter_rule self.old.filter) batch.items)
             (O.contents self.old.out) (O.contents self.new.out))) }
         ensures next { OnOk result (IfOk report (λ batch.
@@ -77,9 +77,9 @@ impl<R: Clock + Drop, O: Write + Drop, E: Write + Drop> TakesReports for Printer
         × MatchResult report
         (λ batch. MatchResult answer (λ _. (new.journal ≡ record old.journal {
           next = after old.journal.next (passing (filter_rule old.filter) batch.items);
-        }) × WritesTimed old.journal.form old.journal.next
+        }) × WritesTimed old.journal.form (source_in batch.items) old.journal.next
         (passing (filter_rule old.filter) batch.items) (O.contents old.out) (O.contents new.out))
-        (λ _. BeginsTimed old.journal.form old.journal.next
+        (λ _. BeginsTimed old.journal.form (source_in batch.items) old.journal.next
         (passing (filter_rule old.filter) batch.items) (O.contents old.out) (O.contents new.out)))
         (λ _. (new.journal ≡ old.journal) × (O.contents new.out ≡ O.contents old.out)) };
 

@@ -5,7 +5,7 @@ use Rattle.std.specs.Prelude.{◌⊎◌}
 use Rattle.std.specs.List.{AllByRecursion}
 use Rattle.notify_paths.specs.Path.{PathValue}
 use Rattle.batch_plan.specs.Target.{target_of}
-use Rattle.mirror_files.specs.Writes.{ChangesOnly, IsAt, IsAtOrBeside, IsEither, IsFor, IsForOrBeside, IsPartial, IsPlaceOrBeside, Lead}
+use Rattle.mirror_files.specs.Writes.{ChangesOnly, IsAt, IsAtEither, IsAtOrBeside, IsEither, IsFor, IsForEither, IsForOrBeside, IsPartial, IsPlaceOrBeside, Lead}
 
 -- no call changes nothing
 pub none : {D : Type 0} (changes : D → PathValue → D → Type 0) (P : PathValue → Type 0) (disk : D) →
@@ -80,3 +80,10 @@ pub for_beside : (dry_run : Bool) (from to path target : PathValue) → target_o
     (changed : PathValue) → IsAtOrBeside dry_run to target changed → IsForOrBeside dry_run from to path changed
 for_beside dry_run from to path target e changed (d, inl h) = (d, inl (e ∙ ap Some (sym h)))
 for_beside dry_run from to path target e changed (d, inr p) = (d, inr p)
+
+-- the two paths between which something moves stand for their own
+pub for_either : (dry_run : Bool) (from to one other old new : PathValue) → target_of from to one ≡ Some old →
+    target_of from to other ≡ Some new → (changed : PathValue) → IsAtEither dry_run old new changed →
+    IsForEither dry_run from to one other changed
+for_either dry_run from to one other old new e f changed (d, inl h) = (d, inl (e ∙ ap Some (sym h)))
+for_either dry_run from to one other old new e f changed (d, inr h) = (d, inr (f ∙ ap Some (sym h)))

@@ -46,7 +46,11 @@ IsPlaceOrBeside to target path = (path ≡ target) ⊎ IsPartial to path
 abbrev pub IsAt : Bool → PathValue → PathValue → Type 0
 IsAt dry_run target path = (dry_run ≡ false) × (path ≡ target)
 
--- .. or one of the copy's under which a file is written first
+-- one of the two paths; in a dry run none is
+abbrev pub IsAtEither : Bool → PathValue → PathValue → PathValue → Type 0
+IsAtEither dry_run one other path = (dry_run ≡ false) × IsEither one other path
+
+-- this path, or one of the copy's under which a file is written first; in a dry run none is
 abbrev pub IsAtOrBeside : Bool → PathValue → PathValue → PathValue → Type 0
 IsAtOrBeside dry_run to target path = (dry_run ≡ false) × IsPlaceOrBeside to target path
 
@@ -54,7 +58,12 @@ IsAtOrBeside dry_run to target path = (dry_run ≡ false) × IsPlaceOrBeside to 
 abbrev pub IsFor : Bool → PathValue → PathValue → PathValue → PathValue → Type 0
 IsFor dry_run from to path changed = (dry_run ≡ false) × (target_of from to path ≡ Some changed)
 
--- .. or one of the copy's under which a file is written first
+-- the copy's path for the one of two or for the other; in a dry run none is
+abbrev pub IsForEither : Bool → PathValue → PathValue → PathValue → PathValue → PathValue → Type 0
+IsForEither dry_run from to one other changed =
+    (dry_run ≡ false) × ((target_of from to one ≡ Some changed) ⊎ (target_of from to other ≡ Some changed))
+
+-- the copy's path for this one of the folder, or one under which a file is written first; in a dry run none is
 abbrev pub IsForOrBeside : Bool → PathValue → PathValue → PathValue → PathValue → Type 0
 IsForOrBeside dry_run from to path changed =
     (dry_run ≡ false) × ((target_of from to path ≡ Some changed) ⊎ IsPartial to changed)

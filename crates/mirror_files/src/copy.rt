@@ -2,12 +2,13 @@
 ghost use Rattle.std.specs.Prelude.{◌≡◌, IfOk};
 ghost use Rattle.folder_listing.specs.Listing.{ListingValue};
 ghost use Rattle.batch_plan.specs.Naming.{namings};
-ghost use Rattle.mirror_files.specs.Writes.{ChangesOnly, IsChangedFor, IsFor, IsForOrBeside};
+ghost use Rattle.mirror_files.specs.Writes.{ChangesOnly, IsChangedFor, IsFor, IsForEither, IsForOrBeside};
 
 use crate::disk::Disk;
 use crate::places::Places;
 use batch_plan::action::Standing;
-use mirror_state::{FolderAndCopy, Leave, Seen, is_missing};
+use mirror_state::copied::Copied;
+use mirror_state::{FolderAndCopy, Had, Leave, Seen, is_missing};
 use notify_paths::path::PathBuf;
 use notify_types::event::DebouncedEvent;
 use std::io;
@@ -45,12 +46,7 @@ impl<D: Disk> FolderCopy<D> {
     }
 
     /// Has what stands at the path of the folder stand in the copy too, of which the copy had this before.
-    fn put_into(
-        &mut self,
-        path: &PathBuf,
-        standing: Standing,
-        was: Option<Standing>,
-    ) -> io::Result<bool>
+    fn put_into(&mut self, path: &PathBuf, standing: Standing, had: Had) -> io::Result<bool>
         ensures last { IfOk result (IsChangedFor (D.changed self.new.disk) self.old.places.from
             self.old.places.to path.now self.old.places.leave.dry_run) }
         ensures only { ChangesOnly D.changes (IsForOrBeside self.old.places.leave.dry_run
@@ -60,7 +56,27 @@ impl<D: Disk> FolderCopy<D> {
             return Ok(false);
         };
         self.places
-            .put(&mut self.disk, path, &target, standing, was)
+            .put(&mut self.disk, path, &target, standing, had)
+    }
+
+    /// Has what stands in the copy for the one path stand there for the other, if nothing does yet and all of it was
+    /// copied. It changes nothing but these two.
+    fn move_copy(&mut self, from: &PathBuf, to: &PathBuf, copied: &Copied) -> io::Result<bool>
+        ensures last { IfOk result (IsChangedFor (D.changed self.new.disk) self.old.places.from
+            self.old.places.to to.now self.old.places.leave.dry_run) }
+        ensures only { ChangesOnly D.changes (IsForEither self.old.places.leave.dry_run
+            self.old.places.from self.old.places.to from.now to.now) self.old.disk self.new.disk }
+    {
+        let Some(old) = self.places.target_of(from)? else {
+            return Ok(false);
+        };
+        let Some(new) = self.places.target_of(to)? else {
+            return Ok(false);
+        };
+        if !self.places.may_move(&self.disk, &old, &new, copied)? {
+            return Ok(false);
+        }
+        self.places.move_free(&mut self.disk, &old, &new)
     }
 
     /// Removes from the copy what was put there for this path alone.
@@ -110,6 +126,9 @@ impl<D: Disk> FolderAndCopy for FolderCopy<D> {
         × (batch ≡ namings copy.places.from listing) };
 
     ghost has_put = { λ _ _ _. Unit {0} };
+
+    ghost moves = { λ old from to new. ChangesOnly D.changes (IsForEither old.places.leave.dry_run
+        old.places.from old.places.to from to) old.disk new.disk };
 
     fn folder(&self) -> &PathBuf {
         &self.places.from
@@ -165,13 +184,12 @@ impl<D: Disk> FolderAndCopy for FolderCopy<D> {
         self.disk.beside(&self.places.from, &self.places.to)
     }
 
-    fn put(
-        &mut self,
-        path: &PathBuf,
-        standing: Standing,
-        was: Option<Standing>,
-    ) -> io::Result<bool> {
-        self.put_into(path, standing, was)
+    fn put(&mut self, path: &PathBuf, standing: Standing, had: Had) -> io::Result<bool> {
+        self.put_into(path, standing, had)
+    }
+
+    fn move_to(&mut self, from: &PathBuf, to: &PathBuf, copied: &Copied) -> io::Result<bool> {
+        self.move_copy(from, to, copied)
     }
 
     fn take_out(&mut self, path: &PathBuf, standing: Standing) -> io::Result<bool> {

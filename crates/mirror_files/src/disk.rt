@@ -1,10 +1,11 @@
 //! A disk, as a folder and its copy use it.
-ghost use Rattle.std.specs.Prelude.{◌≡◌, [], ◌∷◌, IfOk, OnOk};
+ghost use Rattle.std.specs.Prelude.{◌≡◌, true, [], ◌∷◌, IfOk, OnOk};
 ghost use Rattle.folder_listing.specs.Listing.{ListingValue};
 ghost use Rattle.batch_plan.specs.Naming.{namings};
 ghost use Rattle.mirror_files.specs.Writes.{Lead};
 
 use batch_plan::target::Target;
+use folder_listing::listing::Listing;
 use notify_paths::path::PathBuf;
 use notify_types::event::DebouncedEvent;
 use std::alloc::Global;
@@ -14,7 +15,7 @@ use watch_program::Fault;
 
 /// A disk. What it is told to change has a `Target`, so it lies in a copy.
 ///
-/// Its ghost members say what was changed last, and from what a call led to what.
+/// Its ghost members say what was changed last, from what a call led to what, and where a look found nothing.
 pub trait Disk: Drop {
     ghost use Rattle.notify_paths.specs.Path.{PathValue};
 
@@ -24,6 +25,9 @@ pub trait Disk: Drop {
     /// A call that may change what stands at the path, and nothing else, leads from the one to the other, whether it
     /// goes well or not.
     ghost changes: { Self → PathValue → Self → Type 0 };
+
+    /// A look found nothing at the path.
+    ghost was_free: { Self → PathValue → Type 0 };
 
     /// A file that is open.
     type File: io::Read + io::Write + OpenFile + Drop;
@@ -57,6 +61,13 @@ pub trait Disk: Drop {
     /// Returns a batch of removals of what the copy has beside what stands in the folder.
     fn beside(&self, from: &PathBuf, to: &PathBuf) -> Result<Vec<DebouncedEvent>, Fault>;
 
+    /// Returns what stands at the path and below it, 64 levels deep, if all of that can be looked at.
+    fn whole(&self, folder: &PathBuf) -> Option<Listing>;
+
+    /// Whether nothing stands there, not even a link.
+    fn is_free(&self, target: &Target<'_>) -> bool
+        ensures { result ≡ true → was_free self.now target.now.path };
+
     /// Makes a file that nobody else may read, and opens it to be written. It is an error if anything has its
     /// name, as a link: that stays, and nothing is written through it.
     fn create_file(&mut self, target: &Target<'_>) -> io::Result<Self::File>
@@ -82,6 +93,12 @@ pub trait Disk: Drop {
     fn remove_all(&mut self, target: &Target<'_>) -> io::Result<()>
         ensures last { OnOk result (changed self.new target.now.path) }
         ensures only { changes self.old target.now.path self.new };
+
+    /// Gives what stands in the copy another place in it, at which a look found nothing.
+    fn move_to(&mut self, from: &Target<'_>, to: &Target<'_>) -> io::Result<()>
+        requires free { was_free self.old to.now.path }
+        ensures last { OnOk result (changed self.new to.now.path) }
+        ensures only { Lead changes self.old (from.now.path ∷ to.now.path ∷ []) self.new };
 
     /// Gives a file of the copy another name in it, in place of the file that has that name.
     fn rename(&mut self, from: &Target<'_>, to: &Target<'_>) -> io::Result<()>

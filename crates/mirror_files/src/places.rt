@@ -2,13 +2,16 @@
 ghost use Rattle.std.specs.Prelude.{◌≡◌, IfOk, OnOk};
 ghost use Rattle.std.specs.Option.{option_map};
 ghost use Rattle.batch_plan.specs.Target.{target_of};
-ghost use Rattle.mirror_files.specs.Writes.{ChangesOnly, IsAt, IsAtOrBeside, IsChanged, IsEither, IsPartial, IsPlaceOrBeside};
+ghost use Rattle.mirror_files.specs.Writes.{ChangesOnly, IsAt, IsAtEither, IsAtOrBeside, IsChanged, IsEither, IsPartial, IsPlaceOrBeside};
 
 use crate::disk::Disk;
 use crate::writing::{Original, fill, has_name, partial_name, target_named};
 use batch_plan::action::Standing;
-use batch_plan::target::Target;
-use mirror_state::{Leave, Seen, is_missing};
+use batch_plan::target::{Target, target_of};
+use folder_listing::entry::EntryKind;
+use folder_listing::listing::Listing;
+use mirror_state::copied::Copied;
+use mirror_state::{Had, Leave, Seen, is_missing};
 use notify_paths::path::PathBuf;
 use std::alloc::Global;
 use std::fs::Metadata;
@@ -100,20 +103,21 @@ impl Places {
         path: &PathBuf,
         target: &Target<'_>,
         standing: Standing,
-        was: Option<Standing>,
+        had: Had,
     ) -> io::Result<bool>
         ensures last { IfOk result (IsChanged (D.changed disk.new) target.now.path
             self.now.leave.dry_run) }
         ensures only { ChangesOnly D.changes (IsAtOrBeside self.now.leave.dry_run
             self.now.to target.now.path) disk.old disk.new }
     {
-        // In a dry run what was of another kind stands still.
-        if self.leave.dry_run && was.is_some_and(|was| was != standing) {
-            return Ok(true);
+        if self.leave.dry_run
+            && let Some(done) = done_dry(standing, had)
+        {
+            return Ok(done);
         }
         match standing {
             Standing::Folder => self.make(disk, target),
-            Standing::File => self.copy(disk, path, target, was.is_some()),
+            Standing::File => self.copy(disk, path, target, is_known(had)),
         }
     }
 
@@ -231,6 +235,75 @@ impl Places {
         Ok(true)
     }
 
+    /// Whether what stands at the target may be moved to the other one: no link is on the way, and nothing of it is the
+    /// copy's own. In a dry run that isn't looked at, since what was copied may be missing.
+    pub(crate) fn may_move<D: Disk>(
+        &self,
+        disk: &D,
+        old: &Target<'_>,
+        new: &Target<'_>,
+        copied: &Copied,
+    ) -> io::Result<bool> {
+        if self.leave.dry_run {
+            return Ok(true);
+        }
+        check_folders(disk, old.path(), &self.to)?;
+        check_folders(disk, new.path(), &self.to)?;
+        match disk.whole(old.path()) {
+            Some(listing) => self.is_all_copied(&listing, old, copied),
+            None => Ok(false),
+        }
+    }
+
+    /// Whether all that the listing has at and below the target was copied.
+    fn is_all_copied(
+        &self,
+        listing: &Listing,
+        target: &Target<'_>,
+        copied: &Copied,
+    ) -> io::Result<bool> {
+        for (path, found) in listing.iter() {
+            if path.starts_with(target.path()) && !self.is_copied(path, found.kind, copied)? {
+                return Ok(false);
+            }
+        }
+        Ok(true)
+    }
+
+    /// Whether what stands at the path of the copy was copied.
+    fn is_copied(&self, path: &PathBuf, kind: EntryKind, copied: &Copied) -> io::Result<bool> {
+        let Some(original) = target_of(&self.to, &self.from, path)? else {
+            return Ok(false);
+        };
+        Ok(match copied.get(&original) {
+            Some(Standing::Folder) => kind.is_folder(),
+            Some(Standing::File) => kind.is_file(),
+            None => false,
+        })
+    }
+
+    /// Moves what stands at the one target to the other, if nothing stands there.
+    pub(crate) fn move_free<D: Disk>(
+        &self,
+        disk: &mut D,
+        old: &Target<'_>,
+        new: &Target<'_>,
+    ) -> io::Result<bool>
+        ensures last { IfOk result (IsChanged (D.changed disk.new) new.now.path
+            self.now.leave.dry_run) }
+        ensures only { ChangesOnly D.changes (IsAtEither self.now.leave.dry_run
+            old.now.path new.now.path) disk.old disk.new }
+    {
+        if !disk.is_free(new) {
+            return Ok(false);
+        }
+        if self.leave.dry_run {
+            return Ok(true);
+        }
+        disk.move_to(old, new)?;
+        Ok(true)
+    }
+
     /// Copies the file beside its place, and then puts it there. What was begun doesn't stay.
     fn replace<D: Disk>(
         &self,
@@ -269,6 +342,25 @@ impl Places {
             }
         }
         Err(io::Error::from(io::ErrorKind::AlreadyExists))
+    }
+}
+
+/// Whether it would be said in a dry run that this was put where the copy had that, if that is known without a look:
+/// what was of another kind stands still, and what came along with a move stands at its old place.
+fn done_dry(standing: Standing, had: Had) -> Option<bool> {
+    match had {
+        Had::Nothing => None,
+        Had::Copied(was) if was == standing => None,
+        Had::Moved(was) if was == standing => Some(false),
+        Had::Copied(_) | Had::Moved(_) => Some(true),
+    }
+}
+
+/// Whether a change was reported of what was copied there.
+fn is_known(had: Had) -> bool {
+    match had {
+        Had::Copied(_) => true,
+        Had::Nothing | Had::Moved(_) => false,
     }
 }
 

@@ -7,6 +7,7 @@ use crate::disk::Disk;
 use batch_plan::naming::{name_beside, name_listed};
 use batch_plan::target::Target;
 use folder_listing::listing::Listing;
+use mirror_state::is_missing;
 use notify_paths::path::PathBuf;
 use notify_types::event::{DebouncedEvent, RecursiveMode};
 use poll_rounds::list::list;
@@ -35,6 +36,8 @@ impl<R: Files + Clock + AllocGlobal + Copy + Drop> Disk for RealDisk<R> {
     ghost changed = { λ _ _. Unit {0} };
 
     ghost changes = { λ _ _ _. Unit {0} };
+
+    ghost was_free = { λ _ _. Unit {0} };
 
     type File = R::File;
 
@@ -80,6 +83,17 @@ impl<R: Files + Clock + AllocGlobal + Copy + Drop> Disk for RealDisk<R> {
         Ok(batch)
     }
 
+    fn whole(&self, folder: &PathBuf) -> Option<Listing> {
+        whole_listing(self.rt, folder).unwrap_or(None)
+    }
+
+    fn is_free(&self, target: &Target<'_>) -> bool {
+        match fs::symlink_metadata(&self.rt, target.as_str()) {
+            Ok(_) => false,
+            Err(error) => is_missing(&error),
+        }
+    }
+
     fn create_file(&mut self, target: &Target<'_>) -> io::Result<R::File> {
         let mut how = OpenOptions::new();
         how.write(true).create_new(true);
@@ -102,6 +116,10 @@ impl<R: Files + Clock + AllocGlobal + Copy + Drop> Disk for RealDisk<R> {
         fs::remove_dir_all(&self.rt, target.as_str())
     }
 
+    fn move_to(&mut self, from: &Target<'_>, to: &Target<'_>) -> io::Result<()> {
+        fs::rename(&self.rt, from.as_str(), to.as_str())
+    }
+
     fn rename(&mut self, from: &Target<'_>, to: &Target<'_>) -> io::Result<()> {
         fs::rename(&self.rt, from.as_str(), to.as_str())
     }
@@ -114,6 +132,24 @@ fn open_new<R: Files>(rt: &R, mut how: OpenOptions, target: &Target<'_>) -> io::
     how.mode(0o600).open(rt, target.as_str())
 }
 
+/// What stands at the path and below it, unless some of it can't be looked at, or has a name that isn't UTF-8.
+fn whole_listing<R: Files + Clock + AllocGlobal + Copy + Drop>(
+    rt: R,
+    folder: &PathBuf,
+) -> Result<Option<Listing>, Fault> {
+    let alloc = rt.alloc();
+    let mut folders = RealFolders::new(rt, alloc);
+    folders.note_closed();
+    let listing = listed(alloc, &mut folders, folder)?;
+    let mut closed = Vec::new(alloc);
+    folders.exchange_closed(&mut closed);
+    if closed.is_empty() && folders.left_out() == 0 {
+        Ok(Some(listing))
+    } else {
+        Ok(None)
+    }
+}
+
 /// What stands at the folder, or where a link there leads to, and below it.
 fn listing_of<R: Files + Clock + AllocGlobal + Copy + Drop>(
     rt: R,
@@ -124,8 +160,17 @@ fn listing_of<R: Files + Clock + AllocGlobal + Copy + Drop>(
     let mut followed = Vec::new(alloc);
     followed.push(folder.clone()?)?;
     folders.follow(&mut followed);
+    listed(alloc, &mut folders, folder)
+}
+
+/// What these folders show at the folder and below it.
+fn listed<R: Files + Clock + AllocGlobal + Copy + Drop>(
+    alloc: Global,
+    folders: &mut RealFolders<R>,
+    folder: &PathBuf,
+) -> Result<Listing, Fault> {
     let root = (folder.clone()?, RecursiveMode::Recursive);
-    match list(alloc, &mut folders, &[root]) {
+    match list(alloc, folders, &[root]) {
         Ok(listing) => Ok(listing),
         Err(error) => Err(Fault::of(&error, Fault::CannotWatch)),
     }

@@ -1,4 +1,5 @@
 pub mod After
 pub mod Copy
 pub mod Looked
+pub mod Moving
 pub mod Seen

@@ -73,6 +73,15 @@ impl Copied {
         Ok(found)
     }
 
+    /// Returns this path, if the copy has it, and those below it, a folder before what is in it.
+    pub(crate) fn tree(&self, path: &PathBuf) -> Result<Vec<(PathBuf, Standing)>, AllocError> {
+        let mut found = self.below(path)?;
+        if let Some(standing) = self.get(path) {
+            found.insert(0, (path.clone()?, standing))?;
+        }
+        Ok(found)
+    }
+
     /// Returns the paths below this one, a folder before what is in it.
     pub fn below(&self, path: &PathBuf) -> Result<Vec<(PathBuf, Standing)>, AllocError>
         ensures { IfOk result (λ found. list_all (λ e. is_prefix path.now e.0) found.items ≡ true) }

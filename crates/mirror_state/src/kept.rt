@@ -2,12 +2,13 @@
 ghost use Rattle.std.specs.Prelude.{◌≡◌, None, Some, IfOk, OnOk};
 ghost use Rattle.batch_plan.specs.Plan.{look_at};
 
+use crate::came::Came;
 use crate::copied::Copied;
 use crate::looks::Looks;
-use crate::seen::FolderAndCopy;
+use crate::seen::{FolderAndCopy, Had};
 use batch_plan::action::Standing;
 use notify_paths::path::PathBuf;
-use std::alloc::AllocError;
+use std::alloc::{AllocError, Global};
 use std::io;
 
 /// A copy, and what it has of its folder: just what calls that went well have left.
@@ -15,9 +16,29 @@ use std::io;
 pub struct Kept<C: Drop> {
     pub copy: C,
     pub copied: Copied,
+    /// What came along with moves, and wasn't put there since.
+    pub(crate) came: Came,
+}
+
+/// What the copy had of the path, which counts as copied as this. What came along with a move does so once.
+fn had_of(came: &mut Came, path: &PathBuf, was: Option<Standing>) -> Had {
+    match (came.take(path), was) {
+        (_, None) => Had::Nothing,
+        (false, Some(was)) => Had::Copied(was),
+        (true, Some(was)) => Had::Moved(was),
+    }
 }
 
 impl<C: FolderAndCopy> Kept<C> {
+    /// Returns that of a copy which has nothing yet.
+    pub(crate) fn new(alloc: Global, copy: C) -> Kept<C> {
+        Kept {
+            copy,
+            copied: Copied::new(alloc),
+            came: Came::new(alloc),
+        }
+    }
+
     /// Has what stands at the path stand in the copy too. What the copy has of another kind there makes way, with
     /// all below it.
     pub(crate) fn put(
@@ -58,7 +79,8 @@ impl<C: FolderAndCopy> Kept<C> {
         ensures { IfOk result (λ done. IfOk done (λ _. C.has_put self.new.copy path.now standing
             × (look_at self.new.copied path.now ≡ Some standing))) }
     {
-        let done = self.copy.put(path, standing, was);
+        let had = had_of(&mut self.came, path, was);
+        let done = self.copy.put(path, standing, had);
         if done.is_ok() {
             self.copied.insert(path, standing)?;
         }

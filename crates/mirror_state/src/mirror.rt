@@ -9,12 +9,13 @@ ghost use Rattle.mirror_state.specs.After.{AllWait, IsAgainOf, IsCarriedOut, IsT
 ghost use Rattle.mirror_state.specs.Looked.{is_kept, lets_go_of};
 
 use crate::NAME;
-use crate::copied::Copied;
+use crate::came::Came;
 use crate::kept::Kept;
 use crate::looks::Looks;
 use crate::seen::{FolderAndCopy, Seen};
 use crate::waiting::Waiting;
 use crate::words::Words;
+use batch_moves::Moves;
 use batch_plan::action::{Action, Standing};
 use batch_plan::naming::{name_again, name_removed};
 use batch_plan::planning::plan;
@@ -62,6 +63,11 @@ fn has_request(batch: &[DebouncedEvent]) -> bool
     batch.iter().any(|event| event.need_rescan())
 }
 
+/// Whether an event of the batch has a tracker.
+fn tells_moves(batch: &[DebouncedEvent]) -> bool {
+    batch.iter().any(|event| event.event.tracker().is_some())
+}
+
 /// What the words allow.
 #[derive(Clone, Copy, Debug)]
 pub struct Leave {
@@ -75,9 +81,11 @@ pub struct Leave {
 /// was reported, what a reader of the batches has there, or the path waits.
 #[derive(Drop)]
 pub struct Mirror<C: Drop, O: Drop, E: Drop> {
-    alloc: Global,
+    pub(crate) alloc: Global,
     leave: Leave,
     pub kept: Kept<C>,
+    /// The moves of the last batch that told any.
+    pub(crate) earlier: Option<Moves>,
     pub waiting: Waiting,
     /// After how long what waits is tried again.
     pause: Duration,
@@ -89,7 +97,7 @@ pub struct Mirror<C: Drop, O: Drop, E: Drop> {
     copy_number: Option<u64>,
     /// What the copy has beside the folder wasn't removed since the folder was there again.
     has_beside: bool,
-    words: Words<O, E>,
+    pub(crate) words: Words<O, E>,
 }
 
 impl<C: FolderAndCopy, O: Write + Drop, E: Write + Drop> Mirror<C, O, E> {
@@ -99,10 +107,8 @@ impl<C: FolderAndCopy, O: Write + Drop, E: Write + Drop> Mirror<C, O, E> {
         Mirror {
             alloc,
             leave,
-            kept: Kept {
-                copy,
-                copied: Copied::new(alloc),
-            },
+            kept: Kept::new(alloc, copy),
+            earlier: None,
             waiting: Waiting::new(alloc),
             pause: Duration::from_millis(PAUSE),
             has_failed: false,
@@ -139,11 +145,66 @@ impl<C: FolderAndCopy, O: Write + Drop, E: Write + Drop> Mirror<C, O, E> {
             (events_of (again_of self.old.waiting)) self.new.waiting self.new.kept.copied) }
     {
         self.has_failed = false;
+        // What no batch has told by now counts as any other copy.
+        self.kept.came = Came::new(self.alloc);
         self.words.said.begin_again();
         let batch = self.waiting.take_all()?;
         self.carry_out_all(batch.as_slice())?;
         self.words.said.end_again();
         Ok(())
+    }
+
+    /// Makes the moves that the batch tells, and then carries out what it asks for, and these events.
+    fn take_moved(
+        &mut self,
+        batch: Vec<DebouncedEvent>,
+        added: Vec<DebouncedEvent>,
+    ) -> Result<(), Fault>
+        ensures { OnOk result ((copy : C) × WaitOrAreCopied (C.sees copy)
+            (events_of (batch.items ++ added.items)) self.new.waiting self.new.kept.copied) }
+    {
+        let mut batch = batch;
+        let left = self.move_first(batch.as_slice())?;
+        let mut events = self.gone_of(left)?;
+        events.append(&mut batch)?;
+        self.take_both(events, added)
+    }
+
+    /// Makes the moves that the batch tells, if the folder and its copy are there. Returns removals of what came
+    /// along and isn't told yet.
+    fn move_first(&mut self, batch: &[DebouncedEvent]) -> Result<Vec<DebouncedEvent>, Fault> {
+        self.kept.came.forget_told(self.alloc);
+        if !tells_moves(batch) || !self.has_folders()? {
+            return Ok(Vec::new(self.alloc));
+        }
+        self.tell_more(batch)?;
+        self.make_moves(batch)
+    }
+
+    /// Returns those of the removals at whose paths nothing stands, to be carried out before the batch. The others
+    /// wait: the next batch may tell them.
+    fn gone_of(&mut self, left: Vec<DebouncedEvent>) -> Result<Vec<DebouncedEvent>, Fault> {
+        let mut gone = Vec::new(self.alloc);
+        for event in left {
+            if self.is_still(&event)? {
+                continue;
+            }
+            gone.push(event)?;
+        }
+        Ok(gone)
+    }
+
+    /// Whether something may stand at the event's path: then it waits.
+    fn is_still(&mut self, event: &DebouncedEvent) -> Result<bool, Fault> {
+        let Some(path) = event.first_path() else {
+            return Ok(false);
+        };
+        if self.is_gone_from(path) {
+            return Ok(false);
+        }
+        self.has_failed = true;
+        self.waiting.insert(path, false)?;
+        Ok(true)
     }
 
     /// Carries out what the batch asks for, and then these events.
@@ -633,7 +694,7 @@ impl<C: FolderAndCopy, O: Write + Drop, E: Write + Drop> TakesReports for Mirror
         // What is beside goes before the batch is taken, so that the copy is as the batch says in the end.
         self.remove_beside()?;
         match report {
-            Ok(batch) => self.take_both(batch, added),
+            Ok(batch) => self.take_moved(batch, added),
             Err(errors) => Ok(self.words.said.say_errors(errors.as_slice())?),
         }
     }

@@ -2,6 +2,7 @@
 ghost use Rattle.std.specs.Prelude.{◌≡◌, IfOk, OnOk};
 ghost use Rattle.mirror_state.specs.Seen.{standing_of};
 
+use crate::copied::Copied;
 use batch_plan::action::Standing;
 use notify_paths::path::PathBuf;
 use notify_types::event::DebouncedEvent;
@@ -55,10 +56,22 @@ pub(crate) fn is_memory(error: &io::Error) -> bool {
     error.kind() == io::ErrorKind::OutOfMemory && error.raw_os_error().is_none()
 }
 
+/// What the copy had of a path before something is put there.
+#[derive(Clone, Copy)]
+pub enum Had {
+    /// Nothing that counts as copied.
+    Nothing,
+    /// What was copied there.
+    Copied(Standing),
+    /// What came along with a move, by what the batch tells of it.
+    Moved(Standing),
+}
+
 /// A folder and its copy, which are asked by paths of the folder. A call that changes the copy says whether
 /// there was anything to do.
 ///
-/// Its ghost members say what a look may answer, what may stand in the folder, and what was put into the copy last.
+/// Its ghost members say what a look may answer, what may stand in the folder, what was put into the copy last, and
+/// from what a move led to what.
 pub trait FolderAndCopy: Drop {
     ghost use Rattle.std.specs.Prelude.{List};
     ghost use Rattle.notify_paths.specs.Path.{PathValue};
@@ -74,6 +87,9 @@ pub trait FolderAndCopy: Drop {
 
     /// The last call put this there, and went well.
     ghost has_put: { Self → PathValue → Standing → Type 0 };
+
+    /// A call that was asked to move the one path to the other leads from this to that.
+    ghost moves: { Self → PathValue → PathValue → Self → Type 0 };
 
     /// Returns the folder.
     fn folder(&self) -> &PathBuf;
@@ -106,8 +122,13 @@ pub trait FolderAndCopy: Drop {
     fn beside(&self) -> Result<Vec<DebouncedEvent>, Fault>;
 
     /// Has what stands at the path of the folder stand in the copy too, of which the copy had this before.
-    fn put(&mut self, path: &PathBuf, standing: Standing, was: Option<Standing>) -> io::Result<bool>
+    fn put(&mut self, path: &PathBuf, standing: Standing, had: Had) -> io::Result<bool>
         ensures { OnOk result (has_put self.new path.now standing) };
+
+    /// Has what stands in the copy for the path `from` stand there for `to`, if nothing does yet and nothing at or
+    /// below `from` is the copy's own: all of it was copied. In a dry run the copy's own isn't looked for.
+    fn move_to(&mut self, from: &PathBuf, to: &PathBuf, copied: &Copied) -> io::Result<bool>
+        ensures { moves self.old from.now to.now self.new };
 
     /// Removes from the copy what was put there for this path alone: a folder only if it is empty. What
     /// stands there of the copy's own stays.

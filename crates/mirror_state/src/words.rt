@@ -36,6 +36,17 @@ impl<O: Write + Drop, E: Write + Drop> Words<O, E> {
         write_now(line.as_slice(), &mut self.out)
     }
 
+    /// Says what was moved.
+    pub(crate) fn say_moved(&mut self, from: &PathBuf, to: &PathBuf) -> Result<(), Fault> {
+        let mut line = Vec::new(self.alloc);
+        line.extend_from_slice(b"move ")?;
+        push_field(&mut line, from.as_str().as_bytes())?;
+        line.push(b'\t')?;
+        push_field(&mut line, to.as_str().as_bytes())?;
+        line.push(b'\n')?;
+        write_now(line.as_slice(), &mut self.out)
+    }
+
     /// Says what failed, once.
     pub(crate) fn say_failed(
         &mut self,

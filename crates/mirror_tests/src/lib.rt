@@ -5,6 +5,8 @@
 #[cfg(test)]
 mod failures;
 #[cfg(test)]
+mod moves;
+#[cfg(test)]
 mod reports;
 #[cfg(test)]
 mod room;

@@ -45,6 +45,12 @@ impl<R: Files + Abort + AllocGlobal + Env + Copy + Drop> Room<R> {
         fs::write(&self.rt, self.place(end).as_str(), text).expect(&self.rt, "a file");
     }
 
+    pub(crate) fn rename(&self, from: &str, to: &str) {
+        fs::rename(&self.rt, self.place(from).as_str(), self.place(to).as_str()).expect(
+            &self.rt, "a rename",
+        );
+    }
+
     pub(crate) fn remove(&self, end: &str) {
         fs::remove_file(&self.rt, self.place(end).as_str()).expect(&self.rt, "a file");
     }

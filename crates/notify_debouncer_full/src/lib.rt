@@ -34,6 +34,9 @@ pub use debounce_core::data::DebounceDataInner;
 pub use debounce_core::laws::laws_of_runs;
 pub use debounce_model::command::{Command, Reply};
 pub use debounce_model::file_id::FileId;
+pub use debounce_shell::by_hand::{
+    ByHand, new_debouncer_by_hand, new_journaled_debouncer_by_hand, new_told_debouncer_by_hand,
+};
 pub use debounce_shell::debouncer::{
     Debouncer, new_debouncer_opt, new_journaled_debouncer, new_told_debouncer,
 };
@@ -43,21 +46,16 @@ pub use debounce_threads::run::run_threads;
 pub use debounce_turns::clock::now;
 pub use debounce_turns::feed::{Feed, Receipt};
 pub use debounce_turns::left::{Forgotten, Leaves};
-pub use debounce_turns::turn::{Gate, feed_one, turn};
+pub use debounce_turns::turn::{FeedGate, Gate, TickGate, feed_one, turn};
 pub use event_order::order::sort_events;
 pub use event_queues::queue::Queue;
 pub use file_id_cache::cache::{FileIdCache, NoCache};
 pub use file_id_cache::file_id_map::FileIdMap;
 pub use file_id_cache::scan::Scan;
-pub use folder_listing::compare::compare;
-pub use folder_listing::entry::{EntryKind, Found};
-pub use folder_listing::listing::Listing;
 pub use folder_scan::folder_scan::FolderScan;
 pub use notify_paths::error::{Error, ErrorKind};
 pub use notify_paths::part::{FoldersAbove, Part, Parts};
 pub use notify_paths::path::PathBuf;
-pub use notify_poll::hints::Hints;
-pub use notify_poll::watcher::{ClosedCount, PollTask, PollWatcher};
 pub use notify_types::event::{DebouncedEvent, Event, EventAttributes, Flag, RecursiveMode};
 pub use notify_types::kind::{
     AccessKind, AccessMode, CreateKind, DataChange, EventKind, MetadataKind, ModifyKind,
@@ -67,13 +65,7 @@ pub use notify_types::time::{Moment, age};
 pub use notify_watch::config::{Config, WatcherKind};
 pub use notify_watch::handler::{DebounceEventHandler, DebounceEventResult, EventHandler};
 pub use notify_watch::watcher::{ListingWatcher, Task, Watcher, start_task};
-pub use poll_roots::polled::Polled;
-pub use poll_rounds::folders::Folders;
-pub use poll_rounds::list::list;
-pub use poll_rounds::round::poll_round;
 pub use queue_handler::QueueHandler;
-pub use real_folders::noting::NotingFolders;
-pub use real_folders::real::RealFolders;
 pub use recommended::{
     RecommendedCache, RecommendedDebouncer, RecommendedWatcher, new_debouncer,
     new_debouncer_with_config,
@@ -82,3 +74,16 @@ pub use report_queue::queue::{QueueRest, ReportQueue, report_queue};
 pub use report_queue::sender::ReportSender;
 pub use reports::{LastReports, QueueingDebouncer, RecommendedReports, Reports};
 pub use runtime::{DebouncerAllocator, DebouncerRuntime};
+
+// The watcher that polls.
+pub use folder_listing::compare::compare;
+pub use folder_listing::entry::{EntryKind, FileNumber, Found};
+pub use folder_listing::listing::Listing;
+pub use notify_poll::hints::Hints;
+pub use notify_poll::watcher::{ClosedCount, PollTask, PollWatcher};
+pub use poll_roots::polled::Polled;
+pub use poll_rounds::folders::Folders;
+pub use poll_rounds::list::list;
+pub use poll_rounds::round::poll_round;
+pub use real_folders::noting::NotingFolders;
+pub use real_folders::real::RealFolders;

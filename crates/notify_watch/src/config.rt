@@ -12,13 +12,14 @@ pub struct Config {
     initial_events: bool,
     root_links: bool,
     closed_kept: bool,
+    moves: bool,
 }
 
 impl Default for Config {
     ghost is_default = { IsDefaultConfig };
 
     /// Returns the settings of most programs: a poll each second, by lengths and modified times, no event of what
-    /// stands at a path when it is watched, no link followed, and what permission closes counts as missing.
+    /// stands at a path when it is watched, no link followed, what permission closes counts as missing, and no move told.
     fn default() -> Config {
         Config {
             poll_interval: Duration::from_secs(1),
@@ -26,6 +27,7 @@ impl Default for Config {
             initial_events: false,
             root_links: false,
             closed_kept: false,
+            moves: false,
         }
     }
 }
@@ -124,6 +126,27 @@ impl Config {
         ensures { result ≡ self.now.closed_kept }
     {
         self.closed_kept
+    }
+
+    /// Sets whether a polling watcher also reads the numbers that the file system has for files and folders, and tells
+    /// by them what moved: the removal of the old path and the event of the new one have one tracker, and so has each
+    /// creation of what came along with a folder. Another number at a path is a change of what stands there, so a file
+    /// that was replaced by one of the same length and modified time is reported too. Without it no number is read, and
+    /// no event has a tracker.
+    pub fn with_moves(self, told: bool) -> Config
+        ensures { result ≡ record self { moves = told } }
+    {
+        Config {
+            moves: told,
+            ..self
+        }
+    }
+
+    /// Returns whether a polling watcher tells what moved.
+    pub fn moves(&self) -> bool
+        ensures { result ≡ self.now.moves }
+    {
+        self.moves
     }
 }
 

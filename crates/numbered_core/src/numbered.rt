@@ -201,20 +201,15 @@ impl NumberedCore {
         self.core.debounced_events(now)
     }
 
-    /// Emits what is expired, and returns a copy of the batch beside it, as
-    /// [`DebounceDataInner::debounced_events_and_copy`] does.
-    pub fn debounced_events_and_copy(
-        &mut self,
-        now: Moment,
-    ) -> Result<(Vec<DebouncedEvent>, Vec<DebouncedEvent>), Error>
-        ensures batch { IfOk result (λ r. IsBatch self.old.state now r.0.items) }
-        ensures only { IfOk result (λ r. IsOnlyBatch self.old.state now r.0.items) }
-        ensures copy { IfOk result (λ r. r.1.items ≡ r.0.items) }
-        ensures ok { IfOk result (λ r. self.new ≡ after_tick self.old now r.0.items) }
-        ensures err { IfErr result (λ e. (e ≡ out_of_memory) × (self.new ≡ self.old)) }
-        ensures sure { is_due self.old.state now ≡ false → IsOk result }
+    /// Returns the batch that a tick at this moment would emit, and leaves everything as it is. If nothing is expired
+    /// then, no memory is needed.
+    pub fn batch_at(&self, now: Moment) -> Result<Vec<DebouncedEvent>, Error>
+        ensures batch { IfOk result (λ batch. IsBatch self.now.state now batch.items) }
+        ensures only { IfOk result (λ batch. IsOnlyBatch self.now.state now batch.items) }
+        ensures err { IfErr result (λ e. e ≡ out_of_memory) }
+        ensures sure { is_due self.now.state now ≡ false → IsOk result }
     {
-        self.core.debounced_events_and_copy(now)
+        self.core.batch_at(now)
     }
 
     /// Returns the batch that would be emitted if every event that waits were expired.

@@ -1,5 +1,5 @@
 -- What a watcher says of closed paths.
-use Rattle.std.specs.Prelude.{◌≡◌, not, [], ◌∷◌, ◌&&◌, Bool, true, false, filter, Result, Err, ◌⊎◌}
+use Rattle.std.specs.Prelude.{◌≡◌, ℕ, not, [], ◌∷◌, ◌&&◌, Bool, true, false, filter, Option, Result, Err, ◌⊎◌}
 use Rattle.std.specs.List.{list_any}
 use Rattle.std.specs.declared.io.ErrorKind.{ErrorKind}
 use Rattle.notify_paths.specs.ErrorEquality.{io_kind_eq}
@@ -8,7 +8,7 @@ use Rattle.notify_paths.specs.Path.{PathValue, path_eq}
 use Rattle.notify_types.specs.Event.{EventValue}
 use Rattle.folder_listing.specs.Listing.{ListingValue}
 use Rattle.poll_rounds.specs.Closed.{ClosedValue}
-use Rattle.poll_rounds.specs.Reports.{Reports}
+use Rattle.poll_rounds.specs.Reports.{Tells}
 
 -- the path was closed for the same cause
 abbrev pub is_said : ClosedValue → PathValue × ErrorKind → Bool
@@ -36,8 +36,9 @@ SaysEach handles [] before after = after ≡ before
 SaysEach {H} handles (one ∷ others) before after =
     (between : H) × Says handles one before between × SaysEach handles others between after
 
--- a round reports what it changes of the last listing, and then says which paths are closed that weren't
-abbrev pub ReportsAndSays : {H : Type 0} → (H → Result EventValue ErrorValue → H → Type 0) → ListingValue →
+-- a round tells what it changes of the last listing, with the trackers of moves from this one on, and then says which
+-- paths are closed that weren't
+abbrev pub TellsAndSays : {H : Type 0} → (H → Result EventValue ErrorValue → H → Type 0) → Option ℕ → ListingValue →
     ListingValue → ClosedValue → H → H → Type 0
-ReportsAndSays {H} handles old new closed before after =
-    (between : H) × Reports handles old new before between × SaysEach handles closed between after
+TellsAndSays {H} handles trackers old new closed before after =
+    (between : H) × Tells handles trackers old new before between × SaysEach handles closed between after

@@ -1,15 +1,16 @@
 //! What a polling watcher keeps, and its steps.
-ghost use Rattle.std.specs.Prelude.{◌≡◌, ◌<◌, ◌≤◌, [], ◌∷◌, true, false, IfErr, IfOk, IfSome, OnErr, OnOk, IsErr};
+ghost use Rattle.std.specs.Prelude.{◌≡◌, ◌<◌, ◌≤◌, [], ◌∷◌, length, true, false, IfErr, IfOk, IfSome, OnErr, OnOk, IsErr};
 ghost use Rattle.std.specs.Vec.{vec_capacity, vec_len};
 ghost use Rattle.notify_paths.specs.Errors.{out_of_memory};
 ghost use Rattle.notify_types.specs.declared.event.RecursiveMode.TheVariants.{NonRecursive};
 ghost use Rattle.folder_listing.specs.Changes.{changes};
 ghost use Rattle.folder_listing.specs.Listing.{IsListing, ListingValue, has_entry, is_nonempty};
+ghost use Rattle.folder_listing.specs.Moves.{told_changes, trackers_after};
 ghost use Rattle.folder_listing.specs.Near.{seen};
 ghost use Rattle.poll_rounds.specs.Closed.{LookKeeps, RoundKeeps};
 ghost use Rattle.poll_rounds.specs.Folders.{IsTree, shown};
 ghost use Rattle.poll_rounds.specs.Parts.{LooksEach};
-ghost use Rattle.poll_rounds.specs.Reports.{Reports};
+ghost use Rattle.poll_rounds.specs.Reports.{Reports, Tells};
 ghost use Rattle.poll_roots.specs.Polled.{IsThere, IsWatchRefusal, Lists, ShowsFirst, Watches, WatchesNext, is_watched, kept_by, other_roots, watch_not_found, with_root};
 ghost use Rattle.poll_rounds.specs.Rounds.{HandsEach, HandsRefusal};
 
@@ -216,19 +217,23 @@ impl<A: Allocator + Copy> Polled<A> {
     }
 }
 
-/// The same steps, which keep what can't be looked at.
+/// The same steps, which keep what can't be looked at, and tell moves if there is a tracker.
 impl<A: Allocator + Copy> Polled<A> {
     /// Makes one round over the watched paths, as [`kept_round`].
     pub fn kept_round<D: NotesClosed<A>, H: EventHandler<Result<Event<A>, Error<A>>>>(
         &mut self,
         folders: &mut D,
+        trackers: &mut Option<u64>,
         handler: &mut H,
     ) -> bool
         requires { H.ready handler.old }
         ensures again { H.ready handler.new }
         ensures roots { self.new.roots ≡ self.old.roots }
-        ensures given { result ≡ true →
-            HandsEach H.handles (changes self.old.last self.new.last) handler.old handler.new }
+        ensures given { result ≡ true → HandsEach H.handles
+            (told_changes trackers.old self.old.last self.new.last) handler.old handler.new }
+        ensures trackers { result ≡ true → trackers.new ≡ trackers_after trackers.old
+            (length (told_changes trackers.old self.old.last self.new.last)) }
+        ensures untold { result ≡ false → trackers.new ≡ trackers.old }
         ensures kept { result ≡ true →
             RoundKeeps (D.told folders.old) self.old.roots (D.closed folders.new) self.old.last
             self.new.last }
@@ -236,7 +241,8 @@ impl<A: Allocator + Copy> Polled<A> {
         ensures refused { result ≡ false →
             HandsRefusal H.handles (D.failed folders.old) (D.failed folders.new) handler.old
             handler.new }
-        ensures reports { Reports H.handles self.old.last self.new.last handler.old handler.new }
+        ensures reports { Tells H.handles trackers.old self.old.last self.new.last handler.old
+            handler.new }
         ensures same { D.told folders.new ≡ D.told folders.old }
         ensures counted { D.failed folders.old ≤ D.failed folders.new }
     {
@@ -245,6 +251,7 @@ impl<A: Allocator + Copy> Polled<A> {
             folders,
             self.roots.as_slice(),
             &mut self.last,
+            trackers,
             handler,
         )
     }
@@ -253,14 +260,18 @@ impl<A: Allocator + Copy> Polled<A> {
     pub fn kept_look<D: NotesClosed<A>, H: EventHandler<Result<Event<A>, Error<A>>>>(
         &mut self,
         folders: &mut D,
+        trackers: &mut Option<u64>,
         handler: &mut H,
         paths: &[PathBuf<A>],
     ) -> bool
         requires { H.ready handler.old }
         ensures again { H.ready handler.new }
         ensures roots { self.new.roots ≡ self.old.roots }
-        ensures given { result ≡ true →
-            HandsEach H.handles (changes self.old.last self.new.last) handler.old handler.new }
+        ensures given { result ≡ true → HandsEach H.handles
+            (told_changes trackers.old self.old.last self.new.last) handler.old handler.new }
+        ensures trackers { result ≡ true → trackers.new ≡ trackers_after trackers.old
+            (length (told_changes trackers.old self.old.last self.new.last)) }
+        ensures untold { result ≡ false → trackers.new ≡ trackers.old }
         ensures kept { result ≡ true →
             LookKeeps (D.told folders.old) self.old.roots paths.now (D.closed folders.new)
             self.old.last self.new.last }
@@ -268,7 +279,8 @@ impl<A: Allocator + Copy> Polled<A> {
         ensures refused { result ≡ false →
             HandsRefusal H.handles (D.failed folders.old) (D.failed folders.new) handler.old
             handler.new }
-        ensures reports { Reports H.handles self.old.last self.new.last handler.old handler.new }
+        ensures reports { Tells H.handles trackers.old self.old.last self.new.last handler.old
+            handler.new }
         ensures same { D.told folders.new ≡ D.told folders.old }
         ensures counted { D.failed folders.old ≤ D.failed folders.new }
     {
@@ -278,6 +290,7 @@ impl<A: Allocator + Copy> Polled<A> {
             self.roots.as_slice(),
             &mut self.last,
             paths,
+            trackers,
             handler,
         )
     }

@@ -1,10 +1,11 @@
 //! What a polling watcher keeps under its lock.
-ghost use Rattle.std.specs.Prelude.{◌≡◌, ◌+◌, ◌-◌, ◌^◌, length, min, None, false, true, IfErr};
+ghost use Rattle.std.specs.Prelude.{◌≡◌, ◌+◌, ◌-◌, ◌^◌, length, min, None, Some, false, true, IfErr};
 ghost use Rattle.notify_paths.specs.Errors.{out_of_memory};
+ghost use Rattle.folder_listing.specs.Moves.{told_changes, trackers_after};
 ghost use Rattle.poll_rounds.specs.Closed.{IsKept};
-ghost use Rattle.poll_rounds.specs.Reports.{Reports};
+ghost use Rattle.poll_rounds.specs.Reports.{Tells};
 ghost use Rattle.poll_roots.specs.Deep.{too_deep};
-ghost use Rattle.poll_roots.specs.Said.{ReportsAndSays, SaysEach, unsaid};
+ghost use Rattle.poll_roots.specs.Said.{SaysEach, TellsAndSays, unsaid};
 
 use crate::deep::count_too_deep;
 use crate::polled::Polled;
@@ -36,11 +37,15 @@ pub struct Watched<A: Allocator> {
     pub too_deep: u64,
     /// Which paths the last round that went well couldn't look at, and why, if folders note it.
     pub closed: Vec<Closed<A>, A>,
+    /// The first tracker that no event has had, if moves are told.
+    pub trackers: Option<u64>,
 }
 
 impl<A: Allocator + Copy> Watched<A> {
-    /// Returns what watches nothing yet.
-    pub fn new(alloc: A) -> Watched<A> {
+    /// Returns what watches nothing yet, and tells no moves.
+    pub fn new(alloc: A) -> Watched<A>
+        ensures { result.trackers ≡ None }
+    {
         Watched {
             polled: Polled::new(alloc),
             followed: Vec::new(alloc),
@@ -48,7 +53,15 @@ impl<A: Allocator + Copy> Watched<A> {
             left_out: 0,
             too_deep: 0,
             closed: Vec::new(alloc),
+            trackers: None,
         }
+    }
+
+    /// Tells moves from now on.
+    pub fn tell_moves(&mut self)
+        ensures { self.new ≡ record self.old { trackers = Some 0 } }
+    {
+        self.trackers = Some(0);
     }
 
     /// Follows a link at the path from the next look on.
@@ -96,15 +109,18 @@ impl<A: Allocator + Copy> Watched<A> {
             ≡ min (length (too_deep self.new.polled.roots self.new.polled.last)) (2 ^ 64 - 1) }
         ensures same { result ≡ false → (self.new.left_out ≡ self.old.left_out)
             × ((self.new.too_deep ≡ self.old.too_deep) × (self.new.closed ≡ self.old.closed)) }
-        ensures said { result ≡ true →
-            ReportsAndSays F.handles self.old.polled.last self.new.polled.last
+        ensures said { result ≡ true → TellsAndSays F.handles self.old.trackers
+            self.old.polled.last self.new.polled.last
             (unsaid self.old.closed.items self.new.closed.items) handler.old handler.new }
-        ensures reports { result ≡ false →
-            Reports F.handles self.old.polled.last self.new.polled.last handler.old handler.new }
+        ensures reports { result ≡ false → Tells F.handles self.old.trackers self.old.polled.last
+            self.new.polled.last handler.old handler.new }
+        ensures trackers { result ≡ true → self.new.trackers ≡ trackers_after self.old.trackers
+            (length (told_changes self.old.trackers self.old.polled.last self.new.polled.last)) }
+        ensures untold { result ≡ false → self.new.trackers ≡ self.old.trackers }
     {
         let before = folders.inner().left_out();
         folders.follow(&mut self.followed);
-        let went_well = self.polled.kept_round(folders, handler);
+        let went_well = self.polled.kept_round(folders, &mut self.trackers, handler);
         folders.follow(&mut self.followed);
         let failed_path = folders.take_failed_path();
         if went_well {
@@ -164,11 +180,16 @@ impl<A: Allocator + Copy> Watched<A> {
     ) -> bool
         requires { F.ready handler.old }
         ensures again { F.ready handler.new }
-        ensures reports { Reports F.handles self.old.polled.last self.new.polled.last handler.old
-            handler.new }
+        ensures reports { Tells F.handles self.old.trackers self.old.polled.last
+            self.new.polled.last handler.old handler.new }
+        ensures trackers { result ≡ true → self.new.trackers ≡ trackers_after self.old.trackers
+            (length (told_changes self.old.trackers self.old.polled.last self.new.polled.last)) }
+        ensures untold { result ≡ false → self.new.trackers ≡ self.old.trackers }
     {
         folders.follow(&mut self.followed);
-        let went_well = self.polled.kept_look(folders, handler, paths);
+        let went_well = self
+            .polled
+            .kept_look(folders, &mut self.trackers, handler, paths);
         folders.follow(&mut self.followed);
         folders.take_failed_path();
         went_well

@@ -1,7 +1,7 @@
 //! Rounds and looks that keep what can't be looked at.
-ghost use Rattle.std.specs.Prelude.{◌≡◌, ◌≤◌, [], true, false, IfErr, IfOk, OnErr, OnOk};
+ghost use Rattle.std.specs.Prelude.{◌≡◌, ◌≤◌, [], length, true, false, IfErr, IfOk, OnErr, OnOk};
 ghost use Rattle.notify_paths.specs.Errors.{out_of_memory};
-ghost use Rattle.folder_listing.specs.Changes.{changes};
+ghost use Rattle.folder_listing.specs.Moves.{told_changes, trackers_after};
 ghost use Rattle.folder_listing.specs.Updates.{IsUpdate, updated};
 ghost use Rattle.poll_rounds.specs.Closed.{ClosedValue, IsKept, LookKeeps, RoundKeeps, is_kept, keeps};
 ghost use Rattle.poll_rounds.specs.Folders.{IsRefusal};
@@ -11,8 +11,8 @@ use crate::folders::Folders;
 use crate::list::list_beside;
 use crate::look::list_near;
 use crate::round::hand_each;
-use folder_listing::compare::compare_updates;
 use folder_listing::listing::Listing;
+use folder_listing::moves::{compare_moves, trackers_after};
 use folder_listing::updates::Updates;
 use notify_paths::error::Error;
 use notify_paths::path::PathBuf;
@@ -73,23 +73,24 @@ fn keep<A: Allocator + Copy>(closed: &[Closed<A>], last: &Listing<A>, updates: &
     updates.retain(|path, _update| !is_kept(closed, last, path));
 }
 
-/// Carries the updates out, but for what is kept, and returns the events that tell of it. After an error nothing has
-/// changed.
+/// Carries the updates out, but for what is kept, and returns the events that tell of it, with trackers of moves from
+/// this one on, if there is one. After an error nothing has changed.
 fn settle<A: Allocator + Copy>(
     alloc: A,
     closed: &[Closed<A>],
+    trackers: Option<u64>,
     last: &mut Listing<A>,
     mut updates: Updates<A>,
 ) -> Result<Vec<Event<A>, A>, Error<A>>
     requires { IsUpdate last.old updates.entries }
     ensures kept { OnOk result
         (IsKept closed.now last.old (updated last.old updates.entries) last.new) }
-    ensures ok { IfOk result (λ events. events.items ≡ changes last.old last.new) }
+    ensures ok { IfOk result (λ events. events.items ≡ told_changes trackers last.old last.new) }
     ensures unchanged { OnErr result (last.new ≡ last.old) }
     ensures err { IfErr result (λ e. e ≡ out_of_memory) }
 {
     keep(closed, last, &mut updates);
-    let events = compare_updates(alloc, last, &updates)?;
+    let events = compare_moves(alloc, last, &updates, trackers)?;
     last.update(alloc, &updates)?;
     Ok(events)
 }
@@ -100,10 +101,11 @@ fn renew_kept<A: Allocator + Copy, D: NotesClosed<A>>(
     folders: &mut D,
     roots: &[(PathBuf<A>, RecursiveMode)],
     last: &mut Listing<A>,
+    trackers: Option<u64>,
 ) -> Result<Vec<Event<A>, A>, Error<A>>
     ensures kept { OnOk result (RoundKeeps (D.told folders.old) roots.now (D.closed folders.new)
         last.old last.new) }
-    ensures ok { IfOk result (λ events. events.items ≡ changes last.old last.new) }
+    ensures ok { IfOk result (λ events. events.items ≡ told_changes trackers last.old last.new) }
     ensures unchanged { OnErr result (last.new ≡ last.old) }
     ensures err { IfErr result (λ e. IsRefusal e (D.failed folders.old) (D.failed folders.new)) }
     ensures same { D.told folders.new ≡ D.told folders.old }
@@ -111,7 +113,7 @@ fn renew_kept<A: Allocator + Copy, D: NotesClosed<A>>(
 {
     folders.forget_closed();
     let updates = list_beside(alloc, folders, roots, last)?;
-    settle(alloc, folders.closed(), last, updates)
+    settle(alloc, folders.closed(), trackers, last, updates)
 }
 
 /// Brings the last listing up to date at the paths and below them, but for what is kept.
@@ -121,10 +123,11 @@ fn renew_near_kept<A: Allocator + Copy, D: NotesClosed<A>>(
     roots: &[(PathBuf<A>, RecursiveMode)],
     last: &mut Listing<A>,
     paths: &[PathBuf<A>],
+    trackers: Option<u64>,
 ) -> Result<Vec<Event<A>, A>, Error<A>>
     ensures kept { OnOk result (LookKeeps (D.told folders.old) roots.now paths.now
         (D.closed folders.new) last.old last.new) }
-    ensures ok { IfOk result (λ events. events.items ≡ changes last.old last.new) }
+    ensures ok { IfOk result (λ events. events.items ≡ told_changes trackers last.old last.new) }
     ensures unchanged { OnErr result (last.new ≡ last.old) }
     ensures err { IfErr result (λ e. IsRefusal e (D.failed folders.old) (D.failed folders.new)) }
     ensures same { D.told folders.new ≡ D.told folders.old }
@@ -132,12 +135,30 @@ fn renew_near_kept<A: Allocator + Copy, D: NotesClosed<A>>(
 {
     folders.forget_closed();
     let updates = list_near(alloc, folders, roots, last, paths)?;
-    settle(alloc, folders.closed(), last, updates)
+    settle(alloc, folders.closed(), trackers, last, updates)
+}
+
+/// Reports the events, in order, and keeps the first tracker that none of them can have.
+fn hand_told<A: Allocator, H: EventHandler<Result<Event<A>, Error<A>>>>(
+    events: Vec<Event<A>, A>,
+    trackers: &mut Option<u64>,
+    handler: &mut H,
+)
+    requires { H.ready handler.old }
+    ensures again { H.ready handler.new }
+    ensures handed { HandsEach H.handles events.items handler.old handler.new }
+    ensures trackers { trackers.new ≡ trackers_after trackers.old (length events.items) }
+{
+    *trackers = trackers_after(*trackers, events.len());
+    hand_each(events, handler);
 }
 
 /// One round as [`poll_round`](crate::round::poll_round), but what the last listing has at a path that can't be looked
 /// at, and below it, is kept, with the folders above: nothing is reported of it. What is noted of the folders then are
 /// these paths.
+///
+/// If there is a tracker, the events of a move have one, this one or a later one, and afterwards it is the first that
+/// no event has had. With `None` no move is told.
 pub fn kept_round<
     A: Allocator + Copy,
     D: NotesClosed<A>,
@@ -147,12 +168,16 @@ pub fn kept_round<
     folders: &mut D,
     roots: &[(PathBuf<A>, RecursiveMode)],
     last: &mut Listing<A>,
+    trackers: &mut Option<u64>,
     handler: &mut H,
 ) -> bool
     requires { H.ready handler.old }
     ensures again { H.ready handler.new }
     ensures given { result ≡ true →
-        HandsEach H.handles (changes last.old last.new) handler.old handler.new }
+        HandsEach H.handles (told_changes trackers.old last.old last.new) handler.old handler.new }
+    ensures trackers { result ≡ true → trackers.new ≡ trackers_after trackers.old
+        (length (told_changes trackers.old last.old last.new)) }
+    ensures untold { result ≡ false → trackers.new ≡ trackers.old }
     ensures kept { result ≡ true →
         RoundKeeps (D.told folders.old) roots.now (D.closed folders.new) last.old last.new }
     ensures unchanged { result ≡ false → last.new ≡ last.old }
@@ -162,9 +187,9 @@ pub fn kept_round<
     ensures same { D.told folders.new ≡ D.told folders.old }
     ensures counted { D.failed folders.old ≤ D.failed folders.new }
 {
-    match renew_kept(alloc, folders, roots, last) {
+    match renew_kept(alloc, folders, roots, last, *trackers) {
         Ok(events) => {
-            hand_each(events, handler);
+            hand_told(events, trackers, handler);
             true
         }
         Err(error) => {
@@ -185,12 +210,16 @@ pub fn kept_look<
     roots: &[(PathBuf<A>, RecursiveMode)],
     last: &mut Listing<A>,
     paths: &[PathBuf<A>],
+    trackers: &mut Option<u64>,
     handler: &mut H,
 ) -> bool
     requires { H.ready handler.old }
     ensures again { H.ready handler.new }
     ensures given { result ≡ true →
-        HandsEach H.handles (changes last.old last.new) handler.old handler.new }
+        HandsEach H.handles (told_changes trackers.old last.old last.new) handler.old handler.new }
+    ensures trackers { result ≡ true → trackers.new ≡ trackers_after trackers.old
+        (length (told_changes trackers.old last.old last.new)) }
+    ensures untold { result ≡ false → trackers.new ≡ trackers.old }
     ensures kept { result ≡ true → LookKeeps (D.told folders.old) roots.now paths.now
         (D.closed folders.new) last.old last.new }
     ensures unchanged { result ≡ false → last.new ≡ last.old }
@@ -200,9 +229,9 @@ pub fn kept_look<
     ensures same { D.told folders.new ≡ D.told folders.old }
     ensures counted { D.failed folders.old ≤ D.failed folders.new }
 {
-    match renew_near_kept(alloc, folders, roots, last, paths) {
+    match renew_near_kept(alloc, folders, roots, last, paths, *trackers) {
         Ok(events) => {
-            hand_each(events, handler);
+            hand_told(events, trackers, handler);
             true
         }
         Err(error) => {

@@ -7,6 +7,8 @@ mod flushes;
 #[cfg(test)]
 mod hints;
 #[cfg(test)]
+mod moves;
+#[cfg(test)]
 mod pieces;
 #[cfg(test)]
 mod reports;

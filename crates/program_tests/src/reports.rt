@@ -17,6 +17,7 @@ use std::vec;
 use trigger_lines::{Bursts, Trigger};
 use watch_program::{Fault, write_missed};
 use word_index::answer::write_answer;
+use word_index::before::Before;
 use word_index::kept::{KeptIndex, ReadsDocuments, asks_anew};
 use word_index::words::{Words, words_of};
 
@@ -228,7 +229,11 @@ struct Texts {
 impl ReadsDocuments for Texts {
     ghost reads = { λ documents paths read. Unit };
 
-    fn read(&self, paths: &BTreeMap<PathBuf, ()>) -> Result<BTreeMap<PathBuf, Words>, Fault> {
+    fn read(
+        &self,
+        paths: &BTreeMap<PathBuf, ()>,
+        _before: &Before<'_>,
+    ) -> Result<BTreeMap<PathBuf, Words>, Fault> {
         let mut read = BTreeMap::new(self.alloc);
         for line in self.lines.lines() {
             let (place, text) = line.split_once(' ').unwrap_or(("", ""));

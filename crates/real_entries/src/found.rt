@@ -1,11 +1,13 @@
 //! What stands at a path, by what the system says of it.
-ghost use Rattle.std.specs.Prelude.{◌≡◌, None, true};
+ghost use Rattle.std.specs.Prelude.{◌≡◌, ◌≤◌, ◌<◌, ◌^◌, None, false, true};
 ghost use Rattle.folder_listing.specs.Listing.{is_same_kind};
 ghost use Rattle.folder_listing.specs.declared.entry.EntryKind.TheVariants.{Folder};
+ghost use Rattle.folder_listing.specs.declared.entry.FileNumber.TheVariants.{Known, Unknown};
 
 use crate::times::ModifiedTimes;
-use folder_listing::entry::{EntryKind, Found};
+use folder_listing::entry::{EntryKind, FileNumber, Found};
 use std::fs::Metadata;
+use std::os::unix::fs::MetadataExt;
 use std::time::Clock;
 
 /// What kind of thing stands there. A link is an `Other`.
@@ -19,10 +21,29 @@ fn kind_of(metadata: &Metadata) -> EntryKind {
     }
 }
 
-/// What stands there, with its modified time if it is asked for. A folder's follows its entries, and isn't
-/// told.
-pub fn found_of(clock: &impl Clock, metadata: &Metadata, times: &mut Option<ModifiedTimes>) -> Found
-    ensures { is_same_kind Folder result.kind ≡ true → result.modified ≡ None }
+/// The number of the file with this number on the device. No file has number 0, nor a device a number of more than
+/// 32 bits: they come of a file system that numbers nothing.
+fn number_of(device: u64, file: u64) -> FileNumber
+    ensures known { (device < 2 ^ 32) → (1 ≤ file) → result ≡ Known device file }
+    ensures device { (2 ^ 32 ≤ device) → result ≡ Unknown }
+    ensures file { file ≡ 0 → result ≡ Unknown }
+{
+    match u32::try_from(device) {
+        Ok(device) if file != 0 => FileNumber::Known(device, file),
+        _ => FileNumber::Unknown,
+    }
+}
+
+/// What stands there, with its modified time and its number if they are asked for. A folder's time follows its
+/// entries, and isn't told.
+pub fn found_of(
+    clock: &impl Clock,
+    metadata: &Metadata,
+    times: &mut Option<ModifiedTimes>,
+    numbers: bool,
+) -> Found
+    ensures folder { is_same_kind Folder result.kind ≡ true → result.modified ≡ None }
+    ensures unnumbered { numbers ≡ false → result.number ≡ Unknown }
 {
     let kind = kind_of(metadata);
     let modified = match times {
@@ -33,5 +54,10 @@ pub fn found_of(clock: &impl Clock, metadata: &Metadata, times: &mut Option<Modi
         kind,
         length: if kind.is_file() { metadata.len() } else { 0 },
         modified,
+        number: if numbers {
+            number_of(metadata.dev(), metadata.ino())
+        } else {
+            FileNumber::Unknown
+        },
     }
 }

@@ -3,6 +3,7 @@ ghost use Rattle.std.specs.Prelude.{◌≡◌, ◌≤◌, None, Ok, false, true,
 ghost use Rattle.std.specs.IoError.{error_kind};
 ghost use Rattle.folder_listing.specs.Listing.{is_same_kind};
 ghost use Rattle.folder_listing.specs.declared.entry.EntryKind.TheVariants.{Folder};
+ghost use Rattle.folder_listing.specs.declared.entry.FileNumber.TheVariants.{Unknown};
 ghost use Rattle.notify_paths.specs.Errors.{out_of_memory};
 ghost use Rattle.poll_rounds.specs.Folders.{IsRefusal};
 ghost use Rattle.real_folders.specs.Closed.{IsPlace, NotesPlace, failure_of, with_closed};
@@ -34,6 +35,8 @@ pub struct RealFolders<R: Drop, A: Allocator = Global> {
     left_out: u64,
     /// How modified times are asked for, if they are.
     times: Option<ModifiedTimes>,
+    /// Whether numbers are asked for.
+    numbers: bool,
     /// Where a link is followed.
     followed: Vec<PathBuf<A>, A>,
     /// What stood there at the last look.
@@ -45,11 +48,12 @@ pub struct RealFolders<R: Drop, A: Allocator = Global> {
 }
 
 impl<R: Drop, A: Allocator + Copy> RealFolders<R, A> {
-    /// Returns the real file system, which tells no modified times. Relative paths begin at the folder that
-    /// the program runs in.
+    /// Returns the real file system, which tells no modified times and no numbers. Relative paths begin at the folder
+    /// that the program runs in.
     pub fn new(rt: R, alloc: A) -> RealFolders<R, A>
         ensures counted { result.failures ≡ 0 }
         ensures none { result.left_out ≡ 0 }
+        ensures unnumbered { result.numbers ≡ false }
     {
         RealFolders {
             rt,
@@ -57,6 +61,7 @@ impl<R: Drop, A: Allocator + Copy> RealFolders<R, A> {
             failures: 0,
             left_out: 0,
             times: None,
+            numbers: false,
             followed: Vec::new(alloc),
             targets: Targets::new(alloc),
             notes: false,
@@ -71,6 +76,7 @@ impl<R: Drop, A: Allocator + Copy> RealFolders<R, A> {
     pub fn with_modified_times(rt: R, alloc: A) -> RealFolders<R, A>
         ensures counted { result.failures ≡ 0 }
         ensures none { result.left_out ≡ 0 }
+        ensures unnumbered { result.numbers ≡ false }
     {
         RealFolders {
             rt,
@@ -78,6 +84,7 @@ impl<R: Drop, A: Allocator + Copy> RealFolders<R, A> {
             failures: 0,
             left_out: 0,
             times: Some(ModifiedTimes::new()),
+            numbers: false,
             followed: Vec::new(alloc),
             targets: Targets::new(alloc),
             notes: false,
@@ -93,6 +100,14 @@ impl<R: Drop, A: Allocator + Copy> RealFolders<R, A> {
         ensures left { self.new ≡ record self.old { followed = paths.old } }
     {
         mem::swap(&mut self.followed, paths);
+    }
+
+    /// Tells from now on which number a file has: of its device, and on it. It comes with what a look asks for
+    /// anyway.
+    pub fn tell_numbers(&mut self)
+        ensures { self.new ≡ record self.old { numbers = true } }
+    {
+        self.numbers = true;
     }
 
     /// Notes from now on where calls fail, and answers such a call as if nothing stood there, or the folder were empty.
@@ -149,11 +164,13 @@ impl<R: Files + Clock + Drop, A: Allocator + Copy> Folders<A> for RealFolders<R,
         // Its time follows its entries, and is no change of its own.
         ensures folder { IfOk result (λ r. IfSome r (λ found.
             is_same_kind Folder found.kind ≡ true → found.modified ≡ None)) }
+        ensures unnumbered { self.old.numbers ≡ false → IfOk result (λ r. IfSome r (λ found.
+            found.number ≡ Unknown)) }
     {
         let follows = self.follows(path);
         match self.metadata_at(path.as_str(), follows) {
             Ok(metadata) if follows => self.found_anew(path, &metadata),
-            Ok(metadata) => Ok(Some(found_of(&self.rt, &metadata, &mut self.times))),
+            Ok(metadata) => Ok(Some(found_of(&self.rt, &metadata, &mut self.times, self.numbers))),
             Err(_) if has_zero(path) => Ok(None),
             Err(error) => {
                 self.fail_at(path, &error)?;
@@ -286,8 +303,10 @@ impl<R: Files + Clock + Drop, A: Allocator + Copy> RealFolders<R, A> {
         ensures err { IfErr result (λ e. e ≡ out_of_memory) }
         ensures folder { IfOk result (λ r. IfSome r (λ found.
             is_same_kind Folder found.kind ≡ true → found.modified ≡ None)) }
+        ensures unnumbered { self.old.numbers ≡ false → IfOk result (λ r. IfSome r (λ found.
+            found.number ≡ Unknown)) }
     {
-        let found = found_of(&self.rt, metadata, &mut self.times);
+        let found = found_of(&self.rt, metadata, &mut self.times, self.numbers);
         match self.targets.take(&self.rt, path, metadata) {
             Ok(since) => Ok(Some(Found {
                 modified: later(found.modified, since),
@@ -299,7 +318,8 @@ impl<R: Files + Clock + Drop, A: Allocator + Copy> RealFolders<R, A> {
 
     /// What the system says of the path, once its modified time isn't young any more, as far as it waits.
     fn metadata_at(&mut self, path: &str, follows: bool) -> io::Result<Metadata>
-        ensures { self.new.failures ≡ self.old.failures }
+        ensures counted { self.new.failures ≡ self.old.failures }
+        ensures numbers { self.new.numbers ≡ self.old.numbers }
     {
         let metadata = metadata_of(&self.rt, path, follows)?;
         if let Some(times) = &mut self.times

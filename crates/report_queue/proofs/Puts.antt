@@ -1,20 +1,32 @@
 -- When a queue may be put back under its lock, and what that shows.
-use Rattle.std.proofs.Common.{◌≡◌, inl, inr, ℕ, ◌+◌, min, ◌-◌, ◌^◌, Bool, true, false, if◌then◌else◌, List, [], ◌∷◌, ◌++◌, sym, refl, ap, ◌∙◌, subst, append_assoc, append-nil, arith}
+use Rattle.std.proofs.Common.{◌≡◌, ◌⊎◌, inl, inr, ℕ, ◌+◌, min, ◌-◌, ◌^◌, Bool, true, false, if◌then◌else◌, List, [], ◌∷◌, ◌++◌, sym, refl, ap, ◌∙◌, subst, append_assoc, append-nil, arith}
 use Rattle.told_lock.specs.declared.hand.Hand.{Hand}
-use Rattle.told_lock.specs.History.{MayGive, picked}
+use Rattle.told_lock.specs.History.{MayGive, has, picked}
+use Rattle.told_lock.specs.Rights.{Right, Emits, Feeds}
 use Rattle.told_lock.proofs.Moves.{begins_self}
-use Rattle.report_queue.specs.Queue.{Calls, Queues, lost_in, put_in}
-
--- all is picked
-pub picked_all : {E : Type 0} (xs : List E) → picked (λ _. true) xs ≡ xs
-picked_all [] = refl
-picked_all (x ∷ xs) = ap (λ l. x ∷ l) (picked_all xs)
+use Rattle.report_queue.specs.Queue.{Calls, Queues, lost_in, put_in, told_as}
 
 if_more : (b : Bool) (x y z : ℕ) → z ≡ x + y → (if b then z else z + 1) ≡ (if b then x else x + 1) + y
 if_more true x y z h = h
 if_more false x y z h = omega (arith, h)
 
 module _ {T : Type 0} where
+  -- all is picked that is told by the sender's right
+  pub picked_all : (xs : Calls T) → picked (told_as Emits) xs ≡ xs
+  picked_all [] = refl
+  picked_all (x ∷ xs) = ap (λ l. x ∷ l) (picked_all xs)
+
+  -- .. and nothing by the other
+  picked_none : (xs : Calls T) → picked (told_as Feeds) xs ≡ []
+  picked_none [] = refl
+  picked_none (x ∷ xs) = picked_none xs
+
+  -- who has the sender's right may put any calls in
+  may_tell : (v : Hand (T × Bool)) (log : Calls T) → v.tells ≡ true → (right : Right)
+      → (has right v ≡ true) ⊎ (picked (told_as right) log ≡ picked (told_as right) v.seen)
+  may_tell v log tells Emits = inl tells
+  may_tell v log tells Feeds = inr (picked_none log ∙ sym (picked_none v.seen))
+
   if_append : (b : Bool) (x : T) (xs ys zs : List T) → zs ≡ xs ++ ys → (if b then x ∷ zs else zs)
       ≡ (if b then x ∷ xs else xs) ++ ys
   if_append true x xs ys zs h = ap (λ l. x ∷ l) h
@@ -81,7 +93,7 @@ Call T = T × Bool
 module _ {T X : Type 0} (leads : X → Calls T → Calls T → Type 0) where
   -- the lock may have the value back with nothing done
   pub may_rest : (v : Hand (Call T)) (l : X) → v.holds ≡ true → leads l v.taken v.seen
-      → MayGive leads (λ _. true) (λ before taken x after now. (after ≡ before) × (now ≡ taken)) v l
+      → MayGive leads told_as (λ before taken x after now. (after ≡ before) × (now ≡ taken)) v l
   may_rest v l holds stands = record {
     log = v.seen;
     taken = v.taken;
@@ -90,13 +102,13 @@ module _ {T X : Type 0} (leads : X → Calls T → Calls T → Type 0) where
     stands = stands;
     makes = (refl, refl);
     keeps = inr refl;
-    tells = inr refl;
+    tells = λ right. inr refl;
   }
 
   -- .. with one call more
   pub may_call : (change : Calls T → Calls T → X → Calls T → Calls T → Type 0) (v : Hand (Call T)) (l : X) (e : Call T)
       → v.holds ≡ true → v.tells ≡ true → leads l v.taken (v.seen ++ e ∷ [])
-      → change v.seen v.taken l (v.seen ++ e ∷ []) v.taken → MayGive leads (λ _. true) change v l
+      → change v.seen v.taken l (v.seen ++ e ∷ []) v.taken → MayGive leads told_as change v l
   may_call change v l e holds tells stands makes = record {
     log = v.seen ++ e ∷ [];
     taken = v.taken;
@@ -105,13 +117,13 @@ module _ {T X : Type 0} (leads : X → Calls T → Calls T → Type 0) where
     stands = stands;
     makes = makes;
     keeps = inr refl;
-    tells = inl tells;
+    tells = may_tell v (v.seen ++ e ∷ []) tells;
   }
 
   -- .. with one report less
   pub may_come : (change : Calls T → Calls T → X → Calls T → Calls T → Type 0) (v : Hand (Call T)) (l : X) (e : Call T)
       → v.holds ≡ true → v.keeps ≡ true → leads l (v.taken ++ e ∷ []) v.seen
-      → change v.seen v.taken l v.seen (v.taken ++ e ∷ []) → MayGive leads (λ _. true) change v l
+      → change v.seen v.taken l v.seen (v.taken ++ e ∷ []) → MayGive leads told_as change v l
   may_come change v l e holds keeps stands makes = record {
     log = v.seen;
     taken = v.taken ++ e ∷ [];
@@ -120,5 +132,5 @@ module _ {T X : Type 0} (leads : X → Calls T → Calls T → Type 0) where
     stands = stands;
     makes = makes;
     keeps = inl keeps;
-    tells = inr refl;
+    tells = λ right. inr refl;
   }

@@ -1,12 +1,18 @@
 -- A queue, and the history of what was to be put into it.
-use Rattle.std.specs.Prelude.{◌≡◌, ◌+◌, ◌-◌, ◌^◌, ℕ, min, Bool, if◌then◌else◌, List, [], ◌∷◌, ◌++◌}
+use Rattle.std.specs.Prelude.{◌≡◌, ◌+◌, ◌-◌, ◌^◌, ℕ, min, Bool, true, false, if◌then◌else◌, List, [], ◌∷◌, ◌++◌}
 use Rattle.atomic_table.specs.Seated.{TableId}
+use Rattle.told_lock.specs.Rights.{Right, Emits, Feeds}
 
 -- what was to be put in, in order, and whether it was
 abbrev pub Calls : Type 0 → Type 0
 Calls T = List (T × Bool)
 
 module _ {T : Type 0} where
+  -- one right is the sender's, which alone calls; of the other nothing is told
+  abbrev pub told_as : Right → T × Bool → Bool
+  told_as Emits call = true
+  told_as Feeds call = false
+
   -- what was put in, in order
   abbrev pub put_in : Calls T → List T
   put_in [] = []

@@ -33,14 +33,14 @@ pub(crate) enum Done<T> {
 }
 
 impl<T: Drop, A: Allocator> Told<Put<T>> for Queued<T, A> {
-    ghost use Rattle.std.specs.Prelude.{[], true};
-    ghost use Rattle.report_queue.specs.Queue.{Queues};
+    ghost use Rattle.std.specs.Prelude.{[]};
+    ghost use Rattle.report_queue.specs.Queue.{Queues, told_as};
 
     ghost begins = { λ _. [] };
 
     ghost stands = { λ l out log. Queues l.queue.items l.unsent out log };
 
-    ghost told = { λ _. true };
+    ghost told = { told_as };
 }
 
 /// The history goes on by what was done.

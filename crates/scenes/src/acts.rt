@@ -1,6 +1,7 @@
 //! The lines of a scene that ask a debouncer, from its start to its end. Each function here that calls
 //! it is proved from the bounds of its watcher, runtime and memory alone.
 use crate::books::{Core, tell_book, tell_entries, tell_journal};
+use crate::by_hand::play_by_hand;
 use crate::folder::play_file_line;
 use crate::mirror::watch_as_mirror;
 use crate::polling::{Polls, play_polling};
@@ -10,7 +11,7 @@ use crate::scene::{Host, LINES, Scene, next_line, number, split};
 use crate::watcher::Scribe;
 use crate::words::{answer_of, given, push_batch, word_of};
 use notify_debouncer_full::{
-    Config, DebounceDataInner, Debouncer, Error, ErrorKind, Feed, ListingWatcher, NoCache, PathBuf,
+    Config, DebounceDataInner, Debouncer, Error, Feed, ListingWatcher, NoCache, PathBuf,
     RecursiveMode, Watcher, new_debouncer_opt, new_journaled_debouncer,
 };
 use refusing_allocator::TestHeap;
@@ -57,6 +58,7 @@ fn play_next<T: ListingWatcher<Feed<NoCache, R, A>, R, A>, P: Polls<R>, R: Host,
         ("poll" | "poll_from_nothing" | "poll_by_lengths", _) => play_polling::<P, R, A>(
             scene, line, rest,
         ),
+        ("by_hand", _) => play_by_hand(scene, line),
         ("recommended", _) => play_recommended(scene, line),
         ("closure", _) => play_closure::<P, R, A>(scene, line),
         ("mirror", words) => watch_as_mirror::<T, R, A>(scene, line, words, false),
@@ -196,7 +198,6 @@ fn act<T: ListingWatcher<Feed<NoCache, R, A>, R, A>, R: Host, A: TestHeap>(
         "counts" => counts(scene, debouncer),
         "outlook" => outlook(scene, debouncer),
         "take_journal" => take_journal(scene, debouncer, core, line),
-        "feed_error" => feed_error(scene, debouncer, line),
         _ => scene.play_line(line),
     }
 }
@@ -291,23 +292,6 @@ fn take_journal<T: Drop, R: Host, A: TestHeap>(
     let part = debouncer.take_journal();
     scene.end();
     tell_entries(scene, core, line, part)
-}
-
-/// Feeds an error by hand.
-fn feed_error<T: Drop, R: Host, A: TestHeap>(
-    scene: &mut Scene<R, A>,
-    debouncer: &mut Running<T, R, A>,
-    line: &str,
-) -> io::Result<()> {
-    let Ok(mut feed) = debouncer.feed() else {
-        return Err(io::Error::from(io::ErrorKind::OutOfMemory));
-    };
-    let error = Error::new(scene.heap, ErrorKind::PathNotFound);
-    let answer = answer_of(feed.feed(Err(error)));
-    let receipt = feed.receipt();
-    drop(feed);
-    debouncer.catch_up(receipt);
-    scene.say(line, answer)
 }
 
 /// Ends the debouncer as the line says, and prints what it gives.

@@ -12,6 +12,7 @@
 
 mod acts;
 mod books;
+mod by_hand;
 mod clock;
 mod document;
 mod folder;

@@ -2,8 +2,8 @@
 use crate::build::{CREATE, Outcome, fill, new_heap, path};
 use crate::words::{push_outcome, word_of};
 use notify_debouncer_full::{
-    Book, DebounceEventHandler, DebouncedEvent, Error, ErrorKind, Event, Gate, Moment, NoCache,
-    Ticked, feed_one, feed_step, tick_step, turn,
+    Book, DebounceEventHandler, DebouncedEvent, Error, ErrorKind, Event, FeedGate, Gate, Moment,
+    NoCache, TickGate, Ticked, feed_one, feed_step, tick_step, turn,
 };
 use refusing_allocator::{Heap, TestHeap};
 use std::alloc::{Allocator, Global};
@@ -17,11 +17,8 @@ struct OpenGate<A: Allocator> {
     book: Book<NoCache, A>,
 }
 
-impl<A: Allocator + Copy> Gate<Event<A>, Error<A>, Vec<DebouncedEvent<A>, A>, Vec<Error<A>, A>>
-    for OpenGate<A> {
+impl<A: Allocator + Copy> FeedGate<Event<A>, Error<A>> for OpenGate<A> {
     ghost feeds = { λ _ _ _ _ _ _. Unit {0} };
-
-    ghost ticks = { λ _ _ _ _ _. Unit {0} };
 
     fn feed(
         &mut self,
@@ -33,6 +30,11 @@ impl<A: Allocator + Copy> Gate<Event<A>, Error<A>, Vec<DebouncedEvent<A>, A>, Ve
     {
         feed_step(&mut self.book, item, now, exists)
     }
+}
+
+impl<A: Allocator + Copy> TickGate<Error<A>, Vec<DebouncedEvent<A>, A>, Vec<Error<A>, A>>
+    for OpenGate<A> {
+    ghost ticks = { λ _ _ _ _ _. Unit {0} };
 
     fn tick(&mut self, now: Moment) -> Ticked<A>
         ensures { Unit {0} }
@@ -48,16 +50,8 @@ struct LoadedGate {
     errors: Vec<Error>,
 }
 
-impl Gate<Event, Error, Vec<DebouncedEvent>, Vec<Error>> for LoadedGate {
-    ghost feeds = { λ _ _ _ _ _ _. Unit {0} };
-
+impl TickGate<Error, Vec<DebouncedEvent>, Vec<Error>> for LoadedGate {
     ghost ticks = { λ _ _ _ _ _. Unit {0} };
-
-    fn feed(&mut self, item: Result<Event, Error>, _now: Moment, _exists: bool) -> Result<(), Error>
-        ensures { Unit {0} }
-    {
-        item.map(|_| ())
-    }
 
     fn tick(&mut self, _now: Moment) -> Ticked<Global>
         ensures { Unit {0} }
@@ -89,7 +83,7 @@ impl<A: Allocator> DebounceEventHandler<Outcome<A>> for Recorder {
 
 /// Takes a turn. Returns what the handler was called with, and why the turn was refused, if it was.
 fn turn_at<
-    G: Gate<Event<A>, Error<A>, Vec<DebouncedEvent<A>, A>, Vec<Error<A>, A>>,
+    G: TickGate<Error<A>, Vec<DebouncedEvent<A>, A>, Vec<Error<A>, A>>,
     A: Allocator + Copy + Send + Sync + 'static,
 >(rt: &impl AllocGlobal, gate: &mut G, now: Moment) -> (String, &'static str) {
     let mut handler = Recorder {
@@ -101,7 +95,7 @@ fn turn_at<
 
 /// Takes a turn, and checks what the handler was called with and what the turn answered.
 fn check_turn<
-    G: Gate<Event<A>, Error<A>, Vec<DebouncedEvent<A>, A>, Vec<Error<A>, A>>,
+    G: TickGate<Error<A>, Vec<DebouncedEvent<A>, A>, Vec<Error<A>, A>>,
     A: Allocator + Copy + Send + Sync + 'static,
 >(rt: &(impl Abort + AllocGlobal), gate: &mut G, now: Moment, calls: &str, answer: &str) {
     let (seen, refusal) = turn_at(rt, gate, now);
@@ -116,6 +110,15 @@ fn created<A: Allocator + Copy + Debug>(rt: &impl Abort, alloc: A) -> Event<A> {
 
 fn not_found<A: Allocator>(alloc: A) -> Error<A> {
     Error::new(alloc, ErrorKind::PathNotFound)
+}
+
+/// Feeds an event and an error to whatever is fed and takes turns.
+fn feed_both<
+    G: Gate<Event<A>, Error<A>, Vec<DebouncedEvent<A>, A>, Vec<Error<A>, A>>,
+    A: Allocator,
+>(gate: &mut G, event: Event<A>, error: Error<A>) -> Result<(), Error<A>> {
+    feed_one(gate, Ok(event), 0, true)?;
+    feed_one(gate, Err(error), 1, false)
 }
 
 #[test]
@@ -141,8 +144,7 @@ fn a_turn_hands_out_what_a_book_gives(rt: HostRuntime) {
     let mut gate = OpenGate {
         book: Book::new(alloc, NoCache::new(), 50),
     };
-    feed_one(&mut gate, Ok(created(&rt, alloc)), 0, true).expect(&rt, "memory");
-    feed_one(&mut gate, Err(not_found(alloc)), 1, false).expect(&rt, "memory");
+    feed_both(&mut gate, created(&rt, alloc), not_found(alloc)).expect(&rt, "memory");
     check_turn(&rt, &mut gate, 49, "errors PathNotFound; ", "");
     check_turn(&rt, &mut gate, 50, "batch Create(Any) /a 0; ", "");
     check_turn(&rt, &mut gate, 100, "", "");

@@ -5,7 +5,8 @@ use lib.ListN.{get_elem?}
 use Rattle.atomic_table.specs.Table.{State, Me, Allows, Splits, Joins, keeps, takes, gives, opening, put_back, rest}
 use Rattle.atomic_table.proofs.Lists.{at_set, at_snoc, set_again}
 use Rattle.told_lock.specs.declared.hand.Hand.{Hand}
-use Rattle.told_lock.specs.History.{Begins, picked, opener, knower, teller, untelling, beside, MayGive}
+use Rattle.told_lock.specs.History.{Begins, picked, opener, has, had_it, knower, righted, without, beside, MayGive}
+use Rattle.told_lock.specs.Rights.{Right, Emits, Feeds}
 use Rattle.told_lock.specs.Rule.{Fits, IsKept, TakesIt, GivesIt, Learns}
 
 off : false ≡ true → ⊥
@@ -28,6 +29,13 @@ only_set [] a e = absurd (cc)
 only_set (x ∷ []) a e = refl
 only_set (x ∷ y ∷ l) a e = absurd (cc)
 
+-- the pass that has each right, once another has this one
+abbrev given_to : Right → ℕ → (Right → ℕ) → Right → ℕ
+given_to Emits n crier Emits = n
+given_to Emits n crier Feeds = crier Feeds
+given_to Feeds n crier Emits = crier Emits
+given_to Feeds n crier Feeds = n
+
 module _ {E : Type 0} where
   pub begins_self : (xs : List E) → Begins xs xs
   begins_self xs = ([], append-nil xs)
@@ -38,7 +46,93 @@ module _ {E : Type 0} where
   pub begins_trans : (xs ys zs : List E) → Begins xs ys → Begins ys zs → Begins xs zs
   begins_trans xs ys zs a b = (a.0 ++ b.0, sym (append_assoc xs a.0 b.0) ∙ ap (λ l. l ++ b.0) a.1 ∙ b.1)
 
-module _ {T E : Type 0} (leads : T → List E → List E → Type 0) (pick : E → Bool) where
+  -- a pass with the rights of another
+  pub had : (right : Right) (w v : Hand E) → w.tells ≡ v.tells → w.feeds ≡ v.feeds → has right w ≡ true
+      → has right v ≡ true
+  had Emits w v tells feeds h = sym tells ∙ h
+  had Feeds w v tells feeds h = sym feeds ∙ h
+
+  -- one beside which none was put
+  never : (right : Right) (w : Hand E) → w.ended ≡ false → w.fed ≡ false → had_it right w ≡ true → ⊥
+  never Emits w a b h = off (sym a ∙ h)
+  never Feeds w a b h = off (sym b ∙ h)
+
+  still_had : (right : Right) (w v : Hand E) → w.ended ≡ v.ended → w.fed ≡ v.fed → had_it right w ≡ true
+      → had_it right v ≡ true
+  still_had Emits w v ended fed h = sym ended ∙ h
+  still_had Feeds w v ended fed h = sym fed ∙ h
+
+  -- one without rights
+  none : (right : Right) (xs : List E) → has right (knower xs) ≡ true → ⊥
+  none Emits xs h = off h
+  none Feeds xs h = off h
+
+  -- the right of the one beside it
+  had_beside : (right : Right) (v u : Hand E) → had_it right (beside v u) ≡ true → has right u ≡ true
+  had_beside Emits v u h = h
+  had_beside Feeds v u h = h
+
+  abbrev Has : (Right → E → Bool) → List E → (Right → ℕ) → ℕ → Hand E → Type 0
+  Has pick log crier port v = (right : Right) → has right v ≡ true
+      → (port ≡ crier right) × (picked (pick right) v.seen ≡ picked (pick right) log)
+
+  -- who gave the right away has the others
+  gave_away : (pick : Right → E → Bool) (log : List E) (crier : Right → ℕ) (port n : ℕ) (gone : Right) (v : Hand E)
+      → Has pick log crier port v → Has pick log (given_to gone n crier) port (without gone v)
+  gave_away pick log crier port n Emits v h Emits p = absurd (off p)
+  gave_away pick log crier port n Emits v h Feeds p = h Feeds p
+  gave_away pick log crier port n Feeds v h Emits p = h Emits p
+  gave_away pick log crier port n Feeds v h Feeds p = absurd (off p)
+
+  -- and so has one who never had it
+  has_others : (pick : Right → E → Bool) (log : List E) (crier : Right → ℕ) (port n : ℕ) (gone : Right) (v : Hand E)
+      → (has gone v ≡ true → ⊥) → Has pick log crier port v → Has pick log (given_to gone n crier) port v
+  has_others pick log crier port n Emits v not h Emits p = absurd (not p)
+  has_others pick log crier port n Emits v not h Feeds p = h Feeds p
+  has_others pick log crier port n Feeds v not h Emits p = h Emits p
+  has_others pick log crier port n Feeds v not h Feeds p = absurd (not p)
+
+  -- who was given it has it alone
+  was_given : (pick : Right → E → Bool) (log seen : List E) (crier : Right → ℕ) (port n : ℕ) (given : Right) (b : Bool)
+      → port ≡ n → picked (pick given) seen ≡ picked (pick given) log
+      → Has pick log (given_to given n crier) port (righted given b seen)
+  was_given pick log seen crier port n Emits b here all Emits p = (here, all)
+  was_given pick log seen crier port n Emits b here all Feeds p = absurd (off p)
+  was_given pick log seen crier port n Feeds b here all Emits p = absurd (off p)
+  was_given pick log seen crier port n Feeds b here all Feeds p = (here, all)
+
+  -- what a pass with one right shows
+  righted_seen : (right : Right) (b : Bool) (xs : List E) → (righted right b xs).seen ≡ xs
+  righted_seen Emits b xs = refl
+  righted_seen Feeds b xs = refl
+
+  righted_shown : (right : Right) (b : Bool) (xs : List E) → (righted right b xs).shown ≡ []
+  righted_shown Emits b xs = refl
+  righted_shown Feeds b xs = refl
+
+  righted_holds : (right : Right) (b : Bool) (xs : List E) → (righted right b xs).holds ≡ false
+  righted_holds Emits b xs = refl
+  righted_holds Feeds b xs = refl
+
+  righted_keeps : (right : Right) (b : Bool) (xs : List E) → (righted right b xs).keeps ≡ false
+  righted_keeps Emits b xs = refl
+  righted_keeps Feeds b xs = refl
+
+  righted_ended : (asked right : Right) (b : Bool) (xs : List E) → had_it asked (righted right b xs) ≡ true → ⊥
+  righted_ended Emits Emits b xs h = off h
+  righted_ended Emits Feeds b xs h = off h
+  righted_ended Feeds Emits b xs h = off h
+  righted_ended Feeds Feeds b xs h = off h
+
+  righted_has : (right : Right) (b : Bool) (xs : List E) → has right (righted right b xs) ≡ b
+  righted_has Emits b xs = refl
+  righted_has Feeds b xs = refl
+
+  has_not : (right : Right) (v : Hand E) → has right (without right v) ≡ true → ⊥
+  has_not Emits v h = off h
+  has_not Feeds v h = off h
+
+module _ {T E : Type 0} (leads : T → List E → List E → Type 0) (pick : Right → E → Bool) where
   abbrev All : (ℕ → Hand E → Type 0) → List (Hand E) → Type 0
   All F views = (port : ℕ) (v : Hand E) → get_elem? views port ≡ some v → F port v
 
@@ -57,24 +151,24 @@ module _ {T E : Type 0} (leads : T → List E → List E → Type 0) (pick : E �
     log = log;
     taken = [];
     seat = 0;
-    crier = 0;
+    crier = λ _. 0;
     home = inr (x, refl, refl, stands);
     fits = one;
   }
     where
-      here : Fits pick (0 ∷ []) log [] 0 0 0 (opener log)
+      here : Fits pick (0 ∷ []) log [] 0 (λ _. 0) 0 (opener log)
       here = record {
         seen = begins_self log;
         shown = begins_nil log;
         holds = λ p. absurd (off p);
         keeps = λ _. (refl, refl);
-        tells = λ _. (refl, refl);
-        ended = λ p. absurd (off p);
+        tells = λ _ _. (refl, refl);
+        ended = λ right p. absurd (never right (opener log) refl refl p);
       }
 
       one : (port : ℕ) (v : Hand E) → get_elem? (opener log ∷ []) port ≡ some v
-          → Fits pick (0 ∷ []) log [] 0 0 port v
-      one zero v e = subst (Fits pick (0 ∷ []) log [] 0 0 0) (some-injective _ _ e) here
+          → Fits pick (0 ∷ []) log [] 0 (λ _. 0) port v
+      one zero v e = subst (Fits pick (0 ∷ []) log [] 0 (λ _. 0) 0) (some-injective _ _ e) here
       one (suc port) v e = absurd (some-ne-none v (sym e))
 
   -- a step that changes nothing
@@ -99,7 +193,7 @@ module _ {T E : Type 0} (leads : T → List E → List E → Type 0) (pick : E �
         ((λ (none : slice_index s.words 0 ≡ 0). absurd (one_not_none (sym found ∙ none))), (λ _. refl)),
       ))
       (λ (home : (b : T) × (s.words ≡ 0 ∷ []) × (s.homes ≡ some (Some b) ∷ []) × leads b h.taken h.log).
-      let w : Hand E = record me.0 { holds = true; taken = h.taken; seen = h.log; ended = false } in
+      let w : Hand E = record me.0 { holds = true; taken = h.taken; seen = h.log; ended = false; fed = false } in
       let words : set s.words 0 1 ≡ 1 ∷ [] = ap (λ l. set l 0 1) home.1 in (
         w,
         takes 0 (Some home.0),
@@ -116,8 +210,8 @@ module _ {T E : Type 0} (leads : T → List E → List E → Type 0) (pick : E �
                 shown = mine.shown;
                 holds = λ _. (refl, refl, refl, words);
                 keeps = λ k. ((mine.keeps k).0, refl);
-                tells = λ t. ((mine.tells t).0, refl);
-                ended = λ p. absurd (off p);
+                tells = λ right t. ((mine.tells right (had right w me.0 refl refl t)).0, refl);
+                ended = λ right p. absurd (never right w refl refl p);
               })
               (λ j u other e. let theirs = h.fits j u e in record {
                 seen = theirs.seen;
@@ -136,10 +230,11 @@ module _ {T E : Type 0} (leads : T → List E → List E → Type 0) (pick : E �
               holds = refl;
               keeps = refl;
               tells = refl;
+              feeds = refl;
               goes_on = mine.seen;
               stands = home.3;
               taken = λ k. sym (mine.keeps k).1;
-              told = λ t. sym (mine.tells t).1;
+              told = λ right t. sym (mine.tells right t).1;
             },
           )),
           (λ some. absurd (some (ap (λ l. slice_index l 0) home.1))),
@@ -150,15 +245,15 @@ module _ {T E : Type 0} (leads : T → List E → List E → Type 0) (pick : E �
   pub gives_it : (change : List E → List E → T → List E → List E → Type 0) (slots id : ℕ) (me : Me (Option T) (Hand E))
       (x : T) → slots ≡ 1 → me.1 ≡ (0, Some x) ∷ [] → MayGive leads pick change me.0 x
       → Allows Kept slots id me 0 (λ _. 0) (λ _. GivesIt leads change me)
-  gives_it change slots id me x single has may s h len at wide =
+  gives_it change slots id me x single having may s h len at wide =
       let v : Hand E = me.0 in
       let mine = h.fits id v at in
       let out = mine.holds may.holds in
       let longer : Begins h.log may.log = subst (λ l. Begins l may.log) out.1 may.goes_on in
-      let w : Hand E = record v { holds = false; taken = may.taken; seen = may.log; ended = false } in
+      let w : Hand E = record v { holds = false; taken = may.taken; seen = may.log; ended = false; fed = false } in
       let words : set s.words 0 0 ≡ 0 ∷ [] = ap (λ l. set l 0 0) out.3 in
       let home : put_back s.homes me.1 ≡ some (Some x) ∷ [] =
-      ap (put_back s.homes) has ∙ only_set s.homes (some (Some x)) (len ∙ single) in (
+      ap (put_back s.homes) having ∙ only_set s.homes (some (Some x)) (len ∙ single) in (
         w,
         gives,
         tt,
@@ -174,8 +269,8 @@ module _ {T E : Type 0} (leads : T → List E → List E → Type 0) (pick : E �
                 shown = begins_trans v.shown h.log may.log mine.shown longer;
                 holds = λ p. absurd (off p);
                 keeps = λ k. ((mine.keeps k).0, refl);
-                tells = λ t. ((mine.tells t).0, refl);
-                ended = λ p. absurd (off p);
+                tells = λ right t. ((mine.tells right (had right w v refl refl t)).0, refl);
+                ended = λ right p. absurd (never right w refl refl p);
               })
               (λ j u other e. let theirs = h.fits j u e in record {
                 seen = begins_trans u.seen h.log may.log theirs.seen longer;
@@ -187,23 +282,24 @@ module _ {T E : Type 0} (leads : T → List E → List E → Type 0) (pick : E �
                       (other ((theirs.keeps k).0 ∙ sym (mine.keeps mk).0))) (λ same. (theirs.keeps k).1 ∙ sym out.2
                       ∙ sym same) may.keeps,
                 );
-                tells = λ t. (
-                  (theirs.tells t).0,
-                  ⊎_elim (λ (mt : v.tells ≡ true). absurd
-                      (other ((theirs.tells t).0 ∙ sym (mine.tells mt).0))) (λ same. (theirs.tells t).1
-                      ∙ ap (picked pick) (sym out.1) ∙ sym same) may.tells,
+                tells = λ right t. (
+                  (theirs.tells right t).0,
+                  ⊎_elim (λ (mt : has right v ≡ true). absurd
+                      (other ((theirs.tells right t).0 ∙ sym (mine.tells right mt).0))) (λ same.
+                      (theirs.tells right t).1 ∙ ap (picked (pick right)) (sym out.1) ∙ sym same) (may.tells right),
                 );
                 ended = theirs.ended;
               });
         },
         (
           x,
-          has,
-          ap rest has,
+          having,
+          ap rest having,
           record {
             holds = refl;
             keeps = refl;
             tells = refl;
+            feeds = refl;
             goes_on = may.goes_on;
             stands = may.stands;
             makes = may.makes;
@@ -211,15 +307,16 @@ module _ {T E : Type 0} (leads : T → List E → List E → Type 0) (pick : E �
         ),
       )
 
-  knows : (words : List ℕ) (log taken : List E) (seat crier port : ℕ) (xs : List E) → Begins xs log
+  knows : (words : List ℕ) (log taken : List E) (seat : ℕ) (crier : Right → ℕ) (port : ℕ) (xs : List E)
+      → Begins xs log
       → Fits pick words log taken seat crier port (knower xs)
   knows words log taken seat crier port xs b = record {
     seen = b;
     shown = begins_nil log;
     holds = λ p. absurd (off p);
     keeps = λ p. absurd (off p);
-    tells = λ p. absurd (off p);
-    ended = λ p. absurd (off p);
+    tells = λ right p. absurd (none right xs p);
+    ended = λ right p. absurd (never right (knower xs) refl refl p);
   }
 
   -- a pass without a right comes
@@ -244,58 +341,82 @@ module _ {T E : Type 0} (leads : T → List E → List E → Type 0) (pick : E �
   at_end (x ∷ xs) a b zero n e = absurd (n e)
   at_end (x ∷ xs) a b (suc j) n e = ap suc (at_end xs a b j n e)
 
-  -- the pass that tells comes
-  pub splits_telling : (id : ℕ) (v : Hand E) → v.tells ≡ true
-      → Splits Kept id v (untelling v) (teller v.tells v.seen)
-  splits_telling id v telling s h at =
+  -- what a pass keeps that gives a right away
+  gives_away : (words : List ℕ) (log taken : List E) (seat : ℕ) (crier : Right → ℕ) (n port : ℕ) (right : Right)
+      (v : Hand E) → Fits pick words log taken seat crier port v
+      → Fits pick words log taken seat (given_to right n crier) port (without right v)
+  gives_away words log taken seat crier n port Emits v mine = record {
+    seen = mine.seen;
+    shown = mine.shown;
+    holds = mine.holds;
+    keeps = mine.keeps;
+    tells = gave_away pick log crier port n Emits v mine.tells;
+    ended = λ asked p. mine.ended asked (still_had asked (without Emits v) v refl refl p);
+  }
+  gives_away words log taken seat crier n port Feeds v mine = record {
+    seen = mine.seen;
+    shown = mine.shown;
+    holds = mine.holds;
+    keeps = mine.keeps;
+    tells = gave_away pick log crier port n Feeds v mine.tells;
+    ended = λ asked p. mine.ended asked (still_had asked (without Feeds v) v refl refl p);
+  }
+
+  -- a pass with one right comes
+  comes : (words : List ℕ) (log taken xs : List E) (seat : ℕ) (crier : Right → ℕ) (n port : ℕ) (right : Right)
+      (b : Bool) → Begins xs log → port ≡ n → picked (pick right) xs ≡ picked (pick right) log
+      → Fits pick words log taken seat (given_to right n crier) port (righted right b xs)
+  comes words log taken xs seat crier n port right b seen here all = record {
+    seen = subst (λ l. Begins l log) (sym (righted_seen right b xs)) seen;
+    shown = subst (λ l. Begins l log) (sym (righted_shown right b xs)) (begins_nil log);
+    holds = λ p. absurd (off (sym (righted_holds right b xs) ∙ p));
+    keeps = λ p. absurd (off (sym (righted_keeps right b xs) ∙ p));
+    tells = was_given pick log xs crier port n right b here all;
+    ended = λ asked p. absurd (righted_ended asked right b xs p);
+  }
+
+  -- the pass that has a right is split off
+  pub splits_righted : (right : Right) (id : ℕ) (v : Hand E) → has right v ≡ true
+      → Splits Kept id v (without right v) (righted right (has right v) v.seen)
+  splits_righted right id v telling s h at =
       let mine = h.fits id v at in
-      let vs : List (Hand E) = set s.views id (untelling v) in
+      let vs : List (Hand E) = set s.views id (without right v) in
+      let crier : Right → ℕ = given_to right (length vs) h.crier in
       let Old : ℕ → Hand E → Type 0 =
-      λ j u. Fits pick s.words h.log h.taken h.seat (length vs) j u × (u.tells ≢ true) in
-      let old : All Old vs = all_set Old s.views id (untelling v) (
-        record {
-          seen = mine.seen;
-          shown = mine.shown;
-          holds = mine.holds;
-          keeps = mine.keeps;
-          tells = λ p. absurd (off p);
-          ended = mine.ended;
-        },
-        λ p. off p,
+      λ j u. Fits pick s.words h.log h.taken h.seat crier j u × (has right u ≢ true) in
+      let old : All Old vs = all_set Old s.views id (without right v) (
+        gives_away s.words h.log h.taken h.seat h.crier (length vs) id right v mine,
+        has_not right v,
       )
       (λ j u other e. let theirs = h.fits j u e in
-      let quiet : u.tells ≢ true = λ p. other ((theirs.tells p).0 ∙ sym (mine.tells telling).0) in (
+      let quiet : has right u ≢ true = λ p. other ((theirs.tells right p).0 ∙ sym (mine.tells right telling).0) in (
         record {
           seen = theirs.seen;
           shown = theirs.shown;
           holds = theirs.holds;
           keeps = theirs.keeps;
-          tells = λ p. absurd (quiet p);
+          tells = has_others pick h.log h.crier j (length vs) right u quiet theirs.tells;
           ended = theirs.ended;
         },
         quiet,
       )) in
+      let new : Hand E = righted right (has right v) v.seen in
       record {
         log = h.log;
         taken = h.taken;
         seat = h.seat;
-        crier = length vs;
+        crier = crier;
         home = h.home;
         fits = λ j u e. ⊎_elim
             (λ was. (old j u was).0)
-            (λ (same : teller v.tells v.seen ≡ u).
-            let is_telling : u.tells ≡ true = sym (ap (λ (y : Hand E). y.tells) same) ∙ telling in
-            let end : j ≡ length vs = at_end vs (teller v.tells v.seen) u j (λ x. (old j u x).1 is_telling) e in
-            subst (Fits pick s.words h.log h.taken h.seat (length vs) j) same
-            (record {
-              seen = mine.seen;
-              shown = begins_nil h.log;
-              holds = λ p. absurd (off p);
-              keeps = λ p. absurd (off p);
-              tells = λ _. (end, (mine.tells telling).1);
-              ended = λ p. absurd (off p);
-            }))
-            (at_snoc vs (teller v.tells v.seen) u j e);
+            (λ (same : new ≡ u).
+            let is_telling : has right u ≡ true = sym (ap (has right) same) ∙ righted_has right (has right v) v.seen
+            ∙ telling in
+            let end : j ≡ length vs = at_end vs new u j (λ x. (old j u x).1 is_telling) e in
+            subst (Fits pick s.words h.log h.taken h.seat crier j) same
+            (comes s.words h.log h.taken v.seen h.seat h.crier (length vs) j right (has right v) mine.seen end
+            (mine.tells right telling).1))
+            (at_snoc vs new u j e);
       }
 
   -- a pass that has the value is shown what another has seen
@@ -314,8 +435,9 @@ module _ {T E : Type 0} (leads : T → List E → List E → Type 0) (pick : E �
         shown = theirs.seen;
         holds = mine.holds;
         keeps = mine.keeps;
-        tells = mine.tells;
-        ended = λ t. (theirs.tells t).1 ∙ ap (picked pick) (sym (mine.holds holds).1);
+        tells = λ right t. mine.tells right (had right both v refl refl t);
+        ended = λ right t. (theirs.tells right (had_beside right v u t)).1
+            ∙ ap (picked (pick right)) (sym (mine.holds holds).1);
       } in
       let now : All F vs = all_set F s.views id both mine' (λ j y _ e. h.fits j y e) in
       record {

@@ -1,11 +1,12 @@
 //! A lock whose contract follows what it guards. The value lies in a slot, and a word says whether it is
 //! there: who takes the value out holds the lock.
 ghost use Rattle.std.specs.Prelude.{◌≡◌, [], true, IfOk};
-ghost use Rattle.told_lock.specs.History.{Begins, Gave, MayGive, Took, beside, knower, picked, opener, teller, untelling};
+ghost use Rattle.told_lock.specs.History.{Begins, Gave, MayGive, Took, beside, has, knower, opener, picked, righted, without};
+ghost use Rattle.told_lock.specs.Rights.{Emits, Feeds, Right};
 ghost use Rattle.told_lock.specs.Passes.{IsHolderOf, IsPassOf, view};
 
 use crate::hand::{Change, Hand, Pass, Told};
-use crate::rule::{Beside, Compares, Gives, Knowing, Law, Takes, Telling};
+use crate::rule::{Beside, Compares, Feeding, Gives, Knowing, Law, Takes, Telling};
 use crate::shown::Shown;
 use atomic_table::Table;
 use std::alloc::{AllocError, Allocator};
@@ -30,7 +31,7 @@ pub struct Lock<T: Told<E>, E, A: Allocator> {
 }
 
 impl<T: Told<E> + Drop, E, A: Allocator + Copy> Lock<T, E, A> {
-    /// Makes a lock over a value, with the history with which it begins, and the pass that has both rights.
+    /// Makes a lock over a value, with the history with which it begins, and the pass that has all rights.
     pub fn new(alloc: A, value: T) -> Result<(Lock<T, E, A>, Pass<T, E>), AllocError>
         requires { T.stands value [] (T.begins value) }
         ensures lock { IfOk result (λ r. IsPassOf r.0.table.shared.table_id r.1) }
@@ -104,14 +105,26 @@ impl<T: Told<E> + Drop, E, A: Allocator> Lock<T, E, A> {
         requires tells { (view pass.old).tells ≡ true }
         ensures lock { IsPassOf self.now.table.shared.table_id pass.new
             × IsPassOf self.now.table.shared.table_id result }
-        ensures same { view pass.new ≡ untelling (view pass.old) }
-        ensures other { view result ≡ teller (view pass.old).tells (view pass.old).seen }
+        ensures same { view pass.new ≡ without Emits (view pass.old) }
+        ensures other { view result ≡ righted Emits (view pass.old).tells (view pass.old).seen }
     {
         self.table.shared.split_seat::<Telling>(pass)
     }
 
+    /// A pass that has seen as much, and has the right to feed.
+    pub fn feeding(&self, pass: &mut Pass<T, E>) -> Pass<T, E>
+        requires lock { IsPassOf self.now.table.shared.table_id pass.old }
+        requires feeds { (view pass.old).feeds ≡ true }
+        ensures lock { IsPassOf self.now.table.shared.table_id pass.new
+            × IsPassOf self.now.table.shared.table_id result }
+        ensures same { view pass.new ≡ without Feeds (view pass.old) }
+        ensures other { view result ≡ righted Feeds (view pass.old).feeds (view pass.old).seen }
+    {
+        self.table.shared.split_seat::<Feeding>(pass)
+    }
+
     /// What another pass has seen is a beginning of the history, which the holder knows whole. If that is
-    /// the pass that tells, it has seen all the entries that tell.
+    /// the pass that tells, or feeds, it has seen all the entries that do.
     pub fn compare(&self, pass: &mut Pass<T, E>, other: Pass<T, E>)
         requires lock { IsHolderOf self.now.table.shared.table_id pass.old
             × IsPassOf self.now.table.shared.table_id other }
@@ -119,8 +132,9 @@ impl<T: Told<E> + Drop, E, A: Allocator> Lock<T, E, A> {
         ensures lock { IsHolderOf self.now.table.shared.table_id pass.new }
         ensures same { view pass.new ≡ beside (view pass.old) (view other) }
         ensures begins { Begins (view other).seen (view pass.old).seen }
-        ensures told { (view other).tells ≡ true
-            → picked T.told (view other).seen ≡ picked T.told (view pass.old).seen }
+        ensures told { (right : Right) → has right (view other) ≡ true
+            → picked (T.told right) (view other).seen
+            ≡ picked (T.told right) (view pass.old).seen }
     {
         self.table.shared.join_seat::<Beside>(pass, other);
         self.table.shared.load::<Compares>(pass, PLACE);

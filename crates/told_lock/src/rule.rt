@@ -33,11 +33,24 @@ impl<E> Split<Hand<E>> for Knowing {
 pub struct Telling;
 
 impl<E> Split<Hand<E>> for Telling {
-    ghost use Rattle.told_lock.specs.History.{teller, untelling};
+    ghost use Rattle.told_lock.specs.History.{righted, without};
+    ghost use Rattle.told_lock.specs.Rights.{Emits};
 
-    ghost left = { λ v. untelling v };
+    ghost left = { λ v. without Emits v };
 
-    ghost right = { λ v. teller v.tells v.seen };
+    ghost right = { λ v. righted Emits v.tells v.seen };
+}
+
+/// The pass that feeds is split off.
+pub struct Feeding;
+
+impl<E> Split<Hand<E>> for Feeding {
+    ghost use Rattle.told_lock.specs.History.{righted, without};
+    ghost use Rattle.told_lock.specs.Rights.{Feeds};
+
+    ghost left = { λ v. without Feeds v };
+
+    ghost right = { λ v. righted Feeds v.feeds v.seen };
 }
 
 /// A pass is joined by what another has seen.

@@ -1,19 +1,14 @@
 -- An index that is read anew. The function that does that cites the last of these.
-use Rattle.std.proofs.Common.{◌≡◌, ◌∙◌, Bool, true, false, cond, ◌||◌, List, [], ◌∷◌, ◌++◌, map, Option, None, Some, refl, sym, ap, true≢false}
+use Rattle.std.proofs.Common.{◌≡◌, ◌∙◌, Bool, true, false, cond, ◌||◌, List, [], ◌∷◌, Option, None, Some, refl, sym, true≢false}
 use Rattle.std.specs.Prelude.{if◌then◌else◌}
 use Rattle.std.specs.BTreeMap.{is_at}
-use Rattle.std.specs.Map.{keys_of}
 use Rattle.notify_paths.specs.Path.{PathValue, path_cmp, path_eq}
 use Rattle.notify_paths.specs.PathLaws.{path_eq_decides}
 use Rattle.notify_types.specs.Event.{EventValue, Timed}
-use Rattle.debounce_model.specs.Kept.{has_first}
-use Rattle.debounce_model.specs.Play.{events_of}
 use Rattle.debounce_laws.proofs.PathSets.{tied}
-use Rattle.batch_plan.specs.Naming.{naming}
 use Rattle.batch_plan.specs.Plan.{goes, is_named, look_at, stands}
 use Rattle.word_index.specs.Index.{IndexValue, StaysExact}
 use Rattle.word_index.specs.Kept.{BecomesExact, Readings, Takes, TakesAnew, anew}
-use Rattle.word_index.specs.Words.{WordsValue}
 
 -- neither of two
 neither : (a b : Bool) → (a || b) ≡ false → (a ≡ false) × (b ≡ false)

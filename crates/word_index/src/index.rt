@@ -1,5 +1,5 @@
 //! The index.
-ghost use Rattle.std.specs.Prelude.{◌≡◌, [], filter, map, IfOk, OnOk};
+ghost use Rattle.std.specs.Prelude.{◌≡◌, [], filter, map, option_map, IfOk, OnOk};
 ghost use Rattle.std.specs.Map.{keys_of};
 ghost use Rattle.std.specs.List.Sorted.{IsStrictlySortedBy};
 ghost use Rattle.notify_paths.specs.Path.{is_prefix, path_cmp};
@@ -44,6 +44,13 @@ impl<A: Allocator + Copy> DocumentIndex<A> {
             documents: BTreeMap::new(alloc),
             alloc,
         }
+    }
+
+    /// Returns the words of what stands at the path, if anything does.
+    pub fn get(&self, path: &PathBuf<A>) -> Option<&Words<A>>
+        ensures { option_map (λ words. words.now) result ≡ look_at self.now path.now }
+    {
+        self.documents.get(path)
     }
 
     /// Returns the documents that have the word, in the order of their paths. The word's case has to be

@@ -4,6 +4,7 @@ ghost use Rattle.std.specs.Map.{keys_of};
 ghost use Rattle.debounce_model.specs.Play.{events_of};
 ghost use Rattle.word_index.specs.Kept.{ReadsAgain, Takes, TakesAnew, anew, asks_anew};
 
+use crate::before::Before;
 use crate::index::DocumentIndex;
 use crate::missing::{Missing, Reading};
 use crate::words::Words;
@@ -29,8 +30,12 @@ pub trait ReadsDocuments {
     /// What may be read at paths: who reads says which documents these are.
     ghost reads: { Self → Paths → IndexValue → Type 0 };
 
-    /// Reads what stands at these paths.
-    fn read(&self, paths: &BTreeMap<PathBuf, ()>) -> Result<BTreeMap<PathBuf, Words>, Fault>
+    /// Reads what stands at these paths, or takes what there was before, of what moved and is as it was.
+    fn read(
+        &self,
+        paths: &BTreeMap<PathBuf, ()>,
+        before: &Before<'_>,
+    ) -> Result<BTreeMap<PathBuf, Words>, Fault>
         ensures { IfOk result (λ read. reads self.now (keys_of paths.now.entries) read.entries) };
 
     /// Whether the path, at which nothing was read, is to be read later: nothing stands there, or what does can't
@@ -70,7 +75,7 @@ impl KeptIndex {
             self.old.index self.new.index) }
     {
         let paths = wanted(self.alloc, batch)?;
-        let read = documents.read(&paths)?;
+        let read = self.read(documents, batch, &paths)?;
         let reading = Reading {
             documents,
             paths: &paths,
@@ -78,6 +83,20 @@ impl KeptIndex {
         };
         self.missing.note(&self.index, batch, &reading)?;
         Ok(self.index.take_batch(read, batch)?)
+    }
+
+    /// Reads what stands at these paths, or takes what the index has of what the batch tells as moved.
+    fn read<D: ReadsDocuments>(
+        &self,
+        documents: &D,
+        batch: &[DebouncedEvent],
+        paths: &BTreeMap<PathBuf, ()>,
+    ) -> Result<BTreeMap<PathBuf, Words>, Fault>
+        ensures { IfOk result (λ read.
+            D.reads documents.now (keys_of paths.now.entries) read.entries) }
+    {
+        let before = Before::of(self.alloc, &self.index, batch)?;
+        documents.read(paths, &before)
     }
 
     /// Reads all anew: what stands at each path that the index has, and then at those that are listed. So it becomes

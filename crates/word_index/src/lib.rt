@@ -2,7 +2,8 @@
 //!
 //! A [`index::DocumentIndex`] holds the words of each document, and answers which documents have a
 //! word. For a batch, read anew what its events name, and hand over what was read. A [`kept::KeptIndex`]
-//! does that, and reads again what was missing.
+//! does that, and reads again what was missing. What a batch tells as moved keeps its words, if who reads finds that
+//! it is as it was: [`before::Before`] has them.
 //!
 //! ```text
 //! let mut index = DocumentIndex::new(rt.alloc());
@@ -13,6 +14,7 @@
 #![tactic(auto)]
 
 pub mod answer;
+pub mod before;
 pub mod index;
 pub mod kept;
 mod missing;

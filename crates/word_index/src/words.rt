@@ -1,18 +1,20 @@
 //! The words of a text.
-ghost use Rattle.std.specs.Prelude.{◌≡◌, [], IfOk, OnOk};
+ghost use Rattle.std.specs.Prelude.{◌≡◌, Some, IfOk, OnOk};
 ghost use Rattle.std.specs.String.{string_bytes};
-ghost use Rattle.word_index.specs.Words.{has_word, with_word, words_of};
+ghost use Rattle.word_index.specs.Words.{has_word, is_unchanged, no_words, with_word, words_of};
 
 use caseless::default_case_fold_str;
+use folder_listing::entry::Found;
 use std::alloc::{AllocError, Allocator, Global};
 use std::collections::BTreeSet;
 use std::marker::Model;
 use unicode_segmentation::UnicodeSegmentation;
 
-/// The words of a document.
+/// The words of a document, and what was found there when they were read, if that is known.
 #[derive(Drop)]
 pub struct Words<A: Allocator = Global> {
     words: BTreeSet<String<A>, A>,
+    found: Option<Found>,
 }
 
 impl<A: Allocator> Model for Words<A> {
@@ -22,16 +24,38 @@ impl<A: Allocator> Model for Words<A> {
 
     ghost Value = { WordsValue };
 
-    ghost view = { λ a. map string_bytes a.words.keys };
+    ghost view = { λ a. record { texts = map string_bytes a.words.keys; found = a.found } };
 }
 
 impl<A: Allocator> Words<A> {
     /// Returns no words.
     pub fn new(alloc: A) -> Words<A>
-        ensures { result ≡ [] }
+        ensures { result ≡ no_words }
     {
         Words {
             words: BTreeSet::new(alloc),
+            found: None,
+        }
+    }
+
+    /// Returns these words as those of what was found when they were read.
+    pub fn of(self, found: Found) -> Words<A>
+        ensures { result ≡ record self { found = Some found } }
+    {
+        Words {
+            words: self.words,
+            found: Some(found),
+        }
+    }
+
+    /// Whether they are the words of what is found now: the same file, which nobody changed since they were read. Its
+    /// modified time has to be known, and its number.
+    pub fn is_of(&self, found: Found) -> bool
+        ensures { result ≡ is_unchanged self.now.found found }
+    {
+        match self.found {
+            Some(before) => before.modified.is_some() && before.is_one_file(found),
+            None => false,
         }
     }
 
@@ -44,6 +68,17 @@ impl<A: Allocator> Words<A> {
 }
 
 impl<A: Allocator + Copy> Words<A> {
+    /// Returns the same words once more, as those of the same file.
+    pub fn try_clone(&self) -> Result<Words<A>, AllocError>
+        ensures { IfOk result (λ words. words ≡ self.now) }
+    {
+        let words = self.words.clone()?;
+        Ok(Words {
+            words,
+            found: self.found,
+        })
+    }
+
     /// Puts in the word, if it isn't there yet.
     fn insert(&mut self, word: String<A>) -> Result<(), AllocError>
         ensures { OnOk result (self.new ≡ with_word self.old (string_bytes word)) }

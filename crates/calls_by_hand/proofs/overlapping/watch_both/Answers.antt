@@ -1,5 +1,5 @@
 -- One round after the other; a watch and its end leave the last listing in between.
-use Rattle.std.proofs.Common.{◌≡◌, ◌∙◌, [], ap, subst, sym}
+use Rattle.std.proofs.Common.{◌≡◌, ◌∙◌, [], ap, subst, sym, None}
 use Rattle.poll_roots.specs.Polled.{PolledValue}
 use Rattle.poll_rounds.specs.Reports.{Reported}
 use Rattle.calls_by_hand.proofs.overlapping.watch_both.Goals as goal
@@ -13,10 +13,10 @@ returns g c =
     c.watch_reported.ensures.last ∙ ap (λ (p : PolledValue). p.last) c.new-polled.ensures in
     let begins : Reported handles begun c.watch_reported.new.self.last begun =
     subst (λ l. Reported handles begun l begun) (sym none) (law.begins begun) in
-    let one = law.goes_on begun _ _ _ _ begins c.last.ensures.law c.round.ensures.reports in
+    let one = law.goes_on begun _ _ _ _ None begins c.last.ensures.law c.round.ensures.reports in
     let watched : Reported handles begun c.watch_reported-3.new.self.last c.round.new.handler =
     subst (λ l. Reported handles begun l c.round.new.handler) (sym c.watch_reported-3.ensures.last) one in
-    let two = law.goes_on begun _ _ _ _ watched c.last-2.ensures.law c.round-2.ensures.reports in
+    let two = law.goes_on begun _ _ _ _ None watched c.last-2.ensures.law c.round-2.ensures.reports in
     let unwatched : Reported handles begun c.unwatch_reported.new.self.last c.round-2.new.handler =
     subst (λ l. Reported handles begun l c.round-2.new.handler) (sym c.unwatch_reported.ensures.last) two in
-    law.goes_on begun _ _ _ _ unwatched c.last-3.ensures.law c.round-3.ensures.reports
+    law.goes_on begun _ _ _ _ None unwatched c.last-3.ensures.law c.round-3.ensures.reports

@@ -1,5 +1,6 @@
 use Rattle.std.proofs.Common.{◌∙◌}
 use Rattle.told_lock.specs.Passes.{view}
+use Rattle.told_lock.specs.Rights.{Emits}
 use Rattle.debounce_access.proofs.Gives.{may_stay_beside}
 use Rattle.debounce_access.proofs.Steps.{gives_journal}
 use Rattle.debounce_access.proofs.access.Access.journal.Goals as goal
@@ -16,5 +17,5 @@ returns-clause-left g c =
     rw (← c.self.view_is) (λ keeps first. gives_journal c.deref-3.result.now c.take-guard.result.1.missed
     (view c.self.inside.pass).seen (view c.args.teller).seen (view c.take-guard.new.pass).taken
     (view c.take-guard.new.pass).seen c.journal-journal.result took.goes_on c.compare.ensures.begins
-    (c.compare.ensures.told c.requires.tells) (rw (← c.deref-3.ensures) at took.stands) (took.taken keeps ∙ first)
+    (c.compare.ensures.told Emits c.requires.tells) (rw (← c.deref-3.ensures) at took.stands) (took.taken keeps ∙ first)
     c.journal-journal.ensures.ok)

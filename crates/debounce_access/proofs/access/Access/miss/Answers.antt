@@ -1,6 +1,7 @@
-use Rattle.std.proofs.Common.{inr, refl, [], ◌∷◌}
+use Rattle.std.proofs.Common.{◌∙◌, refl, [], ◌∷◌}
+use Rattle.told_lock.specs.Rights.{Feeds}
 use Rattle.debounce_access.specs.Happened.{Missed}
-use Rattle.debounce_access.proofs.Gives.{lasts_by, may_go, miss_adds}
+use Rattle.debounce_access.proofs.Gives.{lasts_by, feeds_quiet, may_go, miss_gains}
 use Rattle.debounce_access.proofs.Steps.{miss_stands}
 use Rattle.debounce_access.proofs.access.Access.miss.Goals as goal
 
@@ -8,7 +9,8 @@ pub give-requires-clause-may : goal.give-requires-clause-may
 give-requires-clause-may g c =
     let took = c.take-guard.ensures.took in
     may_go _ _ (Missed ∷ []) took.holds (rw c.of-held.ensures refl)
-    (rw c.saturating_add.ensures (miss_stands _ _ _ _ took.stands)) (inr refl)
+    (rw c.saturating_add.ensures (miss_stands _ _ _ _ took.stands))
+    (feeds_quiet _ (Missed ∷ []) (took.feeds ∙ (rw (← c.self.view_is) at c.requires)) refl)
 
 pub returns-clause-lasts : goal.returns-clause-lasts
 returns-clause-lasts g c =
@@ -21,4 +23,6 @@ pub returns-clause-missed : goal.returns-clause-missed
 returns-clause-missed g c =
     let took = c.take-guard.ensures.took in
     let made = c.give.ensures.gave.makes in
-    rw (← c.self.view_is) (miss_adds _ _ _ _ took.goes_on (rw c.of-held.ensures at made.2) made.3)
+    let feeds = rw (← c.self.view_is) at c.requires in
+    rw (← c.self.view_is) (miss_gains _ _ _ _ took.goes_on (took.told Feeds feeds) (rw c.of-held.ensures at made.2)
+    made.3)

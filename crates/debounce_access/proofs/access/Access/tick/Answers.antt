@@ -1,6 +1,7 @@
-use Rattle.std.proofs.Common.{inl, ◌∙◌}
+use Rattle.std.proofs.Common.{◌∙◌}
 use Rattle.told_lock.specs.Passes.{view}
-use Rattle.debounce_access.proofs.Gives.{lasts_by, may_go, tick_adds, tick_gains}
+use Rattle.told_lock.specs.Rights.{Emits}
+use Rattle.debounce_access.proofs.Gives.{lasts_by, may_go, tells_quiet, tick_adds, tick_gains, tick_unfed}
 use Rattle.debounce_access.proofs.Steps.{tick_stands}
 use Rattle.debounce_access.proofs.access.Access.tick.Goals as goal
 
@@ -10,7 +11,7 @@ give-requires-clause-may g c =
     let gained = tick_stands g.C.FileIdCache.rules _ _ _ _ _ c.args.now _ _
     (rw (← c.deref_mut.ensures.value) at took.stands) c.tick_step-ticked.ensures in
     may_go _ _ gained.0 took.holds (rw (c.of-held.ensures, c.of.ensures) gained.1) gained.2
-    (inl (took.tells ∙ (rw (← c.self.view_is) at c.requires)))
+    (tells_quiet _ _ (took.tells ∙ (rw (← c.self.view_is) at c.requires)) (tick_unfed _ _ _ _ gained.1))
 
 pub returns-clause-ticks : goal.returns-clause-ticks
 returns-clause-ticks g c =
@@ -25,7 +26,7 @@ returns-clause-emits g c =
     let made = c.give.ensures.gave.makes in
     let tells = rw (← c.self.view_is) at c.requires in
     rw (← c.self.view_is) (tick_gains (view c.self.inside.pass).seen (view c.take-guard.new.pass).seen
-    (view c.give.new.pass).seen c.args.now c.of.result.value c.tick_step-ticked.result made.1 (took.told tells)
+    (view c.give.new.pass).seen c.args.now c.of.result.value c.tick_step-ticked.result made.1 (took.told Emits tells)
     c.of.ensures (rw c.of-held.ensures at made.2) made.3)
 
 pub returns-clause-lasts : goal.returns-clause-lasts

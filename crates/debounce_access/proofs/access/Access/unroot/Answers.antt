@@ -12,7 +12,8 @@ give-requires-clause-may g c =
     let made = unroot_stands g.C.FileIdCache.rules _ _ _ _ _ c.args.path.now step.result
     (rw (← c.deref_mut.ensures.value) at took.stands) step.ensures.ok
     step.ensures.err in
-    may_go _ _ made.0 took.holds (rw (c.of-held.ensures, c.of.ensures, c.of-2.ensures) made.1) made.2 (inr made.3)
+    may_go _ _ made.0 took.holds (rw (c.of-held.ensures, c.of.ensures, c.of-2.ensures) made.1) made.2
+    (λ right. inr (made.3 right))
 
 pub returns-clause-lasts : goal.returns-clause-lasts
 returns-clause-lasts g c =

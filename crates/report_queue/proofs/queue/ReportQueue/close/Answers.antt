@@ -1,5 +1,6 @@
 use Rattle.std.proofs.Common.{◌∙◌, ◌++◌, ◌-◌, ◌^◌, min, sym, ap}
 use Rattle.told_lock.specs.Passes.{view}
+use Rattle.told_lock.specs.Rights.{Emits}
 use Rattle.report_queue.specs.Queue.{lost_in, put_in}
 use Rattle.report_queue.proofs.Puts.{picked_all}
 use Rattle.report_queue.proofs.queue.ReportQueue.close.Goals as goal
@@ -7,7 +8,8 @@ use Rattle.report_queue.proofs.queue.ReportQueue.close.Goals as goal
 pub returns-clause-reports : goal.returns-clause-reports
 returns-clause-reports g c =
     let took = c.take-guard.ensures.took in
-    let told = sym (picked_all (view c.take-guard.new.pass).seen) ∙ sym (c.compare.ensures.told c.sender.invariant.1)
+    let told = sym (picked_all (view c.take-guard.new.pass).seen)
+    ∙ sym (c.compare.ensures.told Emits c.sender.invariant.1)
     ∙ picked_all (view c.sender.inside.pass).seen in
     rw (← c.self.view_is, ← c.sender.view_is, c.into_vec.ensures.items)
     (ap (λ l. put_in l ++ c.take-guard.result.1.queue.items) (sym (took.taken c.self.invariant.1))
@@ -16,6 +18,7 @@ returns-clause-reports g c =
 pub returns-clause-unsent : goal.returns-clause-unsent
 returns-clause-unsent g c =
     let took = c.take-guard.ensures.took in
-    let told = sym (picked_all (view c.take-guard.new.pass).seen) ∙ sym (c.compare.ensures.told c.sender.invariant.1)
+    let told = sym (picked_all (view c.take-guard.new.pass).seen)
+    ∙ sym (c.compare.ensures.told Emits c.sender.invariant.1)
     ∙ picked_all (view c.sender.inside.pass).seen in
     rw (← c.sender.view_is) (took.stands.unsent_is ∙ ap (λ l. min (lost_in l) (2 ^ 64 - 1)) told)

@@ -1,5 +1,6 @@
 use Rattle.std.proofs.Common.{◌∙◌, [], ◌∷◌, ◌++◌, refl, sym, ap}
 use Rattle.told_lock.specs.Passes.{view}
+use Rattle.told_lock.specs.Rights.{Emits}
 use Rattle.report_queue.proofs.Puts.{calls_one, may_call, picked_all}
 use Rattle.report_queue.proofs.sender.ReportSender.send.Goals as goal
 
@@ -15,7 +16,7 @@ pub returns-clause-calls : goal.returns-clause-calls
 returns-clause-calls g c =
     let took = c.take-guard.ensures.took in
     let gave = c.give.ensures.gave in
-    let told = sym (picked_all (view c.take-guard.new.pass).seen) ∙ took.told c.self.invariant.1
+    let told = sym (picked_all (view c.take-guard.new.pass).seen) ∙ took.told Emits c.self.invariant.1
     ∙ picked_all (view c.self.inside.pass).seen in
     rw (← c.self.view_is) (gave.makes.1 ∙ ap (λ l. l ++ (c.of-shown.result.value, c.put-is_put_in.result) ∷ []) told
     ∙ ap (λ x. (view c.self.inside.pass).seen ++ (x, c.put-is_put_in.result) ∷ []) c.of-shown.ensures)

@@ -1,5 +1,3 @@
-use Rattle.std.proofs.Common.{◌∙◌, ap}
-use Rattle.std.specs.Prelude.{◌++◌}
 use Rattle.std.proofs.lemmas.Result.{on_ok_weaker}
 use Rattle.word_index.proofs.Anew.{takes_anew}
 use Rattle.word_index.proofs.kept.KeptIndex.read_anew.Goals as goal

@@ -1,0 +1,48 @@
+-- There is room for what is moved, and its places are all places.
+use Rattle.std.proofs.Common.{◌≡◌, ◌∙◌, ◌+◌, ◌++◌, ap, arith, length, length-append, subst, sym}
+use Rattle.debounce_model.specs.Due.{place_list}
+use Rattle.debounce_model.specs.Tick.{due_of}
+use Rattle.event_order.specs.Places.{ArePlaces}
+use Rattle.event_order.proofs.PlaceLemmas.{order_counted}
+use Rattle.event_order.proofs.PutLemmas.{order_places}
+use Rattle.event_queues.specs.Due.{is_due}
+use Rattle.debounce_batch.proofs.emit.emit.Goals as goal
+
+pub ranks_of-requires : goal.ranks_of-requires
+ranks_of-requires g c =
+    subst ArePlaces (sym c.as_slice.ensures.value) (order_places _ _ c.in_ok-places.ensures.places)
+
+pub take_due-requires-clause-room : goal.take_due-requires-clause-room
+take_due-requires-clause-room g c =
+    let due = is_due c.args.due in
+    let a = due_of due c.args.slot.now in
+    let b = place_list due c.args.queues.now in
+    let p = c.in_ok-places.places in
+    let m = c.in_ok-moved.moved in
+    let n : length p.items ≡ length a + length b = order_counted (a ++ b) p.items
+    c.in_ok-places.ensures.places ∙ length-append a b in
+    omega (arith, n, p.ok.0, m.ok.0, c.len.ensures, c.in_ok-moved.ensures.len, c.in_ok-moved.ensures.capacity)
+
+pub give_first-requires : goal.give_first-requires
+give_first-requires g c =
+    let due = is_due c.args.due in
+    let a = due_of due c.args.slot.now in
+    let b = place_list due c.args.queues.now in
+    let p = c.in_ok-places.places in
+    let m = c.in_ok-moved.moved in
+    let n : length p.items ≡ length a + length b = order_counted (a ++ b) p.items
+    c.in_ok-places.ensures.places ∙ length-append a b in
+    let longer : length c.take_due.new.out.items ≡ length m.items + length b =
+    ap length c.in_ok-visited.ensures.moved ∙ length-append m.items b in
+    omega (
+      arith,
+      n,
+      longer,
+      p.ok.0,
+      m.ok.0,
+      c.take_due.new.out.ok.0,
+      c.len.ensures,
+      c.in_ok-moved.ensures.len,
+      c.in_ok-moved.ensures.capacity,
+      c.take_due.ensures.capacity,
+    )

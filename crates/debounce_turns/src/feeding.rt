@@ -1,0 +1,89 @@
+//! A feed's way to a book.
+ghost use Rattle.std.specs.Prelude.{◌≡◌, [], true};
+ghost use Rattle.debounce_access.specs.Adds.{FeedsOn, GainsOne};
+ghost use Rattle.debounce_access.specs.Happened.{Missed};
+ghost use Rattle.debounce_access.specs.Stands.{feeds_of, seen_by};
+
+use crate::turn::FeedGate;
+use debounce_access::access::Access;
+use debounce_access::locked::BookPass;
+use file_id_cache::cache::FileIdCache;
+use notify_paths::error::Error;
+use notify_types::event::Event;
+use notify_types::time::Moment;
+use std::alloc::Allocator;
+use std::marker::Model;
+use std::sync::Wait;
+
+/// A feed's way to the book, by which alone is fed. Clauses see how much of the book's history it has seen.
+#[derive(Drop)]
+pub struct Feeding<C: Drop, R: Wait + Drop, A: Allocator> {
+    rt: R,
+    access: Access<C, A>,
+}
+
+impl<C: Drop, R: Wait + Drop, A: Allocator> Model for Feeding<C, R, A> {
+    ghost use Rattle.std.specs.Prelude.{◌≡◌, true};
+    ghost use Rattle.debounce_access.specs.Stands.{Known};
+
+    ghost Value = { Known };
+
+    ghost view = { λ f. record { lock = f.access.lock; seen = f.access.seen } };
+
+    ghost invariant = { λ f. f.access.feeds ≡ true };
+}
+
+impl<C: Drop, R: Wait + Drop, A: Allocator> Feeding<C, R, A> {
+    /// A feed's way, by one that alone feeds.
+    pub fn new(rt: R, access: Access<C, A>) -> Feeding<C, R, A>
+        requires { access.feeds ≡ true }
+        ensures { (result.lock ≡ access.lock) × (result.seen ≡ access.seen) }
+    {
+        Feeding { rt, access }
+    }
+
+    /// Notes that an event or an error was refused.
+    pub fn miss(&mut self)
+        ensures lock { self.new.lock ≡ self.old.lock }
+        ensures missed { GainsOne self.old.seen Missed self.new.seen }
+    {
+        self.access.miss(&self.rt);
+    }
+
+    /// What this way has seen, for whoever is to be shown it.
+    pub fn shown(&mut self) -> BookPass<C, A>
+        ensures same { self.new ≡ self.old }
+        ensures lock { (result.table_id ≡ self.old.lock) × (result.me.1 ≡ []) }
+        ensures seen { seen_by result ≡ self.old.seen }
+    {
+        self.access.shown()
+    }
+
+    /// The pass alone, by which it fed.
+    pub fn into_pass(self) -> BookPass<C, A>
+        ensures lock { result.table_id ≡ self.lock }
+        ensures free { result.me.1 ≡ [] }
+        ensures same { (seen_by result ≡ self.seen) × (feeds_of result ≡ true) }
+    {
+        let Feeding { rt: _, access } = self;
+        access.into_pass()
+    }
+}
+
+impl<C: FileIdCache<A> + Drop, R: Wait + Drop, A: Allocator + Copy> FeedGate<Event<A>, Error<A>>
+    for Feeding<C, R, A> {
+    ghost use Rattle.debounce_access.specs.Adds.{FeedsOn};
+
+    ghost feeds = { λ old item now exists answer new. FeedsOn old item now exists answer new };
+
+    fn feed(
+        &mut self,
+        item: Result<Event<A>, Error<A>>,
+        now: Moment,
+        exists: bool,
+    ) -> Result<(), Error<A>>
+        ensures { FeedsOn self.old item now exists result self.new }
+    {
+        self.access.feed(&self.rt, item, now, exists)
+    }
+}
