@@ -44,7 +44,7 @@ report "the tutorial's own crate" "$([ $? = 0 ] && [ "$(wc -l <commands)" = 4 ] 
 for name in changed keeper; do
     mkdir -p programs/crates/$name/src
     grep -o "$name: watch_loop [a-z_ ]*" "$top/docs/TUTORIAL.md" >>programs/crates.txt
-    cp "$top/docs/examples/$name.rt.txt" programs/crates/$name/src/main.rt
+    cp "$top/docs/examples/$name.txt" programs/crates/$name/src/main.rt
 done
 "$top/scripts/vendor" programs notify_debouncer_full watch_loop watch_program batch_plan >out 2>err
 mkdir grown
