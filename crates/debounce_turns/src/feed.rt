@@ -29,14 +29,14 @@ use std::time::{Clock, Instant};
 ///
 /// A debouncer has one, which can't be cloned.
 #[derive(Drop)]
-pub struct Feed<C: Drop, R: Wait + Drop, A: Allocator = Global> {
+pub struct Feed<C: FileIdCache<A> + Drop, R: Wait + Drop, A: Allocator = Global> {
     rt: R,
     alloc: A,
     gate: Feeding<C, R, A>,
     signals: Arc<Signals, A>,
 }
 
-impl<C: Drop, R: Wait + Drop, A: Allocator> Model for Feed<C, R, A> {
+impl<C: FileIdCache<A> + Drop, R: Wait + Drop, A: Allocator> Model for Feed<C, R, A> {
     ghost use Rattle.debounce_access.specs.Stands.{Known};
 
     ghost Value = { Known };
@@ -47,12 +47,12 @@ impl<C: Drop, R: Wait + Drop, A: Allocator> Model for Feed<C, R, A> {
 /// Shows that something was taken. Clauses see the history up to then, and what the feed's clock had answered. It
 /// has no bytes.
 #[derive(Drop)]
-pub struct Receipt<C: Drop, A: Allocator = Global> {
+pub struct Receipt<C: FileIdCache<A> + Drop, A: Allocator = Global> {
     pass: BookPass<C, A>,
     answers: Snapshot<Stopwatch>,
 }
 
-impl<C: Drop, A: Allocator> Model for Receipt<C, A> {
+impl<C: FileIdCache<A> + Drop, A: Allocator> Model for Receipt<C, A> {
     ghost use Rattle.std.specs.Prelude.{◌≡◌, []};
     ghost use Rattle.debounce_access.specs.Stands.{Known, seen_by};
 
@@ -67,7 +67,7 @@ impl<C: Drop, A: Allocator> Model for Receipt<C, A> {
     ghost invariant = { λ r. r.pass.me.1 ≡ [] };
 }
 
-impl<C: Drop, R: Wait + Copy + Drop, A: Allocator + Copy> Shared<C, R, A> {
+impl<C: FileIdCache<A> + Drop, R: Wait + Copy + Drop, A: Allocator + Copy> Shared<C, R, A> {
     /// The feed of the debouncer, which counts from this start, and alone feeds from then on.
     pub fn feed(&mut self, start: Instant) -> Result<Feed<C, R, A>, Error<A>>
         requires { self.old.owner.feeds ≡ true }
@@ -87,7 +87,7 @@ impl<C: Drop, R: Wait + Copy + Drop, A: Allocator + Copy> Shared<C, R, A> {
     }
 }
 
-impl<C: Drop, R: Wait + Drop, A: Allocator> Shared<C, R, A> {
+impl<C: FileIdCache<A> + Drop, R: Wait + Drop, A: Allocator> Shared<C, R, A> {
     /// Looks at the history up to now. What the receipt shows is in it.
     pub fn catch_up(&mut self, receipt: Receipt<C, A>)
         requires { receipt.lock ≡ self.old.owner.lock }
@@ -140,7 +140,7 @@ impl<C: FileIdCache<A> + Drop, R: Clock + Files + Wait + Drop, A: Allocator + Co
     }
 }
 
-impl<C: Drop, R: Wait + Drop, A: Allocator> Feed<C, R, A> {
+impl<C: FileIdCache<A> + Drop, R: Wait + Drop, A: Allocator> Feed<C, R, A> {
     /// Shows as much of the history as this feed has seen, to `Debouncer::catch_up`.
     pub fn receipt(&mut self) -> Receipt<C, A>
         ensures same { self.new ≡ self.old }

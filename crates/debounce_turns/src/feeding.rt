@@ -22,13 +22,13 @@ use std::time::Clock;
 /// A feed's way to the book, by which alone is fed, and its clock. Clauses see how much of the book's history it
 /// has seen, and what the clock has answered.
 #[derive(Drop)]
-pub struct Feeding<C: Drop, R: Wait + Drop, A: Allocator> {
+pub struct Feeding<C: FileIdCache<A> + Drop, R: Wait + Drop, A: Allocator> {
     rt: R,
     access: Access<C, A>,
     clock: Stopwatch,
 }
 
-impl<C: Drop, R: Wait + Drop, A: Allocator> Model for Feeding<C, R, A> {
+impl<C: FileIdCache<A> + Drop, R: Wait + Drop, A: Allocator> Model for Feeding<C, R, A> {
     ghost use Rattle.std.specs.Prelude.{◌≡◌, true};
     ghost use Rattle.debounce_access.specs.Stands.{Known};
 
@@ -43,7 +43,7 @@ impl<C: Drop, R: Wait + Drop, A: Allocator> Model for Feeding<C, R, A> {
     ghost invariant = { λ f. f.access.feeds ≡ true };
 }
 
-impl<C: Drop, R: Wait + Drop, A: Allocator> Feeding<C, R, A> {
+impl<C: FileIdCache<A> + Drop, R: Wait + Drop, A: Allocator> Feeding<C, R, A> {
     /// A feed's way, by one that alone feeds.
     pub fn new(rt: R, access: Access<C, A>, clock: Stopwatch) -> Feeding<C, R, A>
         requires { access.feeds ≡ true }
@@ -93,7 +93,7 @@ impl<C: Drop, R: Wait + Drop, A: Allocator> Feeding<C, R, A> {
     }
 }
 
-impl<C: Drop, R: Wait + Clock + Drop, A: Allocator + Copy> Feeding<C, R, A> {
+impl<C: FileIdCache<A> + Drop, R: Wait + Clock + Drop, A: Allocator + Copy> Feeding<C, R, A> {
     /// Reads the clock.
     pub fn now(&mut self, alloc: A) -> Result<Moment, Error<A>>
         ensures ok { IfOk result (λ now.

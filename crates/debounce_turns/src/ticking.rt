@@ -21,13 +21,13 @@ use std::time::Clock;
 /// The worker's way to the book, by which alone is emitted, and its clock. Clauses see how much of the book's
 /// history it has seen, and what the clock has answered.
 #[derive(Drop)]
-pub struct Ticking<C: Drop, R: Wait + Drop, A: Allocator> {
+pub struct Ticking<C: FileIdCache<A> + Drop, R: Wait + Drop, A: Allocator> {
     rt: R,
     access: Access<C, A>,
     clock: Stopwatch,
 }
 
-impl<C: Drop, R: Wait + Drop, A: Allocator> Model for Ticking<C, R, A> {
+impl<C: FileIdCache<A> + Drop, R: Wait + Drop, A: Allocator> Model for Ticking<C, R, A> {
     ghost use Rattle.std.specs.Prelude.{◌≡◌, true};
     ghost use Rattle.debounce_access.specs.Stands.{Known};
 
@@ -42,7 +42,7 @@ impl<C: Drop, R: Wait + Drop, A: Allocator> Model for Ticking<C, R, A> {
     ghost invariant = { λ t. t.access.tells ≡ true };
 }
 
-impl<C: Drop, R: Wait + Drop, A: Allocator> Ticking<C, R, A> {
+impl<C: FileIdCache<A> + Drop, R: Wait + Drop, A: Allocator> Ticking<C, R, A> {
     /// The worker's way, by one that alone emits.
     pub fn new(rt: R, access: Access<C, A>, clock: Stopwatch) -> Ticking<C, R, A>
         requires { access.tells ≡ true }
@@ -68,7 +68,7 @@ impl<C: Drop, R: Wait + Drop, A: Allocator> Ticking<C, R, A> {
     }
 }
 
-impl<C: Drop, R: Wait + Clock + Drop, A: Allocator + Copy> Ticking<C, R, A> {
+impl<C: FileIdCache<A> + Drop, R: Wait + Clock + Drop, A: Allocator + Copy> Ticking<C, R, A> {
     /// Reads the clock.
     pub fn now(&mut self, alloc: A) -> Result<Moment, Error<A>>
         ensures ok { IfOk result (λ now.
