@@ -1,3 +1,4 @@
+use Rattle.std.proofs.Common.{refl}
 use Rattle.calls_by_hand.proofs.ToldCalls.{not_uncalled}
 use Rattle.calls_by_hand.proofs.told.finish_told.Goals as goal
 
@@ -10,5 +11,7 @@ returns g c =
         ended.goes_on,
         ended.leads,
         λ none. not_uncalled _ _ uncalled called (ended.told none),
+        ended.aged,
+        ended.unnumbered (λ cache path. refl),
       );
     }
