@@ -37,6 +37,10 @@ ItemMakes item h = ((now : ℕ) × (exists : Bool) × IsFedBy item now exists h)
 abbrev pub GainsItem : History → Result EventValue ErrorValue → History → Type 0
 GainsItem before item after = (h : HappenedValue) × ItemMakes item h × GainsOne before h after
 
+-- .. in the same history: what a feed does that is called with an item
+abbrev pub FeedsItem : Known → Result EventValue ErrorValue → Known → Type 0
+FeedsItem old item new = (new.lock ≡ old.lock) × GainsItem old.seen item new.seen
+
 -- what happens by a command: it is accepted, or it is refused and nothing happens
 abbrev pub CommandMakes : CommandValue → ReplyValue → Result (Unit {0}) ErrorValue → History → Type 0
 CommandMakes command reply (Ok _) hs = hs ≡ accepted command reply ∷ []

@@ -2,7 +2,7 @@
 ghost use Rattle.std.specs.Prelude.{◌≡◌, ℕ, Bool, [], true, IfErr, IfOk, OnErr, OnOk};
 ghost use Rattle.notify_paths.specs.Errors.{out_of_memory};
 ghost use Rattle.told_lock.specs.History.{Begins, picked};
-ghost use Rattle.debounce_access.specs.Adds.{GainsFed, GainsItem};
+ghost use Rattle.debounce_access.specs.Adds.{FeedsItem, GainsFed};
 ghost use Rattle.debounce_access.specs.Happened.{is_fed};
 ghost use Rattle.debounce_access.specs.Stands.{Lasts, StaysButFeeds, feeds_of, seen_by};
 
@@ -101,14 +101,13 @@ impl<
 > EventHandler<Result<Event<A>, Error<A>>> for Feed<C, R, A> {
     ghost ready = { λ _. Unit {0} };
 
-    ghost handles = { λ old item new. (new.lock ≡ old.lock) × GainsItem old.seen item new.seen };
+    ghost handles = { FeedsItem };
 
     /// Feeds an event or an error to the book, once. One that is refused is counted as missed, under the lock for
     /// `finish`, and beside it for `Debouncer::missed`.
     fn handle_event(&mut self, event: Result<Event<A>, Error<A>>)
         ensures again { Unit {0} }
-        ensures handled { (self.new.lock ≡ self.old.lock)
-            × GainsItem self.old.seen event self.new.seen }
+        ensures handled { FeedsItem self.old event self.new }
     {
         if self.feed(event).is_err() {
             self.gate.miss();
