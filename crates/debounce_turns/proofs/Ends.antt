@@ -1,14 +1,46 @@
 -- What is known once the worker has ended.
-use Rattle.std.proofs.Common.{◌≡◌, ℕ, List, Result, Ok, Err, IfOk, refl, subst}
+use Rattle.std.proofs.Common.{◌≡◌, ℕ, List, [], ◌∷◌, Option, Some, None, Result, Ok, Err, IfOk, refl, subst, ap, ◌∙◌}
 use Rattle.std.specs.declared.vec.Vec.{Vec}
 use Rattle.notify_paths.specs.Errors.{ErrorValue}
+use Rattle.notify_watch.specs.declared.config.Config.{Config}
+use Rattle.notify_watch.specs.Handler.{IsCalledOn, IsCalledWith}
 use Rattle.debounce_book.specs.Book.{Kept}
 use Rattle.debounce_book.specs.Journal.{EntryValue}
 use Rattle.debounce_book.proofs.JournalRuns.{journal_gives_raw_paths, journal_invents_no_rename, journal_loses_no_change}
 use Rattle.told_lock.specs.History.{picked}
 use Rattle.debounce_access.specs.Happened.{History, entries_of, is_emitting}
-use Rattle.debounce_access.specs.Stands.{HasAllFed, IsTold, ToldJournal}
-use Rattle.debounce_turns.specs.Ended.{EndsJournal, IsEnded, IsEndedFed}
+use Rattle.debounce_access.specs.Stands.{HasAllFed, IsTold, Known, ToldJournal}
+use Rattle.debounce_turns.specs.Ended.{EndsJournal, FeedComesBack, IsEnded, IsEndedFed, IsFinished}
+
+-- a feed stays of its lock, however often it is called
+pub stays_of : {X : Type 0} (handles : Known → X → Known → Type 0)
+    → ((old : Known) (item : X) (new : Known) → handles old item new → new.lock ≡ old.lock)
+    → (begun now : Known) → IsCalledOn handles begun now → now.lock ≡ begun.lock
+stays_of {X} handles stays begun now (items, called) = by items begun called
+  where
+    by : (xs : List X) (k : Known) → IsCalledWith handles xs k now → now.lock ≡ k.lock
+    by [] k same = ap (λ (n : Known). n.lock) same
+    by (x ∷ xs) k (between, one, rest) = by xs between rest ∙ stays k x between one
+
+-- the feed with which the watcher was made
+same_made : (a b : Known × Config) → Some a ≡ Some b → a ≡ b
+same_made a b same = cc
+
+pub comes_back : {Last : Type 0} (ends : Known → Config → Known → Last → Type 0) (begun : Known) (config : Config)
+    (now : Known) (found : Last) (log : History) → ends begun config now found → HasAllFed now.seen log
+    → FeedComesBack ends (Some (begun, config)) (Some found) log
+comes_back ends begun config now found log ended all_fed = λ b c same. (
+  now,
+  found,
+  refl,
+  subst (λ (m : Known × Config). ends m.0 m.1 now found) (same_made (begun, config) (b, c) same) ended,
+  all_fed,
+)
+
+-- a debouncer that is fed by hand has none
+pub none_comes_back : {Last : Type 0} (ends : Known → Config → Known → Last → Type 0) (last : Option Last)
+    (log : History) → FeedComesBack ends None last log
+none_comes_back ends last log = λ b c same. absurd (cc)
 
 module _ {L : Type 0} (tells : L → History → Type 0) (left : L) where
   -- what is left tells all that was emitted

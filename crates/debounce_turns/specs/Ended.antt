@@ -1,13 +1,14 @@
 -- What is known at a debouncer's end.
-use Rattle.std.specs.Prelude.{◌≡◌, ℕ, List}
+use Rattle.std.specs.Prelude.{◌≡◌, ℕ, List, Option, Some}
 use Rattle.notify_types.specs.Event.{Timed}
 use Rattle.debounce_model.specs.Tick.{IsOutlook}
 use Rattle.debounce_book.specs.Book.{Kept}
 use Rattle.debounce_book.specs.Journal.{EntryValue}
 use Rattle.debounce_book.specs.JournalLaws.{EndsInRawPaths, InventsNoRename, LosesNoChange}
+use Rattle.notify_watch.specs.declared.config.Config.{Config}
 use Rattle.told_lock.specs.History.{Begins, picked}
 use Rattle.debounce_access.specs.Happened.{History, entries_of, is_emitting, is_journaled, journal_of}
-use Rattle.debounce_access.specs.Stands.{BeginsAs, HasAllFed, LeadsTo}
+use Rattle.debounce_access.specs.Stands.{BeginsAs, HasAllFed, Known, LeadsTo}
 
 -- one history goes on from what was seen and leads to the book and to the count, and what is left of the handler tells
 -- what was emitted in it. Who played every batch, and then what waits, has the raw paths; without renames no change
@@ -28,6 +29,27 @@ pub record IsEndedFed {C L : Type 0} (tells : L → History → Type 0) (left : 
     (parts : List EntryValue) (book : Kept C) (count : ℕ) : Type 0 where
   pub ended : IsEnded tells left seen parts book count
   pub all_fed : HasAllFed fed ended.log
+
+-- work that ends so leaves a feed of its lock
+abbrev pub StaysOfLock : {Last : Type 0} → (Known → Config → Known → Last → Type 0) → Type 0
+StaysOfLock {Last} ends =
+    (begun : Known) (config : Config) (now : Known) (last : Last) → ends begun config now last
+    → now.lock ≡ begun.lock
+
+-- the feed with which the watcher was made has come back: its work has ended so, with what was found last, and nothing was
+-- fed or missed in this history but what the feed has seen
+abbrev pub FeedComesBack : {Last : Type 0} → (Known → Config → Known → Last → Type 0) → Option (Known × Config)
+    → Option Last → History → Type 0
+FeedComesBack {Last} ends made last log =
+    (begun : Known) (config : Config) → made ≡ Some (begun, config)
+    → (now : Known) × (found : Last) × (last ≡ Some found) × ends begun config now found × HasAllFed now.seen log
+
+-- .. of a debouncer that was made so, unless it is fed by hand: what its watcher found last is told of the same history
+pub record IsFinished {C L Last : Type 0} (ends : Known → Config → Known → Last → Type 0)
+    (made : Option (Known × Config)) (last : Option Last) (tells : L → History → Type 0) (left : L) (seen : History)
+    (parts : List EntryValue) (book : Kept C) (count : ℕ) : Type 0 where
+  pub ended : IsEnded tells left seen parts book count
+  pub fed : FeedComesBack ends made last ended.log
 
 -- these are the timeout and the journal of one history that goes on from what was seen, and what is left of the handler
 -- tells what was emitted in it

@@ -1,6 +1,6 @@
 use Rattle.std.proofs.Common.{ap, refl}
 use Rattle.debounce_access.specs.Happened.{entries_of, is_nil}
-use Rattle.debounce_shell.proofs.debouncer.Debouncer.watch_listed.Goals as goal
+use Rattle.debounce_shell.proofs.debouncer.Debouncer+T+C+R+A+L.watch_listed.Goals as goal
 
 pub returns-clause-seen : goal.returns-clause-seen
 returns-clause-seen g c =

@@ -1,5 +1,5 @@
 use Rattle.debounce_turns.proofs.Ends.{ends}
-use Rattle.debounce_shell.proofs.debouncer.Debouncer.finish_left.Goals as goal
+use Rattle.debounce_shell.proofs.debouncer.Debouncer+T+C+R+A+L.finish_left.Goals as goal
 
 pub returns-clause-ended : goal.returns-clause-ended
 returns-clause-ended g c = rw (← c.self.view_is)

@@ -1,7 +1,7 @@
 use Rattle.debounce_access.specs.Stands.{seen_by}
 use Rattle.debounce_access.proofs.Steps.{nil_is}
 use Rattle.debounce_turns.proofs.Ends.{ends_journal}
-use Rattle.debounce_shell.proofs.debouncer.Debouncer.stop_journal.Goals as goal
+use Rattle.debounce_shell.proofs.debouncer.Running.stop_journal.Goals as goal
 
 pub returns-clause-ended : goal.returns-clause-ended
 returns-clause-ended g c = rw (← c.self.view_is) (λ whole.
