@@ -12,7 +12,7 @@ use Rattle.notify_watch.specs.declared.config.Config.{Config}
 use Rattle.told_lock.specs.History.{Begins, picked}
 use Rattle.told_lock.proofs.Moves.{begins_self}
 use Rattle.debounce_access.specs.Happened.{History, Opened, is_fed}
-use Rattle.debounce_turns.specs.Running.{IsMadeWith, Running}
+use Rattle.debounce_turns.specs.Running.{IsMadeWith, Shown}
 use Rattle.notify_poll.specs.declared.watcher.LastFound.{LastFound}
 use Rattle.file_id_cache.specs.declared.cache.NoCache.{NoCache}
 use Rattle.notify_debouncer_full.specs.Emitted.{EndsReports}
@@ -37,7 +37,7 @@ opened_one pace path mode before after s is began adds seen given = record {
 }
 
 -- a watcher that was made with what is known of a history that has just begun
-pub began_with : {T L : Type 0} (timeout : ℕ) (initial : Bool) (config : Config) (started : Running T L) →
+pub began_with : {T L : Type 0} (timeout : ℕ) (initial : Bool) (config : Config) (started : Shown T L) →
     started.seen ≡ Opened timeout false ∷ [] → IsMadeWith config started → config.initial_events ≡ initial →
     BeganWith initial started.made
 began_with timeout initial config started opened made initial_is = (

@@ -9,7 +9,7 @@ use Rattle.told_lock.specs.History.{Begins, picked}
 use Rattle.debounce_access.specs.Adds.{Adds}
 use Rattle.debounce_access.specs.Happened.{History, Opened, accepted, is_fed}
 use Rattle.debounce_access.specs.Stands.{Known}
-use Rattle.debounce_turns.specs.Running.{Running}
+use Rattle.debounce_turns.specs.Running.{Shown}
 use Rattle.watch_pace.specs.declared.pace.Pace.{Pace}
 use Rattle.watch_program.specs.declared.fault.Fault.{Fault}
 use Rattle.watch_program.specs.declared.fault.Fault.TheVariants.{CannotWatch, Memory, NoHints, NoThread, NotThere, NotWatched}
@@ -38,7 +38,7 @@ pub record Followed : Type 0 where
   pub awaited : Awaited
 
 -- what is shown of this debouncer and of this wait
-abbrev pub followed : {T L : Type 0} → Running T L → Awaited → Followed
+abbrev pub followed : {T L : Type 0} → Shown T L → Awaited → Followed
 followed debouncer awaited = record { made = debouncer.made; seen = debouncer.seen; awaited = awaited }
 
 -- the watcher was made with a feed by which nothing had been fed, and with initial events or without

@@ -10,7 +10,7 @@ use Rattle.report_loop.specs.Loop.{Answer, DoesAll, Follows, Gives, Program, Ste
 use Rattle.report_loop.proofs.SourceLemmas.{all_said}
 use Rattle.notify_paths.specs.Path.{PathValue}
 use Rattle.notify_types.specs.declared.event.RecursiveMode.{RecursiveMode}
-use Rattle.debounce_turns.specs.Running.{Running}
+use Rattle.debounce_turns.specs.Running.{Shown}
 use Rattle.folder_reports.specs.Start.{Followed, followed}
 use Rattle.folder_reports.specs.Waits.{Awaited, GivesOne}
 use Rattle.watch_loop.specs.FollowsFolder.{FollowsFolder, OfReports, folder_source}
@@ -22,7 +22,7 @@ Says gives = (s s' : Awaited) (pause : Option Duration) (given : Given) → give
 
 -- the program began, and was called until it answered a fault
 pub failed_on : {P T L : Type 0} (gives : Gives Awaited) (program : Program P) → Says gives → (whole : Followed) →
-    (debouncer : Running T L) (s s' : Awaited) → followed debouncer s ≡ whole → (p p1 p' : P) (fault : Fault) →
+    (debouncer : Shown T L) (s s' : Awaited) → followed debouncer s ≡ whole → (p p1 p' : P) (fault : Fault) →
     (answer : Result ℕ Fault) → program.begins p (Ok tt) p1 →
     ((steps : List Step) × DoesAll gives program steps s p1 (Err fault) s' p') → answer ≡ Err fault →
     Follows folder_source program whole p answer p'
@@ -44,7 +44,7 @@ failed_on gives program says whole debouncer s s' same p p1 p' fault answer begu
 
 -- the program began, was called until the life was over, and took what was left
 pub went_on : {P T L : Type 0} (gives : Gives Awaited) (program : Program P) → Says gives → (whole : Followed) →
-    (debouncer : Running T L) (s s' : Awaited) → followed debouncer s ≡ whole → (p p1 p2 p' : P) (rest : Result Rest Fault) →
+    (debouncer : Shown T L) (s s' : Awaited) → followed debouncer s ≡ whole → (p p1 p2 p' : P) (rest : Result Rest Fault) →
     (answer : Result ℕ Fault) → program.begins p (Ok tt) p1 →
     ((steps : List Step) × DoesAll gives program steps s p1 (Ok tt) s' p2) →
     folder_source.ends (followed debouncer s') rest → TakesRest program rest p2 answer p' →
