@@ -123,7 +123,7 @@ impl<R: DebouncerRuntime + AllocGlobal> Live<R> {
         if !until_eof {
             return Ok(());
         }
-        start_skipping(self.rt, self.rt.alloc(), self.input.share()?)
+        start_skipping(self.rt, self.input.share()?)
     }
 
     /// Returns the debouncer, and the wait for its reports.

@@ -3,7 +3,7 @@ use Rattle.calls_by_hand.proofs.told.finish_told.Goals as goal
 
 pub returns : goal.returns
 returns g c =
-    let ended = c.finish_left-book.ensures.ended in
+    let ended = c.finish_left-book.ensures.ended.ended in
     record {
       called = λ uncalled called. (
         ended.log,
