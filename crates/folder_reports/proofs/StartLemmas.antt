@@ -1,5 +1,6 @@
 -- A folder's reports, as they begin and as they end.
-use Rattle.std.proofs.Common.{◌≡◌, ℕ, false, List, [], ◌∷◌, Result, Ok, Err, subst, sym}
+use Rattle.std.proofs.Common.{◌≡◌, ℕ, Bool, false, List, [], ◌∷◌, Option, Result, Ok, Err, ap, subst, sym}
+use Rattle.std.specs.Duration.{as_nanos}
 use Rattle.std.specs.Prelude.{IfOk}
 use Rattle.std.specs.declared.alloc.Global.{Global}
 use Rattle.notify_paths.specs.Path.{PathValue}
@@ -7,21 +8,26 @@ use Rattle.notify_types.specs.declared.event.RecursiveMode.{RecursiveMode}
 use Rattle.notify_watch.specs.Handler.{Outcome}
 use Rattle.debounce_book.specs.Book.{Kept}
 use Rattle.debounce_book.specs.Journal.{EntryValue}
-use Rattle.told_lock.specs.History.{Begins}
+use Rattle.notify_watch.specs.declared.config.Config.{Config}
+use Rattle.told_lock.specs.History.{Begins, picked}
 use Rattle.told_lock.proofs.Moves.{begins_self}
-use Rattle.debounce_access.specs.Happened.{History, Opened}
+use Rattle.debounce_access.specs.Happened.{History, Opened, is_fed}
+use Rattle.debounce_turns.specs.Running.{IsMadeWith, Shown}
+use Rattle.notify_poll.specs.declared.watcher.LastFound.{LastFound}
 use Rattle.file_id_cache.specs.declared.cache.NoCache.{NoCache}
 use Rattle.notify_debouncer_full.specs.Emitted.{EndsReports}
 use Rattle.report_loop.specs.declared.source.Rest.{Rest}
+use Rattle.watch_pace.specs.declared.pace.Pace.{Pace}
 use Rattle.watch_program.specs.declared.fault.Fault.{Fault}
-use Rattle.folder_reports.specs.Rest.{IsLeft, IsRestOf}
-use Rattle.folder_reports.specs.Start.{AddsRoot, Followed, IsOpened}
+use Rattle.folder_reports.specs.Rest.{IsLeft, IsRestOf, ends_polling}
+use Rattle.folder_reports.specs.Start.{AddsRoot, BeganWith, Followed, IsOpened}
 
 -- with one root
-pub opened_one : (timeout : ℕ) (path : PathValue) (mode : RecursiveMode) (before after : History) (s : Followed) →
-    before ≡ Opened timeout false ∷ [] → AddsRoot before path mode after → s.seen ≡ after →
-    s.awaited.queue.given ≡ [] → IsOpened timeout (path ∷ []) mode s
-opened_one timeout path mode before after s is adds seen given = record {
+pub opened_one : (pace : Pace) (path : PathValue) (mode : RecursiveMode) (before after : History) (s : Followed) →
+    before ≡ Opened (as_nanos pace.timeout) false ∷ [] → BeganWith pace.initial s.made →
+    AddsRoot before path mode after → s.seen ≡ after → s.awaited.queue.given ≡ [] → IsOpened pace (path ∷ []) mode s
+opened_one pace path mode before after s is began adds seen given = record {
+  began = began;
   roots = (
     after,
     subst (λ h. AddsRoot h path mode after) is adds,
@@ -30,17 +36,31 @@ opened_one timeout path mode before after s is adds seen given = record {
   given = given;
 }
 
+-- a watcher that was made with what is known of a history that has just begun
+pub began_with : {T L : Type 0} (timeout : ℕ) (initial : Bool) (config : Config) (started : Shown T L) →
+    started.seen ≡ Opened timeout false ∷ [] → IsMadeWith config started → config.initial_events ≡ initial →
+    BeganWith initial started.made
+began_with timeout initial config started opened made initial_is = (
+  record { lock = started.lock; seen = started.seen },
+  config,
+  made,
+  ap (λ seen. picked is_fed seen) opened,
+  initial_is,
+)
+
 -- what is left, if the rest could be had
-pub left_if : (seen : History) (given queue : List (Outcome Global)) (parts : List EntryValue) (book : Kept NoCache) →
-    (missed unsent : ℕ) → EndsReports seen parts given queue unsent book missed → (rest : Result Rest Fault) →
-    IfOk rest (IsRestOf book queue missed unsent) → IfOk rest (IsLeft seen given)
-left_if seen given queue parts book missed unsent ended (Ok rest) is = record {
+pub left_if : (s : Followed) (queue : List (Outcome Global)) (parts : List EntryValue) (book : Kept NoCache) →
+    (missed unsent : ℕ) (last : Option (LastFound Global)) →
+    EndsReports ends_polling s.made last s.seen parts s.awaited.queue.given queue unsent book missed →
+    (rest : Result Rest Fault) → IfOk rest (IsRestOf book queue missed unsent) → IfOk rest (IsLeft s)
+left_if s queue parts book missed unsent last ended (Ok rest) is = record {
   book = book;
   parts = parts;
   queue = queue;
   missed = missed;
   unsent = unsent;
+  last = last;
   ended = ended;
   rest_is = is;
 }
-left_if seen given queue parts book missed unsent ended (Err fault) is = tt
+left_if s queue parts book missed unsent last ended (Err fault) is = tt

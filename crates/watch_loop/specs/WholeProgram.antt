@@ -1,9 +1,11 @@
 -- A whole program that takes batches, from its words to its exit status.
-use Rattle.std.specs.Prelude.{◌≡◌, ◌⊎◌, ◌*◌, ◌^◌, None, ℕ, List, [], ◌∷◌, codes, unwrap_or, Result, Ok, Err, MatchResult}
+use Rattle.std.specs.Prelude.{◌≡◌, ◌⊎◌, ◌*◌, ◌^◌, Bool, true, false, None, Some, ℕ, List, [], ◌∷◌, codes, unwrap_or, Result, Ok, Err, MatchResult}
+use Rattle.std.specs.Duration.{as_nanos}
 use Rattle.clap.specs.declared.parser.matches.ArgMatches.{ArgMatches}
 use Rattle.clap.specs.Words.{first_value, found_of, one_text}
 use Rattle.notify_paths.specs.PathText.{parts_of}
 use Rattle.notify_types.specs.declared.event.RecursiveMode.TheVariants.{Recursive}
+use Rattle.watch_pace.specs.declared.pace.Pace.{Pace}
 use Rattle.watch_pace.specs.Words.{Gives}
 use Rattle.watch_program.specs.declared.fault.Fault.{Fault}
 use Rattle.watch_program.specs.declared.fault.Fault.TheVariants.{Incomplete, Memory, NotApart, NotThere}
@@ -40,12 +42,22 @@ IsTimeout matches timeout =
     (one_text (found_of matches) (codes "timeout") ≡ None → timeout ≡ 500 * 10 ^ 6)
     × ((n : ℕ) → Gives matches (codes "timeout") n → timeout ≡ n * 10 ^ 6)
 
+-- the words say whether what is there already is reported first
+abbrev pub IsInitial : ArgMatches → Bool → Type 0
+IsInitial matches initial =
+    (one_text (found_of matches) (codes "initial") ≡ None → initial ≡ false)
+    × (one_text (found_of matches) (codes "initial") ≡ Some (codes "true") → initial ≡ true)
+
+-- the words say this pace: its timeout, and whether what is there already is reported first
+abbrev pub IsPace : ArgMatches → Pace → Type 0
+IsPace matches pace = IsTimeout matches (as_nanos pace.timeout) × IsInitial matches pace.initial
+
 -- the program followed the folder that the words name, with all below it, and then took once more what it had asked for
 -- again; or a fault ended it before
 abbrev pub RunsOver : {P : Type 0} → Begins P → Takes P → ArgMatches → Keeps P → Answer → Keeps P → Type 0
 RunsOver {P} begins takes matches before answer after =
-    (timeout : ℕ) × (missed : Result ℕ Fault) × (last : Keeps P) × IsTimeout matches timeout
-    × FollowsFolder timeout ((named_places matches).folder ∷ []) Recursive (of_batches begins takes) before missed last
+    (pace : Pace) × (missed : Result ℕ Fault) × (last : Keeps P) × IsTimeout matches (as_nanos pace.timeout)
+    × FollowsFolder pace ((named_places matches).folder ∷ []) Recursive (of_batches begins takes) before missed last
     × MatchResult missed (λ _. EndsBy takes last answer after) (λ fault. (answer ≡ Err fault) × (after ≡ last))
 
 -- how a program ends after a run: by its fault; if it went well, so too, or as one that couldn't do all, since there

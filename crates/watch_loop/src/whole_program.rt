@@ -1,6 +1,5 @@
 //! A whole program over a folder, from its words to its exit status.
 ghost use Rattle.std.specs.Prelude.{◌≡◌, ◌⊎◌, ◌++◌, ◌∷◌, [], ℕ, List, Result, codes, map, unwrap_or, IfErr, IfOk};
-ghost use Rattle.std.specs.Duration.{as_nanos};
 ghost use Rattle.std.specs.String.{string_bytes};
 ghost use Rattle.std.specs.declared.alloc.AllocError.{AllocError};
 ghost use Rattle.clap.specs.declared.builder.command.Command.{Command};
@@ -254,7 +253,7 @@ fn follow<R: DebouncerRuntime + AllocGlobal + Eprint, P: TakesBatches, E: Write 
     closed: &ClosedPaths,
     taker: &mut BatchTaker<'_, P, E>,
 ) -> Result<u64, Fault>
-    ensures { FollowsFolder (as_nanos pace.entry.timeout) (folder.now ∷ []) Recursive
+    ensures { FollowsFolder pace.entry (folder.now ∷ []) Recursive
         (of_batches P.begins P.takes) taker.old result taker.new }
 {
     let complaints = Complaints::new(name, StandardError { rt }).counting(closed);

@@ -1,5 +1,4 @@
 use Rattle.std.proofs.Common.{inl, refl, rules}
-use Rattle.std.specs.Duration.{as_nanos}
 use Rattle.std.specs.Prelude.{Err, Ok}
 use Rattle.notify_types.specs.declared.event.RecursiveMode.TheVariants.{Recursive}
 use Rattle.report_loop.specs.Batches.{of_batches}
@@ -8,7 +7,7 @@ use Rattle.watch_loop.proofs.whole_program.watch.Goals as goal
 
 pub returns-in_err-folder : goal.returns-in_err-folder
 returns-in_err-folder g c = (
-  as_nanos c.pace_of.result.timeout,
+  _,
   Err c.in_err-folder.field-0.0,
   c.args.taker.now,
   (c.pace_of.ensures.timeout, c.pace_of.ensures.timeout_given),
@@ -18,7 +17,7 @@ returns-in_err-folder g c = (
 
 pub returns-in_err-missed : goal.returns-in_err-missed
 returns-in_err-missed g c = (
-  as_nanos c.pace_of.result.timeout,
+  _,
   Err c.in_err-missed.field-0.0,
   c.follow.new.taker,
   (c.pace_of.ensures.timeout, c.pace_of.ensures.timeout_given),
@@ -29,7 +28,7 @@ returns-in_err-missed g c = (
 
 pub returns : goal.returns
 returns g c = (
-  as_nanos c.pace_of.result.timeout,
+  _,
   Ok c.in_ok-missed.missed,
   c.follow.new.taker,
   (c.pace_of.ensures.timeout, c.pace_of.ensures.timeout_given),
