@@ -37,8 +37,8 @@ pub record IsEndedFed {C L : Type 0} (rules : Rules C) (tells : L → History �
   pub all_fed : HasAllFed fed ended.log
 
 -- these are the timeout and the journal of one history that goes on from what was seen, all in it was done by the
--- cache's rules, and what is left of the handler tells what was emitted in it. Each event that was emitted was as old as
--- the timeout, and a cache without numbers has given none
+-- cache's rules, and what is left of the handler tells what was emitted in it. Each event that was emitted was as old
+-- as the timeout, and a cache without numbers has given none
 pub record EndsJournal {C L : Type 0} (rules : Rules C) (tells : L → History → Type 0) (left : L) (seen : History)
     (timeout : ℕ) (journal : List EntryValue) : Type 0 where
   pub log : History
