@@ -45,7 +45,7 @@ module _ (P : Timed → Type 0) where
       by false h = (a.0, h)
 
   -- .. of a batch, where it holds of the place list
-  pub each-batch : (xs batch : List Timed) → InBatchOrder xs batch → AllByRecursion P xs → AllByRecursion P batch
+  each-batch : (xs batch : List Timed) → InBatchOrder xs batch → AllByRecursion P xs → AllByRecursion P batch
   each-batch xs batch o a =
       let there : All P xs = All-from_recursion P xs a in
       recursion_from_All P batch

@@ -21,6 +21,7 @@ use notify_types::event::RecursiveMode;
 use notify_types::time::Moment;
 use notify_watch::watcher::Watcher;
 use std::alloc::Allocator;
+use std::fs::Files;
 use std::sync::atomic::{AtomicBool, AtomicU64, Ordering};
 use std::sync::{Arc, Wait};
 use std::time::Clock;
@@ -139,7 +140,11 @@ impl<C: Drop, R: Wait + Copy + Drop, A: Allocator + Copy> Shared<C, R, A> {
     }
 }
 
-impl<C: FileIdCache<A> + Drop, R: Wait + Drop, A: Allocator + Copy> Shared<C, R, A> {
+impl<
+    C: FileIdCache<A> + Drop + Send + 'static,
+    R: Clock + Files + Wait + Drop + Send + 'static,
+    A: Allocator + Copy + Send + Sync + 'static,
+> Shared<C, R, A> {
     /// Asks a watcher to watch a path, and makes the path a root once it has agreed.
     pub fn watch<T: Watcher<Feed<C, R, A>, R, A>>(
         &mut self,

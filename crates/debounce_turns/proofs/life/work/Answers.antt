@@ -1,5 +1,7 @@
-use Rattle.std.proofs.Common.{◌∙◌}
+use Rattle.std.proofs.Common.{◌∙◌, refl}
+use Rattle.debounce_turns.specs.Handed.{ticks_of}
 use Rattle.debounce_turns.proofs.Hands.{hands_more}
+use Rattle.debounce_turns.proofs.Ticks.{none_among, ticks_among}
 use Rattle.debounce_turns.proofs.life.work.Goals as goal
 
 pub loop-preserved-then-is_err : goal.loop-preserved-then-is_err
@@ -9,6 +11,7 @@ loop-preserved-then-is_err g c =
       went.handed.0 ∙ c.loop.invariant.1,
       hands_more g.H.DebounceEventHandler.handles c.args.handler
           c.loop.handler c.turn_now.new.handler c.loop.gate c.turn_now.new.gate c.loop.invariant.2 went.handed,
+      ticks_among _ _ c.loop.invariant.3 went.moment,
     )
 
 pub loop-preserved : goal.loop-preserved
@@ -18,4 +21,5 @@ loop-preserved g c =
       went.handed.0 ∙ c.loop.invariant.1,
       hands_more g.H.DebounceEventHandler.handles c.args.handler
           c.loop.handler c.turn_now.new.handler c.loop.gate c.turn_now.new.gate c.loop.invariant.2 went.handed,
+      ticks_among _ _ c.loop.invariant.3 went.moment,
     )
