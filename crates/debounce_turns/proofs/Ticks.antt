@@ -15,9 +15,13 @@ use Rattle.debounce_turns.specs.Turn.{Turns}
 use Rattle.debounce_turns.proofs.Hands.{turn_hands}
 
 -- none is among all
-pub none_among : (answers : List ℕ) → AreAmong [] answers
+none_among : (answers : List ℕ) → AreAmong [] answers
 none_among [] = refl
 none_among (a ∷ answers) = inl (none_among answers)
+
+pub first_among : (known : Known) → picked is_emitting known.seen ≡ [] → AreAmong (ticks_by known) known.moments
+first_among known none =
+    subst (λ hs. AreAmong (ticks_of hs) known.moments) (sym none) (none_among known.moments)
 
 -- .. also with one answer more
 among_more : (answers moments : List ℕ) (now : ℕ) → AreAmong moments answers → AreAmong moments (answers ++ now ∷ [])
