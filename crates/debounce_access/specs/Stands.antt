@@ -65,8 +65,8 @@ tells_of pass = (view pass).tells
 abbrev pub feeds_of : {T E : Type 0} → Pass T E → Bool
 feeds_of pass = (view pass).feeds
 
--- what a feed, a receipt or the worker shows: of which lock it is, the history as far as it has seen it, and the moments
--- that its clock has answered, in order
+-- what a feed, a receipt or the worker shows: of which lock it is, the history as far as it has seen it, and the
+-- moments that its clock has answered, in order
 pub record Known : Type 0 where
   pub lock : TableId
   pub seen : History

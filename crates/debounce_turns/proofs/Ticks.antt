@@ -77,8 +77,11 @@ module _ {A : Type 0} where
       let all : ticks_by new ≡ ticks_by old ++ ticks_of hs = ap ticks_of is
       ∙ ticks_append (picked is_emitting old.seen) hs in
       ⊎_elim (λ (one : ticks_of hs ≡ now ∷ []). inl (now, reads, all ∙ ap (λ l. ticks_by old ++ l) one))
-      (λ (none : ticks_of hs ≡ []). inr (inr (now, reads), all ∙ ap (λ l. ticks_by old ++ l) none
-      ∙ append-nil (ticks_by old))) (ticked now res errors hs makes)
+      (λ (none : ticks_of hs ≡ []). inr (
+        inr (now, reads),
+        all ∙ ap (λ l. ticks_by old ++ l) none
+            ∙ append-nil (ticks_by old),
+      )) (ticked now res errors hs makes)
 
 module _ {H A : Type 0} (handles : H → Outcome A → H → Type 0) where
   -- a turn once the clock was read
