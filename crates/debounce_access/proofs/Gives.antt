@@ -38,14 +38,14 @@ pub tells_quiet : (v : Hand HappenedValue) (hs : History) → v.tells ≡ true �
 tells_quiet v hs tells none Emits = inl tells
 tells_quiet v hs tells none Feeds = inr none
 
-module _ {C A : Type 0} {r : Rules C} where
-  abbrev StandsIn : Locked C A → History → History → Type 0
-  StandsIn l out log = Stands r l.book.value l.missed out log
+abbrev StandsIn : {C A : Type 0} → Rules C → Locked C A → History → History → Type 0
+StandsIn r l out log = Stands r l.book.value l.missed out log
 
+module _ {C A : Type 0} {r : Rules C} where
   -- with what happened by what was done
   pub may_go : (v : Hand HappenedValue) (l : Locked C A) (hs : History) → v.holds ≡ true → Makes l.made.value hs
       → Stands r l.book.value l.missed v.taken (v.seen ++ hs) → IsQuiet v hs
-      → MayGive StandsIn told_as (λ before out l after now. Does l.made.value before out after now) v l
+      → MayGive (StandsIn r) told_as (λ before out l after now. Does l.made.value before out after now) v l
   may_go v l hs holds makes stands quiet = record {
     log = v.seen ++ hs;
     taken = v.taken;
@@ -60,8 +60,8 @@ module _ {C A : Type 0} {r : Rules C} where
   }
 
   -- as it was
-  pub may_stay : (v : Hand HappenedValue) (l : Locked C A) → v.holds ≡ true → StandsIn l v.taken v.seen
-      → MayGive StandsIn told_as (λ before taken x after now. (after ≡ before) × (now ≡ taken)) v l
+  pub may_stay : (v : Hand HappenedValue) (l : Locked C A) → v.holds ≡ true → StandsIn r l v.taken v.seen
+      → MayGive (StandsIn r) told_as (λ before taken x after now. (after ≡ before) × (now ≡ taken)) v l
   may_stay v l holds stands = record {
     log = v.seen;
     taken = v.taken;
@@ -75,16 +75,16 @@ module _ {C A : Type 0} {r : Rules C} where
 
   -- .. also after it was compared with another
   pub may_stay_beside : (v other w : Hand HappenedValue) (l : Locked C A) → w ≡ beside v other → v.holds ≡ true
-      → StandsIn l v.taken v.seen → MayGive StandsIn told_as (λ before taken x after now. (after ≡ before)
+      → StandsIn r l v.taken v.seen → MayGive (StandsIn r) told_as (λ before taken x after now. (after ≡ before)
       × (now ≡ taken)) w l
   may_stay_beside v other w l same holds stands =
-      subst (λ (x : Hand HappenedValue). MayGive StandsIn told_as (λ before taken x after now. (after ≡ before)
+      subst (λ (x : Hand HappenedValue). MayGive (StandsIn r) told_as (λ before taken x after now. (after ≡ before)
       × (now ≡ taken)) x l) (sym same) (may_stay (beside v other) l holds stands)
 
   -- with all entries taken out
   pub may_take : (v : Hand HappenedValue) (l : Locked C A) (old : Kept C) → v.holds ≡ true → v.keeps ≡ true
       → Stands r old l.missed v.taken v.seen → l.book.value ≡ parted old
-      → MayGive StandsIn told_as (λ before out l after now. TakesAll l.book.value before out after now) v l
+      → MayGive (StandsIn r) told_as (λ before out l after now. TakesAll l.book.value before out after now) v l
   may_take v l old holds keeps stands same = record {
     log = v.seen;
     taken = all_out (kept_entries l.book.value) v.taken v.seen;
@@ -99,7 +99,7 @@ module _ {C A : Type 0} {r : Rules C} where
 
   pub goes_on_by : (change : History → History → Locked C A → History → History → Type 0) (a b : TableId)
       (u v w : Hand HappenedValue) (x y : Locked C A) → b ≡ a
-      → Took StandsIn told_as u x v → Gave StandsIn change v y w → GoesOn (reach_of a u) (reach_of b w)
+      → Took (StandsIn r) told_as u x v → Gave (StandsIn r) change v y w → GoesOn (reach_of a u) (reach_of b w)
   goes_on_by change a b u v w x y same took gave = record {
     lock = same;
     keeps = gave.keeps ∙ took.keeps;
@@ -110,7 +110,7 @@ module _ {C A : Type 0} {r : Rules C} where
 
   pub lasts_by : (change : History → History → Locked C A → History → History → Type 0) (a b : TableId)
       (u v w : Hand HappenedValue) (x y : Locked C A) → b ≡ a
-      → Took StandsIn told_as u x v → Gave StandsIn change v y w → w.taken ≡ v.taken
+      → Took (StandsIn r) told_as u x v → Gave (StandsIn r) change v y w → w.taken ≡ v.taken
       → Lasts (reach_of a u) (reach_of b w)
   lasts_by change a b u v w x y same took gave taken = (
     goes_on_by change a b u v w x y same took gave,
@@ -120,8 +120,8 @@ module _ {C A : Type 0} {r : Rules C} where
 
   -- .. also if it was compared with another meanwhile
   pub lasts_beside : (a b : TableId) (u v other m w : Hand HappenedValue) (x : Locked C A) → b ≡ a → m ≡ beside v other
-      → Took StandsIn told_as u x v
-      → Gave StandsIn (λ before taken y after now. (after ≡ before) × (now ≡ taken)) m x w
+      → Took (StandsIn r) told_as u x v
+      → Gave (StandsIn r) (λ before taken y after now. (after ≡ before) × (now ≡ taken)) m x w
       → Lasts (reach_of a u) (reach_of b w)
   lasts_beside a b u v other m w x same is took gave = (
     record {
@@ -137,7 +137,7 @@ module _ {C A : Type 0} {r : Rules C} where
 
   -- the way that alone takes entries out knows at which history they were
   pub told_by : (u v : Hand HappenedValue) (x : Locked C A) (seen : History) → u.keeps ≡ true
-      → Took StandsIn told_as u x v → Begins seen v.seen → picked is_emitting seen ≡ picked is_emitting v.seen
+      → Took (StandsIn r) told_as u x v → Begins seen v.seen → picked is_emitting seen ≡ picked is_emitting v.seen
       → IsTold r u.seen seen (entries_of u.taken) x.book.value x.missed
   told_by u v x seen keeps took begins told = (
     v.seen,
@@ -151,7 +151,7 @@ module _ {C A : Type 0} {r : Rules C} where
 
   -- .. and the feed knows all that was fed
   pub told_fed : (u v : Hand HappenedValue) (x : Locked C A) (seen fed : History) → u.keeps ≡ true
-      → Took StandsIn told_as u x v → Begins seen v.seen → picked is_emitting seen ≡ picked is_emitting v.seen
+      → Took (StandsIn r) told_as u x v → Begins seen v.seen → picked is_emitting seen ≡ picked is_emitting v.seen
       → Begins fed v.seen → picked is_fed fed ≡ picked is_fed v.seen
       → (all : IsTold r u.seen seen (entries_of u.taken) x.book.value x.missed) × HasAllFed fed all.0
   unfolding told_by

@@ -1,9 +1,7 @@
 -- A run by the cache's rules goes on, and of a cache without numbers its entries have none.
 use Rattle.std.proofs.Common.{◌≡◌, ◌∙◌, ℕ, List, [], ◌∷◌, ◌++◌, Option, Some, None, refl, sym, ap, subst, append_assoc, append-nil}
-use Rattle.std.specs.List.{AllByRecursion}
 use Rattle.notify_paths.specs.Path.{PathValue}
 use Rattle.notify_types.specs.Event.{EventValue, first_of}
-use Rattle.notify_types.specs.declared.event.RecursiveMode.{RecursiveMode}
 use Rattle.debounce_model.specs.declared.case.Case.{Case}
 use Rattle.debounce_model.specs.declared.case.Case.TheVariants.{Rescan, Creation, Removal, RenameFrom, RenameTo, Plain, Ignored}
 use Rattle.debounce_model.specs.declared.file_id.FileId.{FileId}

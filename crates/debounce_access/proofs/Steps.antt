@@ -173,7 +173,8 @@ module _ {C : Type 0} where
       missed = led.missed;
     },
     subst (λ (l : Entries). RanTo r l new.core) (append-nil (entries_of log))
-        (ran_next r old.core new.core (entries_of log) c (RefusedReply error) (ap (λ (x : State). x.timeout) s) ran step),
+        (ran_next r old.core new.core (entries_of log) c (RefusedReply error) (ap (λ (x : State). x.timeout) s) ran
+        step),
     λ none. p ∙ whole none,
   )
 

@@ -28,8 +28,8 @@ pub record LeadsTo {C : Type 0} (book : Kept C) (count : ℕ) (parts : List Entr
   pub legal : IsLegal (entries_of log) book.core.state
   pub missed : count ≡ min (missed_in log) (2 ^ 64 - 1)
 
--- .. where the entries of this beginning of it were taken out, and all was done by the cache's rules. A journal of which
--- nothing was taken out is whole
+-- .. where the entries of this beginning of it were taken out, and all was done by the cache's rules. A journal of
+-- which nothing was taken out is whole
 abbrev pub Stands : {C : Type 0} → Rules C → Kept C → ℕ → History → History → Type 0
 Stands rules book count out log =
     LeadsTo book count (entries_of out) log × RanTo rules (entries_of log) book.core × (out ≡ [] → book.part ≡ None)
@@ -75,8 +75,8 @@ tells_of pass = (view pass).tells
 abbrev pub feeds_of : {T E : Type 0} → Pass T E → Bool
 feeds_of pass = (view pass).feeds
 
--- what a feed, a receipt or the worker shows: of which lock it is, the history as far as it has seen it, and the moments
--- that its clock has answered, in order
+-- what a feed, a receipt or the worker shows: of which lock it is, the history as far as it has seen it, and the
+-- moments that its clock has answered, in order
 pub record Known : Type 0 where
   pub lock : TableId
   pub seen : History

@@ -66,7 +66,8 @@ module _ {L : Type 0} (tells : L → History → Type 0) (left : L) where
   }
 
   -- .. and the feed has seen all that was fed
-  pub ends_fed : {C : Type 0} {r : Rules C} (seen told fed : History) (parts : List EntryValue) (book : Kept C) (count : ℕ)
+  pub ends_fed : {C : Type 0} {r : Rules C} (seen told fed : History) (parts : List EntryValue) (book : Kept C)
+      (count : ℕ)
       → ((all : IsTold r seen told parts book count) × HasAllFed fed all.0) → tells left (picked is_emitting told)
       → IsEndedFed r tells left seen fed parts book count
   unfolding ends

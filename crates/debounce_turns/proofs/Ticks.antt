@@ -6,7 +6,7 @@ use Rattle.notify_types.specs.Event.{Timed}
 use Rattle.notify_watch.specs.Handler.{Outcome}
 use Rattle.debounce_model.specs.Command.{ErrorsCommand, ErrorsReply}
 use Rattle.told_lock.specs.History.{picked}
-use Rattle.debounce_access.specs.Adds.{BatchMakes, ErrorsMake, MayRead, Reads, TickMakes, TicksOn}
+use Rattle.debounce_access.specs.Adds.{BatchMakes, ErrorsMake, Reads, TickMakes, TicksOn}
 use Rattle.debounce_access.specs.Happened.{History, accepted, is_emitting}
 use Rattle.debounce_access.specs.Stands.{Known}
 use Rattle.debounce_turns.specs.Clock.{AreAmong}
@@ -15,9 +15,13 @@ use Rattle.debounce_turns.specs.Turn.{Turns}
 use Rattle.debounce_turns.proofs.Hands.{turn_hands}
 
 -- none is among all
-pub none_among : (answers : List ℕ) → AreAmong [] answers
+none_among : (answers : List ℕ) → AreAmong [] answers
 none_among [] = refl
 none_among (a ∷ answers) = inl (none_among answers)
+
+pub first_among : (known : Known) → picked is_emitting known.seen ≡ [] → AreAmong (ticks_by known) known.moments
+first_among known none =
+    subst (λ hs. AreAmong (ticks_of hs) known.moments) (sym none) (none_among known.moments)
 
 -- .. also with one answer more
 among_more : (answers moments : List ℕ) (now : ℕ) → AreAmong moments answers → AreAmong moments (answers ++ now ∷ [])
@@ -73,8 +77,11 @@ module _ {A : Type 0} where
       let all : ticks_by new ≡ ticks_by old ++ ticks_of hs = ap ticks_of is
       ∙ ticks_append (picked is_emitting old.seen) hs in
       ⊎_elim (λ (one : ticks_of hs ≡ now ∷ []). inl (now, reads, all ∙ ap (λ l. ticks_by old ++ l) one))
-      (λ (none : ticks_of hs ≡ []). inr (inr (now, reads), all ∙ ap (λ l. ticks_by old ++ l) none
-      ∙ append-nil (ticks_by old))) (ticked now res errors hs makes)
+      (λ (none : ticks_of hs ≡ []). inr (
+        inr (now, reads),
+        all ∙ ap (λ l. ticks_by old ++ l) none
+            ∙ append-nil (ticks_by old),
+      )) (ticked now res errors hs makes)
 
 module _ {H A : Type 0} (handles : H → Outcome A → H → Type 0) where
   -- a turn once the clock was read

@@ -13,10 +13,10 @@ use Rattle.debounce_access.specs.Happened.{History, entries_of, is_emitting, is_
 use Rattle.debounce_access.specs.Ran.{HaveNoNumbers, NumbersNothing, RanAs, RanTo}
 use Rattle.debounce_access.specs.Stands.{BeginsAs, HasAllFed, Known, LeadsTo}
 
--- one history goes on from what was seen and leads to the book and to the count, all in it was done by the cache's rules,
--- and what is left of the handler tells what was emitted in it. Each event that was emitted was as old as the timeout.
--- Who played every batch, and then what waits, has the raw paths; without renames no change that an event told is lost;
--- no joined rename is invented; and a cache without numbers has given none
+-- one history goes on from what was seen and leads to the book and to the count, all in it was done by the cache's
+-- rules, and what is left of the handler tells what was emitted in it. Each event that was emitted was as old as the
+-- timeout. Who played every batch, and then what waits, has the raw paths; without renames no change that an event told
+-- is lost; no joined rename is invented; and a cache without numbers has given none
 pub record IsEnded {C L : Type 0} (rules : Rules C) (tells : L → History → Type 0) (left : L) (seen : History)
     (parts : List EntryValue) (book : Kept C) (count : ℕ) : Type 0 where
   pub log : History
@@ -58,9 +58,9 @@ pub record IsFinished {C L Last : Type 0} (rules : Rules C) (ends : Known → Co
   pub ended : IsEnded rules tells left seen parts book count
   pub fed : FeedComesBack ends made last ended.log
 
--- these are the timeout and the journal of one history that goes on from what was seen, all in it was done by the cache's
--- rules, and what is left of the handler tells what was emitted in it. Each event that was emitted was as old as the
--- timeout, and a cache without numbers has given none
+-- these are the timeout and the journal of one history that goes on from what was seen, all in it was done by the
+-- cache's rules, and what is left of the handler tells what was emitted in it. Each event that was emitted was as old
+-- as the timeout, and a cache without numbers has given none
 pub record EndsJournal {C L : Type 0} (rules : Rules C) (tells : L → History → Type 0) (left : L) (seen : History)
     (timeout : ℕ) (journal : List EntryValue) : Type 0 where
   pub log : History

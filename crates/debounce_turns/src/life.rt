@@ -103,11 +103,7 @@ fn turn_now<
     H: DebounceEventHandler<DebounceEventResult<A>>,
     R: Wait + Clock + Drop,
     A: Allocator + Copy,
->(
-    alloc: A,
-    gate: &mut Ticking<C, R, A>,
-    handler: &mut H,
-) -> Result<(), Error<A>>
+>(alloc: A, gate: &mut Ticking<C, R, A>, handler: &mut H) -> Result<(), Error<A>>
     requires { H.ready handler.old }
     ensures again { H.ready handler.new }
     ensures handed { HandsOn H.handles gate.old handler.old gate.new handler.new }
