@@ -77,20 +77,22 @@ module _ {L : Type 0} (tells : L → History → Type 0) (left : L) where
   }
 
   -- .. whose watcher's work has ended, and has brought the feed back
-  pub finishes : {C Last : Type 0} {r : Rules C} (ends_so : Known → Config → Known → Last → Type 0) (begun : Known) (config : Config)
-      (now : Known) (found : Last) (seen told : History) (parts : List EntryValue) (book : Kept C) (count : ℕ)
+  pub finishes : {C Last : Type 0} {r : Rules C} (ends_so : Known → Config → Known → Last → Type 0) (begun : Known)
+      (config : Config) (now : Known) (found : Last) (seen told : History) (parts : List EntryValue) (book : Kept C) (count : ℕ)
       → ((all : IsTold r seen told parts book count) × HasAllFed now.seen all.0) → tells left (picked is_emitting told)
       → ends_so begun config now found
       → IsFinished r ends_so (Some (begun, config)) (Some found) tells left seen parts book count
   unfolding ends
-  finishes ends_so begun config now found seen told parts book count ((log, goes, begins, led, ran, same), all_fed) says ended =
+  finishes ends_so begun config now found seen told parts book count ((log, goes, begins, led, ran, same), all_fed) says
+      ended =
       record {
         ended = ends seen told parts book count (log, goes, begins, led, ran, same) says;
         fed = comes_back ends_so begun config now found log ended all_fed;
       }
 
   -- .. and if it was fed by hand
-  pub finishes_by_hand : {C Last : Type 0} {r : Rules C} (ends_so : Known → Config → Known → Last → Type 0) (last : Option Last)
+  pub finishes_by_hand : {C Last : Type 0} {r : Rules C} (ends_so : Known → Config → Known → Last → Type 0)
+      (last : Option Last)
       (seen told : History) (parts : List EntryValue) (book : Kept C) (count : ℕ)
       → IsTold r seen told parts book count → tells left (picked is_emitting told)
       → IsFinished r ends_so None last tells left seen parts book count
