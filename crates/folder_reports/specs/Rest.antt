@@ -4,7 +4,7 @@ use Rattle.std.specs.declared.alloc.Global.{Global}
 use Rattle.std.specs.declared.vec.Vec.{Vec}
 use Rattle.notify_paths.specs.Errors.{ErrorValue}
 use Rattle.notify_types.specs.Event.{Timed}
-use Rattle.notify_watch.specs.Handler.{Outcome}
+use Rattle.notify_watch.specs.Handler.{IsCalledOn, Outcome}
 use Rattle.debounce_model.specs.State.{State}
 use Rattle.debounce_model.specs.Tick.{IsOutlook}
 use Rattle.debounce_book.specs.Book.{Kept}
@@ -12,7 +12,7 @@ use Rattle.debounce_book.specs.Journal.{EntryValue}
 use Rattle.debounce_access.specs.Adds.{FeedsItem}
 use Rattle.debounce_access.specs.Stands.{Known}
 use Rattle.file_id_cache.specs.declared.cache.NoCache.{NoCache}
-use Rattle.notify_debouncer_full.specs.Emitted.{EndsReports}
+use Rattle.notify_debouncer_full.specs.Emitted.{FinishesReports}
 use Rattle.notify_poll.specs.declared.watcher.LastFound.{LastFound}
 use Rattle.notify_poll.specs.Work.{ReportsFromNothing}
 use Rattle.notify_watch.specs.declared.config.Config.{Config}
@@ -44,10 +44,11 @@ pub record IsRestOf {C : Type 0} (book : Kept C) (queue : List (Outcome Global))
   pub reports : rest.reports.items ≡ queue ++ waiting
   pub missed_is : rest.missed ≡ min (missed + unsent) (2 ^ 64 - 1)
 
--- how the work of a folder's watcher ends: with initial events its feed was called with just what leads from nothing to
--- what was found last
+-- how the work of a folder's watcher ends: its feed was called, and with initial events with just what leads from nothing
+-- to what was found last
 abbrev pub ends_polling : Known → Config → Known → LastFound Global → Type 0
-ends_polling begun config now found = ReportsFromNothing FeedsItem begun config now found.polled.last
+ends_polling begun config now found =
+    IsCalledOn FeedsItem begun now × ReportsFromNothing FeedsItem begun config now found.polled.last
 
 -- what is left when the debouncer ends of which this was seen, and whose queue gave this: one history goes on from what
 -- was seen, what was emitted in it was given or is left in the queue, each once and in order, it leads to the book, and
@@ -60,5 +61,5 @@ pub record IsLeft (s : Followed) (rest : Rest) : Type 0 where
   pub missed : ℕ
   pub unsent : ℕ
   pub last : Option (LastFound Global)
-  pub ended : EndsReports ends_polling s.made last s.seen parts s.awaited.queue.given queue unsent book missed
+  pub ended : FinishesReports ends_polling s.made last s.seen parts s.awaited.queue.given queue unsent book missed
   pub rest_is : IsRestOf book queue missed unsent rest
