@@ -68,6 +68,29 @@ module _ {L : Type 0} (tells : L → History → Type 0) (left : L) where
     all_fed = all_fed;
   }
 
+  -- .. whose watcher's work has ended, and has brought the feed back
+  pub finishes : {C Last : Type 0} (ends_so : Known → Config → Known → Last → Type 0) (begun : Known) (config : Config)
+      (now : Known) (found : Last) (seen told : History) (parts : List EntryValue) (book : Kept C) (count : ℕ)
+      → ((all : IsTold seen told parts book count) × HasAllFed now.seen all.0) → tells left (picked is_emitting told)
+      → ends_so begun config now found
+      → IsFinished ends_so (Some (begun, config)) (Some found) tells left seen parts book count
+  unfolding ends
+  finishes ends_so begun config now found seen told parts book count ((log, goes, begins, led, same), all_fed) says ended =
+      record {
+        ended = ends seen told parts book count (log, goes, begins, led, same) says;
+        fed = comes_back ends_so begun config now found log ended all_fed;
+      }
+
+  -- .. and if it was fed by hand
+  pub finishes_by_hand : {C Last : Type 0} (ends_so : Known → Config → Known → Last → Type 0) (last : Option Last)
+      (seen told : History) (parts : List EntryValue) (book : Kept C) (count : ℕ)
+      → IsTold seen told parts book count → tells left (picked is_emitting told)
+      → IsFinished ends_so None last tells left seen parts book count
+  finishes_by_hand ends_so last seen told parts book count all says = record {
+    ended = ends seen told parts book count all says;
+    fed = none_comes_back ends_so last (ends seen told parts book count all says).log;
+  }
+
   pub ends_journal : {A : Type 0} (seen told : History) (res : Result (ℕ × Vec EntryValue A) ErrorValue)
       → IfOk res (λ r. ToldJournal seen told r.0 r.1.items) → tells left (picked is_emitting told)
       → IfOk res (λ r. (l : L) × EndsJournal tells l seen r.0 r.1.items)
