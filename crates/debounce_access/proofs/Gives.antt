@@ -13,9 +13,9 @@ use Rattle.told_lock.specs.History.{Begins, has, picked, beside, MayGive, Took, 
 use Rattle.told_lock.specs.Rights.{Right, Emits, Feeds}
 use Rattle.told_lock.proofs.Moves.{begins_self, begins_trans}
 use Rattle.debounce_access.specs.declared.locked.Locked.{Locked}
-use Rattle.debounce_access.specs.Adds.{Adds, BatchMakes, CommandMakes, Does, FedMakes, GainsFed, GainsItem, GainsOne, GainsTick, AddsTick, Makes, TickMakes}
+use Rattle.debounce_access.specs.Adds.{Adds, AddsTick, BatchMakes, CommandMakes, Does, FedMakes, FedNow, FeedsItem, FeedsOn, GainsFed, GainsOne, GainsTick, Makes, MayRead, TickMakes}
 use Rattle.debounce_access.specs.Happened.{HappenedValue, History, Missed, accepted, entries_of, is_emitting, is_fed, journal_of, told_as}
-use Rattle.debounce_access.specs.Stands.{GoesOn, HasAllFed, IsTold, Lasts, LeadsTo, Reach, Stands}
+use Rattle.debounce_access.specs.Stands.{GoesOn, HasAllFed, IsTold, Known, Lasts, LeadsTo, Reach, Stands}
 use Rattle.debounce_access.specs.Taken.{TakesAll, all_out}
 use Rattle.debounce_access.proofs.Steps.{picked_append, parted_stands}
 
@@ -203,22 +203,47 @@ fed_none before mid after shown now exists was res hs told end makes is = by res
     by (Ok u) m = tt
     by (Err e) m = ap (picked is_fed) (is ∙ ap (λ l. mid ++ l) m.1 ∙ append-nil mid) ∙ told
 
--- what a handler is called with is taken
-pub item_taken : (before after : History) (item : Result EventValue ErrorValue)
-    → ((now : ℕ) × (exists : Bool) × GainsFed before item now exists after) → GainsItem before item after
-item_taken before after item (now, exists, fed) = (fed.0, inl (now, exists, fed.1), fed.2)
+-- what a feed is called with is taken
+pub feeds_taken : (old new : Known) (item : Result EventValue ErrorValue) → new.lock ≡ old.lock → FedNow old item new
+    → FeedsItem old item new
+feeds_taken old new item lock (now, exists, fed, reads) =
+    (lock, (fed.0, inl (now, exists, fed.1), fed.2), inl (now, exists, fed, reads))
+
+-- what is missed, after a refusal, is one thing more
+one_missed : (before mid after : History) → Begins before mid → picked is_fed mid ≡ picked is_fed before
+    → GainsOne mid Missed after → GainsOne before Missed after
+one_missed before mid after goes told gains = (
+  (gains.0.0, begins_trans before mid gains.0.0 goes gains.0.1, gains.0.2),
+  gains.1 ∙ ap (λ l. l ++ Missed ∷ []) told,
+)
+
+may_read : (old mid new : Known) → MayRead old mid → new.moments ≡ mid.moments → MayRead old new
+may_read old mid new (inl same) is = inl (is ∙ same)
+may_read old mid new (inr (now, reads)) is = inr (now, is ∙ reads)
 
 -- .. or missed
-pub item_missed : (before mid after : History) (item : Result EventValue ErrorValue) → Begins before mid
-    → picked is_fed mid ≡ picked is_fed before → GainsOne mid Missed after → GainsItem before item after
-item_missed before mid after item goes told gains = (
-  Missed,
-  inr refl,
-  (
-    (gains.0.0, begins_trans before mid gains.0.0 goes gains.0.1, gains.0.2),
-    gains.1 ∙ ap (λ l. l ++ Missed ∷ []) told,
-  ),
-)
+pub feeds_missed : (old mid new : Known) (item : Result EventValue ErrorValue) → mid.lock ≡ old.lock
+    → Begins old.seen mid.seen × (picked is_fed mid.seen ≡ picked is_fed old.seen) × MayRead old mid
+    → (new.lock ≡ mid.lock) × (new.moments ≡ mid.moments) → GainsOne mid.seen Missed new.seen → FeedsItem old item new
+feeds_missed old mid new item lock (goes, told, reads) (same, is) gains =
+    let one = one_missed old.seen mid.seen new.seen goes told gains in
+    (same ∙ lock, (Missed, inr refl, one), inr (one, may_read old mid new reads is))
+
+-- what a feed does with its way to the book, once its clock was read
+pub fed_now : (old mid new : Known) (item : Result EventValue ErrorValue) (now : ℕ) (exists : Bool)
+    (res : Result (Unit {0}) ErrorValue) → mid ≡ record old { moments = old.moments ++ now ∷ [] }
+    → FeedsOn mid item now exists res new
+    → (new.lock ≡ old.lock) × OnOk res (FedNow old item new)
+    × OnErr res (Begins old.seen new.seen × (picked is_fed new.seen ≡ picked is_fed old.seen) × MayRead old new)
+fed_now old mid new item now exists res is feeds = by res
+    (subst (λ (k : Known). FeedsOn k item now exists res new) is feeds)
+  where
+    by : (r : Result (Unit {0}) ErrorValue)
+        → FeedsOn (record old { moments = old.moments ++ now ∷ [] }) item now exists r new
+        → (new.lock ≡ old.lock) × OnOk r (FedNow old item new)
+        × OnErr r (Begins old.seen new.seen × (picked is_fed new.seen ≡ picked is_fed old.seen) × MayRead old new)
+    by (Ok u) (lock, fed, none, same) = (lock, (now, exists, fed, same), tt)
+    by (Err e) (lock, fed, none, same) = (lock, tt, (none.0, none.1, inr (now, same)))
 
 -- .. by a command
 pub command_adds : (before mid after : History) (c : CommandValue) (y : ReplyValue)

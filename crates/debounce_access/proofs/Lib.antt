@@ -1,2 +1,3 @@
+pub mod Aged
 pub mod Gives
 pub mod Steps

@@ -1,4 +1,5 @@
 pub mod Adds
+pub mod Aged
 pub mod Happened
 pub mod Stands
 pub mod Taken

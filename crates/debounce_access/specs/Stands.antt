@@ -65,10 +65,12 @@ tells_of pass = (view pass).tells
 abbrev pub feeds_of : {T E : Type 0} → Pass T E → Bool
 feeds_of pass = (view pass).feeds
 
--- what a feed, a receipt or the worker shows: of which lock it is, and the history as far as it has seen it
+-- what a feed, a receipt or the worker shows: of which lock it is, the history as far as it has seen it, and the moments
+-- that its clock has answered, in order
 pub record Known : Type 0 where
   pub lock : TableId
   pub seen : History
+  pub moments : List ℕ
 
 -- what each that reaches a book shows: also at which history entries were last taken out, and whether it alone takes
 -- them out, alone emits, and alone feeds

@@ -36,4 +36,5 @@ pub record IsStarted {T L : Type 0} (started : Shown T L) (timeout : ℕ) (journ
 
 -- its watcher was made with a feed that had seen as much, and with this configuration
 abbrev pub IsMadeWith : {T L : Type 0} → Config → Shown T L → Type 0
-IsMadeWith config started = started.made ≡ Some (record { lock = started.lock; seen = started.seen }, config)
+IsMadeWith config started =
+    started.made ≡ Some (record { lock = started.lock; seen = started.seen; moments = [] }, config)

@@ -1,12 +1,81 @@
 //! The clock of the running debouncer.
-ghost use Rattle.std.specs.Prelude.{IfErr};
+ghost use Rattle.std.specs.Prelude.{◌≡◌, ◌++◌, ◌∷◌, [], IfErr, IfOk, OnErr};
 ghost use Rattle.debounce_turns.specs.Clock.{IsIo};
 
 use notify_paths::error::{Error, ErrorKind};
 use notify_types::time::Moment;
 use std::alloc::Allocator;
 use std::io;
+use std::marker::Model;
+use std::snapshot::Snapshot;
 use std::time::{Clock, Instant};
+
+/// A clock that counts from a start. Clauses see the moments that it has answered, in order: only
+/// [`Stopwatch::read`] adds one. Of how they pass std says nothing, and so no clause does.
+#[derive(Drop)]
+pub struct Stopwatch {
+    start: Instant,
+    answers: Answers,
+}
+
+impl Model for Stopwatch {
+    ghost use Rattle.std.specs.Prelude.{List, ℕ};
+
+    ghost Value = { List ℕ };
+
+    ghost view = { λ s. s.answers };
+}
+
+/// The answers of a clock, for clauses: of those before the last it has no bytes.
+#[derive(Drop)]
+struct Answers {
+    before: Option<Snapshot<Answers>>,
+    last: Moment,
+}
+
+impl Model for Answers {
+    ghost use Rattle.std.specs.Prelude.{List, ℕ, length};
+    ghost use Rattle.std.proofs.Common.{arith, length-append};
+    ghost use Rattle.debounce_turns.specs.Clock.{answered};
+
+    ghost Value = { List ℕ };
+
+    ghost view = { λ a. answered a.before a.last };
+
+    ghost size = { length };
+
+    ghost size_decreases = { λ a h. Prim.grind (arith, length-append) };
+}
+
+impl Stopwatch {
+    /// A clock that counts from this start.
+    pub fn new(start: Instant) -> Stopwatch
+        ensures { result ≡ [] }
+    {
+        Stopwatch {
+            start,
+            answers: Answers {
+                before: None,
+                last: 0,
+            },
+        }
+    }
+
+    /// Returns how long ago the start was, as [`now`].
+    pub fn read<R: Clock, A: Allocator>(&mut self, rt: &R, alloc: A) -> Result<Moment, Error<A>>
+        ensures ok { IfOk result (λ moment. self.new ≡ self.old ++ moment ∷ []) }
+        ensures err { OnErr result (self.new ≡ self.old) }
+        ensures io { IfErr result IsIo }
+    {
+        let moment = now(rt, alloc, self.start)?;
+        let before = Snapshot::of(&self.answers);
+        self.answers = Answers {
+            before: Some(before),
+            last: moment,
+        };
+        Ok(moment)
+    }
+}
 
 /// Returns how long ago the start was, in nanoseconds. If the clock can't be read, the error is `Io`.
 pub fn now<R: Clock, A: Allocator>(rt: &R, alloc: A, start: Instant) -> Result<Moment, Error<A>>

@@ -1,12 +1,12 @@
 //! What a watcher reports to.
-ghost use Rattle.std.specs.Prelude.{◌≡◌, ℕ, Bool, [], true, IfErr, IfOk, OnErr, OnOk};
+ghost use Rattle.std.specs.Prelude.{◌≡◌, [], true, IfErr, IfOk, OnErr, OnOk};
 ghost use Rattle.notify_paths.specs.Errors.{out_of_memory};
 ghost use Rattle.told_lock.specs.History.{Begins, picked};
-ghost use Rattle.debounce_access.specs.Adds.{FeedsItem, GainsFed};
+ghost use Rattle.debounce_access.specs.Adds.{FedNow, FeedsItem, MayRead};
 ghost use Rattle.debounce_access.specs.Happened.{is_fed};
 ghost use Rattle.debounce_access.specs.Stands.{Lasts, StaysButFeeds, feeds_of, seen_by};
 
-use crate::clock::now;
+use crate::clock::Stopwatch;
 use crate::feeding::Feeding;
 use crate::shared::{Shared, Signals};
 use crate::turn::feed_one;
@@ -19,12 +19,13 @@ use notify_watch::handler::EventHandler;
 use std::alloc::{Allocator, Global};
 use std::fs::Files;
 use std::marker::Model;
+use std::snapshot::Snapshot;
 use std::sync::atomic::Ordering;
 use std::sync::{Arc, Wait};
 use std::time::{Clock, Instant};
 
 /// The handler that a debouncer gives to its watcher: it alone feeds events and errors to the book. Clauses
-/// see how much of the book's history it has seen.
+/// see how much of the book's history it has seen, and what its clock has answered.
 ///
 /// A debouncer has one, which can't be cloned.
 #[derive(Drop)]
@@ -33,7 +34,6 @@ pub struct Feed<C: Drop, R: Wait + Drop, A: Allocator = Global> {
     alloc: A,
     gate: Feeding<C, R, A>,
     signals: Arc<Signals, A>,
-    start: Instant,
 }
 
 impl<C: Drop, R: Wait + Drop, A: Allocator> Model for Feed<C, R, A> {
@@ -41,13 +41,15 @@ impl<C: Drop, R: Wait + Drop, A: Allocator> Model for Feed<C, R, A> {
 
     ghost Value = { Known };
 
-    ghost view = { λ f. record { lock = f.gate.lock; seen = f.gate.seen } };
+    ghost view = { λ f. f.gate };
 }
 
-/// Shows that something was taken. Clauses see the history up to then. It has no bytes.
+/// Shows that something was taken. Clauses see the history up to then, and what the feed's clock had answered. It
+/// has no bytes.
 #[derive(Drop)]
 pub struct Receipt<C: Drop, A: Allocator = Global> {
     pass: BookPass<C, A>,
+    answers: Snapshot<Stopwatch>,
 }
 
 impl<C: Drop, A: Allocator> Model for Receipt<C, A> {
@@ -56,7 +58,11 @@ impl<C: Drop, A: Allocator> Model for Receipt<C, A> {
 
     ghost Value = { Known };
 
-    ghost view = { λ r. record { lock = r.pass.table_id; seen = seen_by r.pass } };
+    ghost view = { λ r. record {
+      lock = r.pass.table_id;
+      seen = seen_by r.pass;
+      moments = r.answers.value;
+    } };
 
     ghost invariant = { λ r. r.pass.me.1 ≡ [] };
 }
@@ -67,7 +73,7 @@ impl<C: Drop, R: Wait + Copy + Drop, A: Allocator + Copy> Shared<C, R, A> {
         requires { self.old.owner.feeds ≡ true }
         ensures same { StaysButFeeds self.old.owner self.new.owner }
         ensures ok { IfOk result (λ f.
-            (f.lock ≡ self.old.owner.lock) × (f.seen ≡ self.old.owner.seen)) }
+            (f.lock ≡ self.old.owner.lock) × (f.seen ≡ self.old.owner.seen) × (f.moments ≡ [])) }
         ensures err { IfErr result (λ e. e ≡ out_of_memory) }
     {
         let access = self.feeding()?;
@@ -75,9 +81,8 @@ impl<C: Drop, R: Wait + Copy + Drop, A: Allocator + Copy> Shared<C, R, A> {
         Ok(Feed {
             rt: self.rt,
             alloc: self.alloc,
-            gate: Feeding::new(self.rt, access),
+            gate: Feeding::new(self.rt, access, Stopwatch::new(start)),
             signals,
-            start,
         })
     }
 }
@@ -89,7 +94,7 @@ impl<C: Drop, R: Wait + Drop, A: Allocator> Shared<C, R, A> {
         ensures lasts { Lasts self.old.owner self.new.owner }
         ensures shown { Begins receipt.seen self.new.owner.seen }
     {
-        let Receipt { pass } = receipt;
+        let Receipt { pass, answers: _ } = receipt;
         self.owner.catch_up(&self.rt, pass);
     }
 }
@@ -103,8 +108,8 @@ impl<
 
     ghost handles = { FeedsItem };
 
-    /// Feeds an event or an error to the book, once. One that is refused is counted as missed, under the lock for
-    /// `finish`, and beside it for `Debouncer::missed`.
+    /// Feeds an event or an error to the book, once, at the moment of the call. One that is refused is counted as
+    /// missed, under the lock for `finish`, and beside it for `Debouncer::missed`.
     fn handle_event(&mut self, event: Result<Event<A>, Error<A>>)
         ensures again { Unit {0} }
         ensures handled { FeedsItem self.old event self.new }
@@ -117,20 +122,20 @@ impl<
 }
 
 impl<C: FileIdCache<A> + Drop, R: Clock + Files + Wait + Drop, A: Allocator + Copy> Feed<C, R, A> {
-    /// Feeds an event or an error to the book, at the moment of the call. One that is refused isn't
-    /// counted as missed: who feeds by hand has the error.
+    /// Feeds an event or an error to the book, at the moment of the call, for which it reads its clock. One that is
+    /// refused isn't counted as missed: who feeds by hand has the error.
     pub fn feed(&mut self, item: Result<Event<A>, Error<A>>) -> Result<(), Error<A>>
         ensures lock { self.new.lock ≡ self.old.lock }
-        ensures ok { OnOk result ((now : ℕ) × (exists : Bool)
-            × GainsFed self.old.seen item now exists self.new.seen) }
+        ensures ok { OnOk result (FedNow self.old item self.new) }
         ensures err { OnErr result (Begins self.old.seen self.new.seen
-            × (picked is_fed self.new.seen ≡ picked is_fed self.old.seen)) }
+            × (picked is_fed self.new.seen ≡ picked is_fed self.old.seen)
+            × MayRead self.old self.new) }
     {
         let exists = match &item {
             Ok(event) => exists(&self.rt, event),
             Err(_) => false,
         };
-        let now = now(&self.rt, self.alloc, self.start)?;
+        let now = self.gate.now(self.alloc)?;
         feed_one(&mut self.gate, item, now, exists)
     }
 }
@@ -143,6 +148,7 @@ impl<C: Drop, R: Wait + Drop, A: Allocator> Feed<C, R, A> {
     {
         Receipt {
             pass: self.gate.shown(),
+            answers: self.gate.answers(),
         }
     }
 
@@ -157,7 +163,6 @@ impl<C: Drop, R: Wait + Drop, A: Allocator> Feed<C, R, A> {
             alloc: _,
             gate,
             signals: _,
-            start: _,
         } = self;
         gate.into_pass()
     }

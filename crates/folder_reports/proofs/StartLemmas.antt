@@ -41,7 +41,7 @@ pub began_with : {T L : Type 0} (timeout : ℕ) (initial : Bool) (config : Confi
     started.seen ≡ Opened timeout false ∷ [] → IsMadeWith config started → config.initial_events ≡ initial →
     BeganWith initial started.made
 began_with timeout initial config started opened made initial_is = (
-  record { lock = started.lock; seen = started.seen },
+  record { lock = started.lock; seen = started.seen; moments = [] },
   config,
   made,
   ap (λ seen. picked is_fed seen) opened,
