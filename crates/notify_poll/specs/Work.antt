@@ -1,5 +1,5 @@
 -- What the thread of a polling watcher does to its handler, and to the last listing if it owns it.
-use Rattle.std.specs.Prelude.{◌≡◌, true, List, [], Option, None, Some, Result}
+use Rattle.std.specs.Prelude.{◌≡◌, true, [], Option, None, Some, Result}
 use Rattle.notify_paths.specs.Errors.{ErrorValue}
 use Rattle.notify_types.specs.Event.{EventValue}
 use Rattle.notify_watch.specs.Handler.{IsCalledOn}
