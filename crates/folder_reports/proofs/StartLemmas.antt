@@ -15,7 +15,7 @@ use Rattle.debounce_access.specs.Happened.{History, Opened, is_fed}
 use Rattle.debounce_turns.specs.Running.{IsMadeWith, Shown}
 use Rattle.notify_poll.specs.declared.watcher.LastFound.{LastFound}
 use Rattle.file_id_cache.specs.declared.cache.NoCache.{NoCache}
-use Rattle.notify_debouncer_full.specs.Emitted.{EndsReports}
+use Rattle.notify_debouncer_full.specs.Emitted.{FinishesReports}
 use Rattle.report_loop.specs.declared.source.Rest.{Rest}
 use Rattle.watch_pace.specs.declared.pace.Pace.{Pace}
 use Rattle.watch_program.specs.declared.fault.Fault.{Fault}
@@ -41,7 +41,7 @@ pub began_with : {T L : Type 0} (timeout : ℕ) (initial : Bool) (config : Confi
     started.seen ≡ Opened timeout false ∷ [] → IsMadeWith config started → config.initial_events ≡ initial →
     BeganWith initial started.made
 began_with timeout initial config started opened made initial_is = (
-  record { lock = started.lock; seen = started.seen },
+  record { lock = started.lock; seen = started.seen; moments = [] },
   config,
   made,
   ap (λ seen. picked is_fed seen) opened,
@@ -51,7 +51,7 @@ began_with timeout initial config started opened made initial_is = (
 -- what is left, if the rest could be had
 pub left_if : (s : Followed) (queue : List (Outcome Global)) (parts : List EntryValue) (book : Kept NoCache) →
     (missed unsent : ℕ) (last : Option (LastFound Global)) →
-    EndsReports ends_polling s.made last s.seen parts s.awaited.queue.given queue unsent book missed →
+    FinishesReports ends_polling s.made last s.seen parts s.awaited.queue.given queue unsent book missed →
     (rest : Result Rest Fault) → IfOk rest (IsRestOf book queue missed unsent) → IfOk rest (IsLeft s)
 left_if s queue parts book missed unsent last ended (Ok rest) is = record {
   book = book;

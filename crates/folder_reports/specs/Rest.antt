@@ -12,9 +12,9 @@ use Rattle.debounce_book.specs.Journal.{EntryValue}
 use Rattle.debounce_access.specs.Adds.{FeedsItem}
 use Rattle.debounce_access.specs.Stands.{Known}
 use Rattle.file_id_cache.specs.declared.cache.NoCache.{NoCache}
-use Rattle.notify_debouncer_full.specs.Emitted.{EndsReports}
+use Rattle.notify_debouncer_full.specs.Emitted.{FinishesReports}
 use Rattle.notify_poll.specs.declared.watcher.LastFound.{LastFound}
-use Rattle.notify_poll.specs.Work.{ReportsFromNothing}
+use Rattle.notify_poll.specs.Work.{EndsPolling}
 use Rattle.notify_watch.specs.declared.config.Config.{Config}
 use Rattle.report_loop.specs.declared.source.Rest.{Rest}
 use Rattle.folder_reports.specs.Start.{Followed}
@@ -44,15 +44,15 @@ pub record IsRestOf {C : Type 0} (book : Kept C) (queue : List (Outcome Global))
   pub reports : rest.reports.items ≡ queue ++ waiting
   pub missed_is : rest.missed ≡ min (missed + unsent) (2 ^ 64 - 1)
 
--- how the work of a folder's watcher ends: with initial events its feed was called with just what leads from nothing to
--- what was found last
+-- how the work of a folder's watcher ends: its feed was called, and with initial events with just what leads from
+-- nothing to what was found last
 abbrev pub ends_polling : Known → Config → Known → LastFound Global → Type 0
-ends_polling begun config now found = ReportsFromNothing FeedsItem begun config now found.polled.last
+ends_polling begun config now found = EndsPolling FeedsItem begun config now found.polled.last
 
 -- what is left when the debouncer ends of which this was seen, and whose queue gave this: one history goes on from what
 -- was seen, what was emitted in it was given or is left in the queue, each once and in order, it leads to the book, and
--- the reports are those of this queue and this book. What was fed in it is what the watcher's feed shows, whose work has
--- ended with what was found last
+-- the reports are those of this queue and this book. What was fed in it is what the watcher's feed shows, whose work
+-- has ended with what was found last
 pub record IsLeft (s : Followed) (rest : Rest) : Type 0 where
   pub book : Kept NoCache
   pub parts : List EntryValue
@@ -60,5 +60,5 @@ pub record IsLeft (s : Followed) (rest : Rest) : Type 0 where
   pub missed : ℕ
   pub unsent : ℕ
   pub last : Option (LastFound Global)
-  pub ended : EndsReports ends_polling s.made last s.seen parts s.awaited.queue.given queue unsent book missed
+  pub ended : FinishesReports ends_polling s.made last s.seen parts s.awaited.queue.given queue unsent book missed
   pub rest_is : IsRestOf book queue missed unsent rest

@@ -26,6 +26,7 @@ use poll_rounds::look::look_round;
 use poll_rounds::round::poll_round;
 use std::alloc::{Allocator, Global};
 use std::marker::Model;
+use std::mem;
 
 /// What a polling watcher keeps: the paths that it watches, and what it found there last.
 #[derive(Drop)]
@@ -70,6 +71,26 @@ impl<A: Allocator + Copy> Polled<A> {
         // This call shows the proof that it is one.
         let _entries = self.last.iter();
         &self.last
+    }
+
+    /// Gives the last listing in exchange for this one.
+    pub fn exchange_last(&mut self, last: &mut Listing<A>)
+        ensures taken { last.new ≡ self.old.last }
+        ensures left { self.new ≡ record self.old { last = last.old } }
+        ensures law { IsListing last.new }
+    {
+        mem::swap(&mut self.last, last);
+        // This call shows the proof that it is one.
+        let _entries = last.iter();
+    }
+
+    /// Returns all that this keeps, and watches nothing from now on.
+    pub fn take(&mut self) -> Polled<A>
+        ensures taken { result ≡ self.old }
+        ensures left { self.new ≡ record { roots = []; last = [] } }
+    {
+        let none = Polled::new(self.alloc);
+        mem::replace(self, none)
     }
 
     /// Watches a path from now on. What stands there is no event, so it goes to the last listing at

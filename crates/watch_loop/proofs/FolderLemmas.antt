@@ -44,8 +44,8 @@ failed_on gives program says whole debouncer s s' same p p1 p' fault answer begu
 
 -- the program began, was called until the life was over, and took what was left
 pub went_on : {P T L : Type 0} (gives : Gives Awaited) (program : Program P) → Says gives → (whole : Followed) →
-    (debouncer : Shown T L) (s s' : Awaited) → followed debouncer s ≡ whole → (p p1 p2 p' : P) (rest : Result Rest Fault) →
-    (answer : Result ℕ Fault) → program.begins p (Ok tt) p1 →
+    (debouncer : Shown T L) (s s' : Awaited) → followed debouncer s ≡ whole → (p p1 p2 p' : P)
+    (rest : Result Rest Fault) (answer : Result ℕ Fault) → program.begins p (Ok tt) p1 →
     ((steps : List Step) × DoesAll gives program steps s p1 (Ok tt) s' p2) →
     folder_source.ends (followed debouncer s') rest → TakesRest program rest p2 answer p' →
     Follows folder_source program whole p answer p'

@@ -10,7 +10,6 @@ use Rattle.debounce_model.specs.Command.{CommandValue, EventCommand, ErrorComman
 use Rattle.debounce_model.specs.PathsLaw.{emitted, read_paths}
 use Rattle.debounce_model.specs.Play.{Paths, events_of, play}
 use Rattle.debounce_model.specs.State.{State}
-use Rattle.debounce_model.specs.Tick.{IsOutlook}
 use Rattle.debounce_laws.proofs.PlayAt.{events-append, play-append}
 use Rattle.debounce_book.specs.Journal.{Accepts, EntryValue, Replays}
 use Rattle.debounce_book.specs.JournalLaws.{replies_of}

@@ -79,7 +79,7 @@ led_to_last : (made : Option (Known × Config)) (last : Option (LastFound Global
 led_to_last made last log back begun config is initial =
     let came = back begun config is in (
       came.0,
-      subst (λ found. Reported FeedsItem begun found came.0) (sym (ap last_of came.2)) (came.3 initial),
+      subst (λ found. Reported FeedsItem begun found came.0) (sym (ap last_of came.2)) (came.3.1 initial),
       came.4,
     )
 
@@ -95,7 +95,7 @@ last_paths law made found log state leads began none legal rest shown =
 pub takes_all : ReaderHasTheLastListing → TakesAllReports
 takes_all law s steps lost fresh gave =
     let waited = gave.0 in let s' = gave.1 in let rest = gave.2 in let left = gave.4.1 in
-    let ended = left.ended.ended in
+    let ended = left.ended.0 in
     let each = given_each waited s s' gave.3 in
     let so_far = each.2 ∙ ap (λ xs. xs ++ taken_in waited) fresh in
     let taken = ap taken_in gave.5 ∙ taken_on waited (map (λ report. Some report) rest.reports.items)
@@ -112,7 +112,7 @@ takes_all law s steps lost fresh gave =
     ∙ ap (λ xs. xs ++ map plain left.rest_is.waiting)
     (ended.told.whole (nor_other left.missed left.unsent lost (2 ^ 64 - 2) sum none)) in
     let fed = subst (λ made. LeadsToLast made (last_of left.last) ended.log) each.0
-    (led_to_last s'.made left.last ended.log left.ended.fed) in
+    (led_to_last s'.made left.last ended.log left.ended.1) in
     let paths : BeganWith true s.made → lost ≡ 0 → (rest : List Timed) → IsOutlook left.book.core.state rest
     → read_paths [] (replies_of (entries_of ended.log)) rest ≡ keys_of (last_of left.last) =
     λ began missed. last_paths law s.made (last_of left.last) ended.log left.book.core.state fed began (none missed)

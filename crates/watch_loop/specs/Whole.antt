@@ -50,8 +50,8 @@ LeadsToLast made found log =
 -- one history goes on from what was seen of the debouncer, and leads to its book at the end. If nothing was lost, the
 -- debouncer missed nothing, and what was taken is all that was emitted in it, each report once and in order, and then
 -- all that waits by the book. Who plays every batch of it, and then what waits, has the raw paths; and without renames
--- no change that an event told is lost. If the watcher began with nothing, and nothing was lost, he has the paths of what
--- it found last, and so has a program that plays what it took
+-- no change that an event told is lost. If the watcher began with nothing, and nothing was lost, he has the paths of
+-- what it found last, and so has a program that plays what it took
 pub record TookAllOf (s : Followed) (steps : List Step) (lost : ℕ) : Type 0 where
   pub log : History
   pub goes_on : Begins s.seen log
