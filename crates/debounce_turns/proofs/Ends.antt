@@ -78,7 +78,8 @@ module _ {L : Type 0} (tells : L → History → Type 0) (left : L) where
 
   -- .. whose watcher's work has ended, and has brought the feed back
   pub finishes : {C Last : Type 0} {r : Rules C} (ends_so : Known → Config → Known → Last → Type 0) (begun : Known)
-      (config : Config) (now : Known) (found : Last) (seen told : History) (parts : List EntryValue) (book : Kept C) (count : ℕ)
+      (config : Config) (now : Known) (found : Last) (seen told : History) (parts : List EntryValue) (book : Kept C)
+      (count : ℕ)
       → ((all : IsTold r seen told parts book count) × HasAllFed now.seen all.0) → tells left (picked is_emitting told)
       → ends_so begun config now found
       → IsFinished r ends_so (Some (begun, config)) (Some found) tells left seen parts book count
@@ -92,8 +93,7 @@ module _ {L : Type 0} (tells : L → History → Type 0) (left : L) where
 
   -- .. and if it was fed by hand
   pub finishes_by_hand : {C Last : Type 0} {r : Rules C} (ends_so : Known → Config → Known → Last → Type 0)
-      (last : Option Last)
-      (seen told : History) (parts : List EntryValue) (book : Kept C) (count : ℕ)
+      (last : Option Last) (seen told : History) (parts : List EntryValue) (book : Kept C) (count : ℕ)
       → IsTold r seen told parts book count → tells left (picked is_emitting told)
       → IsFinished r ends_so None last tells left seen parts book count
   finishes_by_hand ends_so last seen told parts book count all says = record {
