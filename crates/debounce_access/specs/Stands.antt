@@ -121,30 +121,6 @@ abbrev pub StaysButRights : Reach → Reach → Type 0
 StaysButRights old new =
     (new.lock ≡ old.lock) × (new.seen ≡ old.seen) × (new.out ≡ old.out) × (new.keeps ≡ old.keeps)
 
--- what a debouncer that runs shows: its watcher, of which lock it is, the history as far as it has seen it, the parts
--- of the journal that were taken out, and whether none was; and what was there of its handler at the start
-pub record Running (T L : Type 0) : Type 0 where
-  pub watcher : T
-  pub lock : TableId
-  pub seen : History
-  pub parts : List EntryValue
-  pub is_whole : Bool
-  pub began : L
-
--- it runs on in the same history, and nothing was taken out of its journal
-pub record RunsOn {T L : Type 0} (old new : Running T L) : Type 0 where
-  pub lock : new.lock ≡ old.lock
-  pub parts : new.parts ≡ old.parts
-  pub is_whole : new.is_whole ≡ old.is_whole
-  pub began : new.began ≡ old.began
-  pub seen : Begins old.seen new.seen
-
--- it has just been started with this timeout, and with a journal or without
-pub record IsStarted {T L : Type 0} (started : Running T L) (timeout : ℕ) (journaled : Bool) : Type 0 where
-  pub seen : started.seen ≡ Opened timeout journaled ∷ []
-  pub parts : started.parts ≡ []
-  pub is_whole : started.is_whole ≡ true
-
 -- these are the timeout and the journal of a history that goes on from what was seen and from what was told, all in it
 -- was done by the cache's rules, and nothing else was emitted in it than was told
 abbrev pub ToldJournal : {C : Type 0} → Rules C → History → History → ℕ → List EntryValue → Type 0

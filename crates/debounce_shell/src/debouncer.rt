@@ -31,10 +31,10 @@ use debounce_turns::shared::Shared;
 use file_id_cache::cache::FileIdCache;
 use notify_paths::error::{Error, ErrorKind};
 use notify_paths::path::PathBuf;
-use notify_types::event::{DebouncedEvent, Event, RecursiveMode};
+use notify_types::event::{DebouncedEvent, RecursiveMode};
 use notify_types::time::Moment;
 use notify_watch::config::{Config, WatcherKind};
-use notify_watch::handler::{DebounceEventHandler, DebounceEventResult, EventHandler};
+use notify_watch::handler::{DebounceEventHandler, DebounceEventResult};
 use notify_watch::watcher::{ListingWatcher, Made, Task, Watcher, WatcherThread, start_task};
 use std::alloc::{Allocator, Global};
 use std::fs::Files;
@@ -470,8 +470,8 @@ impl<
     /// Stops as `finish` does, and returns also what is left of the handler, which was called with just what
     /// was emitted, and what the watcher found last.
     pub fn finish_left(self) -> Finished<C, L, LastOf<T, C, R, A>, A>
-        ensures ended { IsFinished C.rules T.Task.ends self.made result.last (L.tells self.began) result.left
-            self.seen self.parts result.book result.missed }
+        ensures ended { IsFinished C.rules T.Task.ends self.made result.last
+            (L.tells self.began) result.left self.seen self.parts result.book result.missed }
         ensures legal { IfSome result.book.journal (λ es. IsLegal es result.book.core.state) }
         ensures part { IfSome result.book.part (λ es. IsPart es result.book.core.state) }
     {

@@ -85,10 +85,10 @@ module _ {L : Type 0} (tells : L → History → Type 0) (left : L) where
       → IsFinished r ends_so (Some (begun, config)) (Some found) tells left seen parts book count
   unfolding ends
   finishes ends_so begun config now found seen told parts book count ((log, goes, begins, led, ran, same), all_fed) says
-      ended =
+      end =
       record {
         ended = ends seen told parts book count (log, goes, begins, led, ran, same) says;
-        fed = comes_back ends_so begun config now found log ended all_fed;
+        fed = comes_back ends_so begun config now found log end all_fed;
       }
 
   -- .. and if it was fed by hand

@@ -43,8 +43,8 @@ StaysOfLock {Last} ends =
     (begun : Known) (config : Config) (now : Known) (last : Last) → ends begun config now last
     → now.lock ≡ begun.lock
 
--- the feed with which the watcher was made has come back: its work has ended so, with what was found last, and nothing was
--- fed or missed in this history but what the feed has seen
+-- the feed with which the watcher was made has come back: its work has ended so, with what was found last, and nothing
+-- was fed or missed in this history but what the feed has seen
 abbrev pub FeedComesBack : {Last : Type 0} → (Known → Config → Known → Last → Type 0) → Option (Known × Config)
     → Option Last → History → Type 0
 FeedComesBack {Last} ends made last log =

@@ -8,8 +8,8 @@ use Rattle.debounce_access.specs.Happened.{History, Opened}
 use Rattle.debounce_access.specs.Stands.{Known}
 
 -- its watcher; with which feed that was made, and with which configuration, unless it is fed by hand; of which lock it
--- is; the history as far as it has seen it; the parts of the journal that were taken out, and whether none was; and what
--- was there of its handler at the start
+-- is; the history as far as it has seen it; the parts of the journal that were taken out, and whether none was; and
+-- what was there of its handler at the start
 pub record Shown (T L : Type 0) : Type 0 where
   pub watcher : T
   pub made : Option (Known × Config)

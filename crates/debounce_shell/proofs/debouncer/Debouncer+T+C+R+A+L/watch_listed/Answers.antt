@@ -7,6 +7,7 @@ returns-clause-seen g c =
     let lasts = c.root.ensures.lasts in
     let out = lasts.1 c.self.invariant.0 in
     rw (← c.self.view_is) (record {
+      made = refl;
       lock = lasts.0.lock;
       parts = ap entries_of out;
       is_whole = ap is_nil out;
