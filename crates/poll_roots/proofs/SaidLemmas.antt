@@ -42,7 +42,8 @@ says-once handles one e before after is handled = (e, is, handled)
 -- what is said is handed on by calls
 called-says : {H : Type 0} (handles : H → Result EventValue ErrorValue → H → Type 0) (closed : ClosedValue)
     (before after : H) → SaysEach handles closed before after → IsCalledOn handles before after
-called-says handles [] before after same = subst (λ h. IsCalledOn handles before h) (sym same) (called-none handles before)
+called-says handles [] before after same =
+    subst (λ h. IsCalledOn handles before h) (sym same) (called-none handles before)
 called-says handles (one ∷ others) before after says =
     called-then handles before says.0 after (called-once handles (Err says.1.0) before says.0 says.1.2)
     (called-says handles others says.0 after says.2)

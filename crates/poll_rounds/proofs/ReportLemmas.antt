@@ -38,7 +38,8 @@ goes_on {H} handles = λ begun last now next later trackers reported law r.
 -- events that are handed on one by one are calls
 pub called-each : {H : Type 0} (handles : H → Result EventValue ErrorValue → H → Type 0) (events : List EventValue)
     (before after : H) → HandsEach handles events before after → IsCalledOn handles before after
-called-each handles [] before after same = subst (λ h. IsCalledOn handles before h) (sym same) (called-none handles before)
+called-each handles [] before after same =
+    subst (λ h. IsCalledOn handles before h) (sym same) (called-none handles before)
 called-each handles (e ∷ es) before after h =
     called-then handles before h.0 after (called-once handles (Ok e) before h.0 h.1)
     (called-each handles es h.0 after h.2)
