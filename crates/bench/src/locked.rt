@@ -1,4 +1,6 @@
 //! What a debouncer that runs does under its lock: feeds, and turns of its worker.
+ghost use Rattle.std.specs.Prelude.{◌≡◌, true};
+
 use crate::events::{creations, modifications};
 use crate::workloads::Figures;
 use anyhow::Result;
@@ -42,7 +44,9 @@ fn feed_all<R: DebouncerRuntime + AllocGlobal>(
     feed: &mut Feed<NoCache, R>,
     events: Vec<Event>,
     n: u64,
-) -> Result<Figures> {
+) -> Result<Figures>
+    ensures lock { feed.new.lock ≡ feed.old.lock }
+{
     let start = Instant::now(rt)?;
     for event in events {
         feed.feed(Ok(event))?;
@@ -69,6 +73,7 @@ fn feed_pending<R: DebouncerRuntime + AllocGlobal>(
     owner: &mut Access<NoCache, Global>,
 ) -> Result<()>
     requires { owner.old.feeds ≡ true }
+    ensures rights { owner.new.tells ≡ owner.old.tells }
 {
     let mut feeding = Feeding::new(*rt, owner.feeding()?);
     for event in creations(rt.alloc(), PENDING)? {
