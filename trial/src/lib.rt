@@ -1,0 +1,7 @@
+//! Trial.
+#![tactic(auto)]
+pub mod a;
+
+pub mod d;
+
+pub mod g;
