@@ -73,12 +73,20 @@ const CASES: [(&str, &str); 10] = [
 fn moves_are_made_in_the_copy(rt: HostRuntime) {
     let id = process::id(rt.process());
     for (script, steps) in &CASES {
-        let room = Room::new(rt, "mirror_moves", id);
         let files = FakeFiles::new(rt, script).expect(&rt, "memory");
-        let mut mirror = mirror_of(rt, &room, files);
-        assert!(&rt; mirror.take(Ok(batch_of(rt, &room))).is_ok());
-        run_steps(rt, &room, &mut mirror, steps);
+        run_case(rt, id, files, steps);
     }
+}
+
+/// Copies what stands in the room, and does the steps.
+fn run_case<
+    R: Files + Env + Abort + AllocGlobal + Copy + Drop,
+    F: Files + Clock + AllocGlobal + Copy + Drop,
+>(rt: R, id: u32, files: F, steps: &str) {
+    let room = Room::new(rt, "mirror_moves", id);
+    let mut mirror = mirror_of(rt, &room, files);
+    take(rt, &mut mirror, batch_of(rt, &room));
+    run_steps(rt, &room, &mut mirror, steps);
 }
 
 /// Does the steps, one after the other.
