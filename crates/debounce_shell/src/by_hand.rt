@@ -52,11 +52,11 @@ impl<F: Send + Drop + 'static> Task for NoTask<F> {
     }
 }
 
-impl<
-    F: EventHandler<Result<Event<A>, Error<A>>> + Send,
-    R: Copy,
-    A: Allocator + Copy,
-> Watcher<F, R, A> for ByHand {
+impl<F: EventHandler<Result<Event<A>, Error<A>>> + Send, R: Copy, A: Allocator + Copy> Watcher<
+    F,
+    R,
+    A,
+> for ByHand {
     ghost use Rattle.std.specs.Prelude.{◌≡◌, Ok, false};
     ghost use Rattle.notify_watch.specs.declared.config.WatcherKind.TheVariants.{NullWatcher};
 

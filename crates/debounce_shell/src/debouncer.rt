@@ -120,7 +120,7 @@ impl<
     ghost invariant = { λ d. (d.shared.owner.keeps ≡ true)
         × (d.worker.promise.access.value.lock ≡ d.shared.owner.lock)
         × IfSome d.thread (λ t. (t.promise.made.handler.value.lock ≡ d.shared.owner.lock)
-            × StaysOfLock K.ends) };
+        × StaysOfLock K.ends) };
 }
 
 impl<
@@ -454,7 +454,7 @@ impl<
     pub fn finish(self) -> (Book<C, A>, u64)
         ensures ended { (left : L) × (last : Option T.Task.Last)
             × IsFinished C.rules T.Task.ends self.made last (L.tells self.began) left self.seen self.parts
-                result.0 result.1 }
+            result.0 result.1 }
         ensures legal { IfSome result.0.journal (λ es. IsLegal es result.0.core.state) }
         ensures part { IfSome result.0.part (λ es. IsPart es result.0.core.state) }
     {

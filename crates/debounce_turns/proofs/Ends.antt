@@ -101,10 +101,10 @@ module _ {L : Type 0} (tells : L → History → Type 0) (left : L) where
     fed = none_comes_back ends_so last (ends seen told parts book count all says).log;
   }
 
-  pub ends_journal : {A C : Type 0} {r : Rules C} (seen told : History) (res : Result (ℕ × Vec EntryValue A) ErrorValue)
+  pub ends_journal : {A C : Type 0} (r : Rules C) (seen told : History) (res : Result (ℕ × Vec EntryValue A) ErrorValue)
       → IfOk res (λ j. ToldJournal r seen told j.0 j.1.items) → tells left (picked is_emitting told)
       → IfOk res (λ j. (l : L) × EndsJournal r tells l seen j.0 j.1.items)
-  ends_journal {A} {C} {r} seen told (Ok j) (log, goes, begins, opened, (core, timeout, ran), all, same) says = (
+  ends_journal r seen told (Ok j) (log, goes, begins, opened, (core, timeout, ran), all, same) says = (
     left,
     record {
       log = log;
@@ -119,4 +119,4 @@ module _ {L : Type 0} (tells : L → History → Type 0) (left : L) where
       told = subst (tells left) same says;
     },
   )
-  ends_journal seen told (Err e) given says = tt
+  ends_journal r seen told (Err e) given says = tt

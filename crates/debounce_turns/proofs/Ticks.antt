@@ -6,7 +6,7 @@ use Rattle.notify_types.specs.Event.{Timed}
 use Rattle.notify_watch.specs.Handler.{Outcome}
 use Rattle.debounce_model.specs.Command.{ErrorsCommand, ErrorsReply}
 use Rattle.told_lock.specs.History.{picked}
-use Rattle.debounce_access.specs.Adds.{BatchMakes, ErrorsMake, Reads, TickMakes, TicksOn}
+use Rattle.debounce_access.specs.Adds.{BatchMakes, Reads, TickMakes, TicksOn}
 use Rattle.debounce_access.specs.Happened.{History, accepted, is_emitting}
 use Rattle.debounce_access.specs.Stands.{Known}
 use Rattle.debounce_turns.specs.Clock.{AreAmong}

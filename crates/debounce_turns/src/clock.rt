@@ -7,40 +7,41 @@ use notify_types::time::Moment;
 use std::alloc::Allocator;
 use std::io;
 use std::marker::Model;
-use std::snapshot::Snapshot;
 use std::time::{Clock, Instant};
+use told_lock::shown::Shown;
 
 /// A clock that counts from a start. Clauses see the moments that it has answered, in order: only
 /// [`Stopwatch::read`] adds one. Of how they pass std says nothing, and so no clause does.
 #[derive(Drop)]
 pub struct Stopwatch {
     start: Instant,
-    answers: Answers,
+    answers: Option<Shown<Answers>>,
 }
 
 impl Model for Stopwatch {
     ghost use Rattle.std.specs.Prelude.{List, ℕ};
+    ghost use Rattle.debounce_turns.specs.Clock.{answered};
 
     ghost Value = { List ℕ };
 
-    ghost view = { λ s. s.answers };
+    ghost view = { λ s. answered s.answers };
 }
 
-/// The answers of a clock, for clauses: of those before the last it has no bytes.
+/// The answers of a clock, for clauses. A clock keeps what clauses saw of them, which has no bytes.
 #[derive(Drop)]
 struct Answers {
-    before: Option<Snapshot<Answers>>,
+    before: Option<Shown<Answers>>,
     last: Moment,
 }
 
 impl Model for Answers {
-    ghost use Rattle.std.specs.Prelude.{List, ℕ, length};
+    ghost use Rattle.std.specs.Prelude.{List, [], ◌∷◌, ◌++◌, ℕ, length};
     ghost use Rattle.std.proofs.Common.{arith, length-append};
     ghost use Rattle.debounce_turns.specs.Clock.{answered};
 
     ghost Value = { List ℕ };
 
-    ghost view = { λ a. answered a.before a.last };
+    ghost view = { λ a. answered a.before ++ a.last ∷ [] };
 
     ghost size = { length };
 
@@ -54,10 +55,7 @@ impl Stopwatch {
     {
         Stopwatch {
             start,
-            answers: Answers {
-                before: None,
-                last: 0,
-            },
+            answers: None,
         }
     }
 
@@ -68,11 +66,11 @@ impl Stopwatch {
         ensures io { IfErr result IsIo }
     {
         let moment = now(rt, alloc, self.start)?;
-        let before = Snapshot::of(&self.answers);
-        self.answers = Answers {
-            before: Some(before),
+        let answers = Answers {
+            before: self.answers.take(),
             last: moment,
         };
+        self.answers = Some(Shown::of(&answers));
         Ok(moment)
     }
 }

@@ -19,10 +19,10 @@ use notify_watch::handler::EventHandler;
 use std::alloc::{Allocator, Global};
 use std::fs::Files;
 use std::marker::Model;
-use std::snapshot::Snapshot;
 use std::sync::atomic::Ordering;
 use std::sync::{Arc, Wait};
 use std::time::{Clock, Instant};
+use told_lock::shown::Shown;
 
 /// The handler that a debouncer gives to its watcher: it alone feeds events and errors to the book. Clauses
 /// see how much of the book's history it has seen, and what its clock has answered.
@@ -49,7 +49,7 @@ impl<C: FileIdCache<A> + Drop, R: Wait + Drop, A: Allocator> Model for Feed<C, R
 #[derive(Drop)]
 pub struct Receipt<C: FileIdCache<A> + Drop, A: Allocator = Global> {
     pass: BookPass<C, A>,
-    answers: Snapshot<Stopwatch>,
+    answers: Shown<Stopwatch>,
 }
 
 impl<C: FileIdCache<A> + Drop, A: Allocator> Model for Receipt<C, A> {

@@ -15,9 +15,9 @@ use notify_types::event::Event;
 use notify_types::time::Moment;
 use std::alloc::Allocator;
 use std::marker::Model;
-use std::snapshot::Snapshot;
 use std::sync::Wait;
 use std::time::Clock;
+use told_lock::shown::Shown;
 
 /// A feed's way to the book, by which alone is fed, and its clock. Clauses see how much of the book's history it
 /// has seen, and what the clock has answered.
@@ -62,11 +62,11 @@ impl<C: FileIdCache<A> + Drop, R: Wait + Drop, A: Allocator> Feeding<C, R, A> {
     }
 
     /// What its clock has answered, for whoever is to be shown it.
-    pub fn answers(&mut self) -> Snapshot<Stopwatch>
+    pub fn answers(&mut self) -> Shown<Stopwatch>
         ensures same { self.new ≡ self.old }
         ensures shown { result.value ≡ self.old.moments }
     {
-        Snapshot::of(&self.clock)
+        Shown::of(&self.clock)
     }
 
     /// What this way has seen, for whoever is to be shown it.
