@@ -18,4 +18,5 @@ returns g c = λ begun config made.
     found made rounds.ensures.works last.ensures.works in
     let reported = all_reported handles ready begun config handler now rounds.new.self.handler own
     rounds.new.self.own found made rounds.ensures.works last.ensures.works in
-    subst (λ h. EndsPolling handles begun config h found) (sym c.into_handler.ensures) (called, reported)
+    (subst (λ h. EndsPolling handles begun config h found) (sym c.into_handler.ensures) (called, reported),
+    last.ensures.tree)
