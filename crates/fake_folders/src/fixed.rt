@@ -15,7 +15,7 @@ use std::alloc::Allocator;
 use std::marker::PhantomData;
 
 /// A tree that a type tells.
-pub trait FixedTree<A: Allocator>: Send + Drop + 'static {
+pub trait FixedTree<A: Allocator> {
     /// What stands in it.
     ghost tree: { ListingValue };
 
@@ -27,7 +27,7 @@ pub trait FixedTree<A: Allocator>: Send + Drop + 'static {
 
 /// Folders that hold the tree of `K`, for a watcher's rounds. No link and no closed path is among them.
 #[derive(Drop)]
-pub struct FixedFolders<K: FixedTree<A>, A: Allocator> {
+pub struct FixedFolders<K: FixedTree<A> + Drop, A: Allocator> {
     inner: TreeFolders<A>,
     /// What is noted as closed.
     closed: Vec<Closed<A>, A>,
@@ -35,7 +35,7 @@ pub struct FixedFolders<K: FixedTree<A>, A: Allocator> {
     ghost fixed: { (inner.tree ≡ K.tree) × (closed.items ≡ []) },
 }
 
-impl<K: FixedTree<A>, A: Allocator + Copy> FixedFolders<K, A> {
+impl<K: FixedTree<A> + Drop, A: Allocator + Copy> FixedFolders<K, A> {
     /// Returns the folders. The error is `Memory`.
     pub fn new(alloc: A) -> Result<FixedFolders<K, A>, Error<A>>
         ensures { IfErr result (λ e. e ≡ out_of_memory) }
@@ -48,7 +48,7 @@ impl<K: FixedTree<A>, A: Allocator + Copy> FixedFolders<K, A> {
     }
 }
 
-impl<K: FixedTree<A>, A: Allocator + Copy> Folders<A> for FixedFolders<K, A> {
+impl<K: FixedTree<A> + Drop, A: Allocator + Copy> Folders<A> for FixedFolders<K, A> {
     ghost told = { λ folders. Some folders.inner.tree };
 
     ghost failed = { λ _. 0 };
@@ -66,7 +66,7 @@ impl<K: FixedTree<A>, A: Allocator + Copy> Folders<A> for FixedFolders<K, A> {
     }
 }
 
-impl<K: FixedTree<A>, A: Allocator + Copy> NotesClosed<A> for FixedFolders<K, A> {
+impl<K: FixedTree<A> + Drop, A: Allocator + Copy> NotesClosed<A> for FixedFolders<K, A> {
     ghost closed = { λ folders. folders.closed.items };
 
     fn closed(&self) -> &[Closed<A>] {
@@ -76,7 +76,7 @@ impl<K: FixedTree<A>, A: Allocator + Copy> NotesClosed<A> for FixedFolders<K, A>
     fn forget_closed(&mut self) {}
 }
 
-impl<K: FixedTree<A>, A: Allocator + Copy> RoundFolders<A> for FixedFolders<K, A> {
+impl<K: FixedTree<A> + Drop, A: Allocator + Copy> RoundFolders<A> for FixedFolders<K, A> {
     ghost tree = { Some K.tree };
 
     ghost left_out = { λ _. 0 };
