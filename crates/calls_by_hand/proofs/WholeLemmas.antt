@@ -44,8 +44,8 @@ plays-none old new same = λ whole. (
 -- some events, and then others
 plays-both : (old mid new : ReaderValue) (es fs : List Timed) → PlaysOn old mid es → PlaysOn mid new fs →
     PlaysOn old new (es ++ fs)
-plays-both old mid new es fs first then = λ whole.
-    let after = then whole in
+plays-both old mid new es fs first more = λ whole.
+    let after = more whole in
     let before = first after.0 in (
       before.0,
       after.1 ∙ ap (λ ps. play ps (events_of fs)) before.1
@@ -54,27 +54,27 @@ plays-both old mid new es fs first then = λ whole.
     )
 
 -- a batch, unless it is empty
-plays-batch : {A : Type 0} (old new : ReaderValue) (v : Vec Timed A) (xs : List Timed) → v.items ≡ xs →
-    HandsList xs old (λ (r : ReaderValue). Plays old (Ok v) r) new → PlaysOn old new xs
-plays-batch old new v [] is same = plays-none old new same
-plays-batch old new v (x ∷ xs) is plays = λ whole.
+plays-batch : (A : Type 0) (old new : ReaderValue) (v : Vec Timed A) (xs : List Timed) → v.items ≡ xs →
+    HandsList xs old (λ (r : ReaderValue). Plays {A = A} old (Ok v) r) new → PlaysOn old new xs
+plays-batch A old new v [] is same = plays-none old new same
+plays-batch A old new v (x ∷ xs) is plays = λ whole.
     let played = plays whole in
     (played.0, played.1 ∙ ap (λ es. play old.paths (events_of es)) is)
 
 -- errors, unless there are none
-plays-errors : {A : Type 0} (old new : ReaderValue) (v : Vec ErrorValue A) (xs : List ErrorValue) →
-    HandsList xs old (λ (r : ReaderValue). Plays {A} old (Err v) r) new → PlaysOn old new []
-plays-errors old new v [] same = plays-none old new same
-plays-errors old new v (x ∷ xs) plays = plays
+plays-errors : (A : Type 0) (old new : ReaderValue) (v : Vec ErrorValue A) (xs : List ErrorValue) →
+    HandsList xs old (λ (r : ReaderValue). Plays {A = A} old (Err v) r) new → PlaysOn old new []
+plays-errors A old new v [] same = plays-none old new same
+plays-errors A old new v (x ∷ xs) plays = plays
 
 -- what a reply gives
-plays-reply : {A : Type 0} (y : ReplyValue) (old new : ReaderValue) →
-    HandsReply {H = ReaderValue} {A = A} Plays y old new → PlaysOn old new (emitted (y ∷ []))
-plays-reply (BatchReply batch) old new h =
+plays-reply : (A : Type 0) (y : ReplyValue) (old new : ReaderValue) →
+    HandsReply {H = ReaderValue} {A = A} (Plays {A = A}) y old new → PlaysOn old new (emitted (y ∷ []))
+plays-reply A (BatchReply batch) old new h =
     subst (λ es. PlaysOn old new es) (sym (append-nil batch))
-    (subst (λ es. PlaysOn old new es) h.1 (plays-batch old new h.0 h.0.items refl h.2))
-plays-reply (ErrorsReply errors) old new h = plays-errors old new h.0 h.0.items h.2
-plays-reply y old new h = plays-none old new h
+    (subst (λ es. PlaysOn old new es) h.1 (plays-batch A old new h.0 h.0.items refl h.2))
+plays-reply A (ErrorsReply errors) old new h = plays-errors A old new h.0 h.0.items h.2
+plays-reply A y old new h = plays-none old new h
 
 -- what one reply emitted, and then the others
 emitted_one : (y : ReplyValue) (ys : List ReplyValue) → emitted (y ∷ ys) ≡ emitted (y ∷ []) ++ emitted ys
@@ -89,28 +89,30 @@ emitted_next (Accepted e) hs = emitted_one e.reply (replies_of (entries_of hs))
 emitted_next Missed hs = refl
 
 -- what happened
-plays-one : {A : Type 0} (h : HappenedValue) (old new : ReaderValue) →
-    HandsOne {H = ReaderValue} {A = A} Plays h old new → PlaysOn old new (emitted (replies_of (entry_in h)))
-plays-one (Opened timeout journaled) old new same = plays-none old new same
-plays-one {A} (Accepted e) old new hands = plays-reply {A} e.reply old new hands
-plays-one Missed old new same = plays-none old new same
+plays-one : (A : Type 0) (h : HappenedValue) (old new : ReaderValue) →
+    HandsOne {H = ReaderValue} {A = A} (Plays {A = A}) h old new →
+    PlaysOn old new (emitted (replies_of (entry_in h)))
+plays-one A (Opened timeout journaled) old new same = plays-none old new same
+plays-one A (Accepted e) old new hands = plays-reply A e.reply old new hands
+plays-one A Missed old new same = plays-none old new same
 
 -- all that was emitted
-plays-all : {A : Type 0} (hs : History) (old new : ReaderValue) →
-    Handed {H = ReaderValue} {A = A} Plays old hs new → PlaysOn old new (emitted (replies_of (entries_of hs)))
-plays-all [] old new same = plays-none old new same
-plays-all {A} (h ∷ hs) old new handed =
+plays-all : (A : Type 0) (hs : History) (old new : ReaderValue) →
+    Handed {H = ReaderValue} {A = A} (Plays {A = A}) old hs new →
+    PlaysOn old new (emitted (replies_of (entries_of hs)))
+plays-all A [] old new same = plays-none old new same
+plays-all A (h ∷ hs) old new handed =
     subst (λ es. PlaysOn old new es) (sym (emitted_next h hs))
     (plays-both old handed.0 new (emitted (replies_of (entry_in h))) (emitted (replies_of (entries_of hs)))
-    (plays-one {A} h old handed.0 handed.1) (plays-all {A} hs handed.0 new handed.2))
+    (plays-one A h old handed.0 handed.1) (plays-all A hs handed.0 new handed.2))
 
 -- so a reader that comes back tells so
 pub leaves_played : {A : Type 0} (reader : ReaderValue) →
-    LeavesAll {H = ReaderValue} {L = ReaderValue} {A = A} Plays (λ h l. l ≡ h) PlayedAll reader reader
+    LeavesAll {H = ReaderValue} {L = ReaderValue} {A = A} (Plays {A = A}) (λ h l. l ≡ h) PlayedAll reader reader
 leaves_played {A} reader = record {
   told = λ hs last left handed same.
       subst (λ (l : ReaderValue). PlayedAll reader l hs) (sym same)
-      (λ whole. (plays-all {A} hs reader last handed whole).1);
+      (λ whole. (plays-all A hs reader last handed whole).1);
 }
 
 -- who doesn't ask gets no batch
