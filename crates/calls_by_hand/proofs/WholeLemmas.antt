@@ -1,6 +1,6 @@
 -- A reader who is a debouncer's handler, and plays what waits at the end, has what the watcher's tree shows.
-use Rattle.std.proofs.Common.{◌≡◌, ◌∙◌, ◌+◌, ◌-◌, ◌^◌, ◌≤◌, ℕ, min, ap, arith, refl, sym, subst, Bool, true, false, if◌then◌else◌, List, [], ◌∷◌, ◌++◌, append-nil, None, Some}
-use Rattle.std.specs.Prelude.{Option, Ok, Err}
+use Rattle.std.proofs.Common.{◌≡◌, ◌∙◌, ◌+◌, ◌-◌, ◌^◌, ◌≤◌, ℕ, min, ap, arith, refl, sym, subst, Bool, true, false, true≢false, if◌then◌else◌, List, [], ◌∷◌, ◌++◌, append-nil, None, Some}
+use Rattle.std.specs.Prelude.{Option, Result, Ok, Err, IfOk, IfSome, IsSome}
 use Rattle.std.specs.Map.{keys_of}
 use Rattle.std.specs.declared.vec.Vec.{Vec}
 use Rattle.notify_paths.specs.Errors.{ErrorValue}
@@ -28,7 +28,8 @@ use Rattle.notify_poll.specs.Work.{EndsPolling, FindsTree}
 use Rattle.notify_poll.specs.declared.watcher.LastFound.{LastFound}
 use Rattle.poll_rounds.specs.Folders.{IsTree, shown}
 use Rattle.poll_rounds.specs.Reports.{Reported}
-use Rattle.calls_by_hand.specs.Whole.{BeganWithNothing, PlayedAll, Plays, ReaderValue, ReadsTree}
+use Rattle.calls_by_hand.specs.Whole.{BeganWithNothing, PlayedAll, Plays, ReaderValue, ReadsRest, ReadsTree}
+use Rattle.calls_by_hand.specs.declared.whole.ReadWhole.{ReadWhole}
 
 -- whose paths are whole had whole ones, and has played these events
 abbrev PlaysOn : ReaderValue → ReaderValue → List Timed → Type 0
@@ -183,3 +184,27 @@ reads_tree {A} law tree made last log state began left rest count paths nothing 
     ∙ ap (λ ps. play ps (events_of (emitted (replies_of (entries_of (picked is_emitting log)))))) fresh
     ∙ ap (λ es. play [] (events_of es)) (picked_emitted log _ state legal) in
     read ∙ ap (λ ps. play ps (events_of rest)) emits ∙ has ∙ ap keys_of (ends.1 well is_tree)
+
+-- a watcher's feed comes back with what was found last
+pub last_is : {A : Type 0} (tree : ListingValue) (made : Option (Known × Config)) (last : Option (LastFound A))
+    (log : History) → BeganWithNothing made → FeedComesBack (ends_fixed tree) made last log → IsSome last
+last_is {A} tree made last log nothing back =
+    subst (λ (l : Option (LastFound A)). IsSome l) (sym (back nothing.0 nothing.1 nothing.2).2) refl
+
+-- .. so what is read then is what the tree shows
+pub finish_reads : {A : Type 0} → ReaderHasTheLastListing → (tree : ListingValue) (made : Option (Known × Config))
+    (last : Option (LastFound A)) (log : History) (state : State) (began left : ReaderValue) (count : ℕ)
+    (r : Result (ReadWhole A) ErrorValue) → BeganWithNothing made → FeedComesBack (ends_fixed tree) made last log →
+    count ≡ min (missed_in log) (2 ^ 64 - 1) → IsLegal (entries_of log) state →
+    PlayedAll began left (picked is_emitting log) → began.paths ≡ [] →
+    IfOk r (λ all. IfSome last (λ l. (all.found ≡ l.polled) × (all.went_well ≡ l.went_well))) →
+    IfOk r (λ all. all.missed ≡ count) → IfOk r (λ all. ReadsRest state left all.paths) →
+    IfOk r (λ all. ReadsTree tree all.found.roots all.went_well all.missed all.paths)
+finish_reads law tree made last log state began left count (Err e) nothing back counted legal played fresh found
+    missed paths = tt
+finish_reads {A} law tree made None log state began left count (Ok all) nothing back counted legal played fresh found
+    missed paths = absurd (true≢false (sym (last_is {A = A} tree made None log nothing back)))
+finish_reads {A} law tree made (Some last) log state began left count (Ok all) nothing back counted legal played fresh
+    found missed paths = rw (found.0, found.1, missed)
+    (reads_tree {A = A} law tree made last log state began left paths.1 count all.paths nothing back counted legal played
+    fresh paths.0 paths.2 paths.3)

@@ -38,8 +38,9 @@ PlayedAll began left emitted_in = left.is_whole ≡ true →
 
 -- these are the paths of a reader with whole ones, once it has played what waits
 abbrev pub ReadsRest : State → ReaderValue → Paths → Type 0
-ReadsRest state reader paths = (reader.is_whole ≡ true)
-    × ((rest : List Timed) × IsOutlook state rest × (paths ≡ play reader.paths (events_of rest)))
+ReadsRest state reader paths =
+    (reader.is_whole ≡ true) × (rest : List Timed) × IsOutlook state rest
+    × (paths ≡ play reader.paths (events_of rest))
 
 -- the watcher was made with initial events, and with a feed that had fed nothing
 abbrev pub BeganWithNothing : Option (Known × Config) → Type 0

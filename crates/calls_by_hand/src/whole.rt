@@ -1,6 +1,6 @@
 //! A caller over the whole chain: a polling watcher over folders whose tree is told, with its thread, a debouncer with
 //! its own, and a reader who plays each batch, and then what waits.
-ghost use Rattle.std.specs.Prelude.{◌≡◌, [], IfErr, IfOk};
+ghost use Rattle.std.specs.Prelude.{◌≡◌, [], IfErr, IfOk, IfSome, IsSome};
 ghost use Rattle.notify_paths.specs.Errors.{out_of_memory};
 ghost use Rattle.calls_by_hand.specs.Whole.{BeganWithNothing, ReadsRest, ReadsTree};
 
@@ -100,17 +100,33 @@ pub fn finish_read<
     ensures err { IfErr result (λ e. e ≡ out_of_memory) }
 {
     law_of_one_feeder();
+    let finished = debouncer.finish_left();
+    read_all(alloc, finished)
+}
+
+/// What the reader has once it has played what waits.
+fn read_all<A: Allocator + Copy + Send + 'static>(
+    alloc: A,
+    finished: Finished<NoCache, Reader<A>, LastFound<A>, A>,
+) -> Result<ReadWhole<A>, Error<A>>
+    requires { IsSome finished.last }
+    ensures found { IfOk result (λ all. IfSome finished.last (λ last.
+        (all.found ≡ last.polled) × (all.went_well ≡ last.went_well))) }
+    ensures missed { IfOk result (λ all. all.missed ≡ finished.missed) }
+    ensures paths { IfOk result (λ all.
+        ReadsRest finished.book.core.state finished.left all.paths) }
+    ensures err { IfErr result (λ e. e ≡ out_of_memory) }
+{
     let Finished {
         book,
         missed,
         left,
         last,
-    } = debouncer.finish_left();
-    let Some(LastFound { polled, went_well }) = last else {
-        unreachable!();
-    };
+    } = finished;
+    let paths = read_rest(alloc, left, &book)?;
+    let LastFound { polled, went_well } = last.unwrap();
     Ok(ReadWhole {
-        paths: read_rest(alloc, left, &book)?,
+        paths,
         found: polled,
         went_well,
         missed,
