@@ -3,7 +3,7 @@ use Rattle.calls_by_hand.proofs.whole.finish_read.Goals as goal
 
 -- The watcher's feed came back with what was found last.
 pub read_all-requires : goal.read_all-requires
-read_all-requires g c =
+read_all-requires g c = λ κs within.
     let ended = c.finish_left-finished.ensures.ended in
     last_is g.K.FixedTree.tree c.args.debouncer.made c.finish_left-finished.result.last ended.ended.log c.requires.made
     ended.fed
