@@ -109,7 +109,7 @@ fn read_all<A: Allocator + Copy + Send + 'static>(
     alloc: A,
     finished: Finished<NoCache, Reader<A>, LastFound<A>, A>,
 ) -> Result<ReadWhole<A>, Error<A>>
-    requires { IsSome finished.last }
+    requires last { IsSome finished.last }
     ensures found { IfOk result (λ all. IfSome finished.last (λ last.
         (all.found ≡ last.polled) × (all.went_well ≡ last.went_well))) }
     ensures missed { IfOk result (λ all. all.missed ≡ finished.missed) }

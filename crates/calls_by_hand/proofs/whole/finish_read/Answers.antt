@@ -2,8 +2,8 @@ use Rattle.calls_by_hand.proofs.WholeLemmas.{finish_reads, last_is}
 use Rattle.calls_by_hand.proofs.whole.finish_read.Goals as goal
 
 -- The watcher's feed came back with what was found last.
-pub read_all-requires : goal.read_all-requires
-read_all-requires g c = λ κs within.
+pub read_all-requires-clause-last : goal.read_all-requires-clause-last
+read_all-requires-clause-last g c = λ κs within.
     let ended = c.finish_left-finished.ensures.ended in
     last_is g.K.FixedTree.tree c.args.debouncer.made c.finish_left-finished.result.last ended.ended.log c.requires.made
     ended.fed
