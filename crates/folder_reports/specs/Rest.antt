@@ -1,5 +1,5 @@
 -- What is left when a debouncer ends.
-use Rattle.std.specs.Prelude.{◌≡◌, ◌+◌, ◌-◌, ◌^◌, ℕ, min, List, [], ◌∷◌, ◌++◌, Option, Ok, Err}
+use Rattle.std.specs.Prelude.{◌≡◌, ◌+◌, ◌-◌, ◌^◌, ℕ, min, List, [], ◌∷◌, ◌++◌, Option, None, Ok, Err}
 use Rattle.std.specs.declared.alloc.Global.{Global}
 use Rattle.std.specs.declared.vec.Vec.{Vec}
 use Rattle.notify_paths.specs.Errors.{ErrorValue}
@@ -14,7 +14,7 @@ use Rattle.debounce_access.specs.Stands.{Known}
 use Rattle.file_id_cache.specs.declared.cache.NoCache.{NoCache}
 use Rattle.notify_debouncer_full.specs.Emitted.{FinishesReports}
 use Rattle.notify_poll.specs.declared.watcher.LastFound.{LastFound}
-use Rattle.notify_poll.specs.Work.{EndsPolling}
+use Rattle.notify_poll.specs.Work.{EndsPolling, FindsTree}
 use Rattle.notify_watch.specs.declared.config.Config.{Config}
 use Rattle.report_loop.specs.declared.source.Rest.{Rest}
 use Rattle.folder_reports.specs.Start.{Followed}
@@ -47,7 +47,9 @@ pub record IsRestOf {C : Type 0} (book : Kept C) (queue : List (Outcome Global))
 -- how the work of a folder's watcher ends: its feed was called, and with initial events with just what leads from
 -- nothing to what was found last
 abbrev pub ends_polling : Known → Config → Known → LastFound Global → Type 0
-ends_polling begun config now found = EndsPolling FeedsItem begun config now found.polled.last
+ends_polling begun config now found =
+    EndsPolling FeedsItem begun config now found.polled.last
+    × FindsTree None found.went_well found.polled.roots found.polled.last
 
 -- what is left when the debouncer ends of which this was seen, and whose queue gave this: one history goes on from what
 -- was seen, what was emitted in it was given or is left in the queue, each once and in order, it leads to the book, and

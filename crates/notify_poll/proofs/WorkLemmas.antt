@@ -1,8 +1,10 @@
 -- The parts of a thread's work, one after the other.
-use Rattle.std.proofs.Common.{◌≡◌, ℕ, Bool, true, false, refl, sym, subst, [], None, Some}
+use Rattle.std.proofs.Common.{◌≡◌, ℕ, Bool, true, false, refl, sym, subst, List, [], None, Some}
 use Rattle.std.specs.Prelude.{Option, Result}
 use Rattle.notify_paths.specs.Errors.{ErrorValue}
+use Rattle.notify_paths.specs.Path.{PathValue}
 use Rattle.notify_types.specs.Event.{EventValue}
+use Rattle.notify_types.specs.declared.event.RecursiveMode.{RecursiveMode}
 use Rattle.notify_watch.proofs.CallLemmas.{called-none, called-then}
 use Rattle.notify_watch.specs.Handler.{IsCalledOn}
 use Rattle.notify_watch.specs.declared.config.Config.{Config}
@@ -12,7 +14,7 @@ use Rattle.poll_rounds.specs.Closed.{ClosedValue}
 use Rattle.poll_rounds.specs.Reports.{Reported, Tells}
 use Rattle.poll_roots.proofs.SaidLemmas.{called-round, reported-round}
 use Rattle.poll_roots.specs.Said.{TellsAndSays}
-use Rattle.notify_poll.specs.Work.{IsUnbegun, LedToOwn, ReportsFromNothing, Works, WorksLast, exchanged, last_of}
+use Rattle.notify_poll.specs.Work.{FindsTree, IsUnbegun, LedToOwn, ReportsFromNothing, Works, WorksLast, exchanged, last_of}
 
 -- the handler is called, and what was reported leads on from the one listing to the other
 pub record Leads {H : Type 0} (handles : H → Result EventValue ErrorValue → H → Type 0) (old new : ListingValue)
@@ -108,3 +110,22 @@ all_reported handles ready begun config handler now meanwhile own between found 
     subst (λ o. LedToOwn handles begun o handler) (sym (unbegun.nothing initial))
     (subst (λ h. Reported handles begun [] h) (sym unbegun.same) (begins handles begun)) in
     last.reported begun (first.reported begun led)
+
+-- what is the same as a round that went well found is that too
+pub finds : (tree : Option ListingValue) (went_well told : Bool) (roots kept : List (PathValue × RecursiveMode))
+    (last found : ListingValue) → told ≡ went_well → kept ≡ roots → found ≡ last →
+    FindsTree tree went_well roots last → FindsTree tree told kept found
+finds tree went_well told roots kept last found tells keeps is finds_it = rw (tells, keeps, is) finds_it
+
+-- .. also where it gave way to the thread's own listing, if it has one
+pub finds_owned : (tree : Option ListingValue) (went_well : Bool) (lent own_left : Option ListingValue)
+    (roots kept : List (PathValue × RecursiveMode)) (last left : ListingValue) → kept ≡ roots →
+    left ≡ last_of lent last → own_left ≡ exchanged lent last → FindsTree tree went_well roots last →
+    FindsTree tree went_well kept (last_of own_left left)
+finds_owned tree went_well lent own_left roots kept last left keeps leaves owns =
+    finds tree went_well went_well roots kept last (last_of own_left left) refl keeps
+    (rw (leaves, owns) (by lent))
+  where
+    by : (own : Option ListingValue) → last_of (exchanged own last) (last_of own last) ≡ last
+    by None = refl
+    by (Some l) = refl

@@ -1,11 +1,14 @@
 -- What the thread of a polling watcher does to its handler, and to the last listing if it owns it.
-use Rattle.std.specs.Prelude.{◌≡◌, true, [], Option, None, Some, Result}
+use Rattle.std.specs.Prelude.{◌≡◌, Bool, true, List, [], Option, None, Some, Result}
 use Rattle.notify_paths.specs.Errors.{ErrorValue}
+use Rattle.notify_paths.specs.Path.{PathValue}
 use Rattle.notify_types.specs.Event.{EventValue}
+use Rattle.notify_types.specs.declared.event.RecursiveMode.{RecursiveMode}
 use Rattle.notify_watch.specs.Handler.{IsCalledOn}
 use Rattle.notify_watch.specs.declared.config.Config.{Config}
 use Rattle.folder_listing.specs.Listing.{ListingValue}
 use Rattle.poll_rounds.specs.Reports.{Reported}
+use Rattle.poll_roots.specs.Polled.{Shows}
 
 -- what was found last: the thread's own listing, if it has one, and else that under the lock
 abbrev pub last_of : Option ListingValue → ListingValue → ListingValue
@@ -54,3 +57,7 @@ abbrev pub EndsPolling : {H : Type 0} → (H → Result EventValue ErrorValue �
     ListingValue → Type 0
 EndsPolling handles begun config now found =
     IsCalledOn handles begun now × ReportsFromNothing handles begun config now found
+
+-- a round that went well found what the tree shows at the roots, if there is one
+abbrev pub FindsTree : Option ListingValue → Bool → List (PathValue × RecursiveMode) → ListingValue → Type 0
+FindsTree tree went_well roots found = went_well ≡ true → Shows tree roots found

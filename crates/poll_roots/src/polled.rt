@@ -11,7 +11,7 @@ ghost use Rattle.poll_rounds.specs.Closed.{LookKeeps, RoundKeeps};
 ghost use Rattle.poll_rounds.specs.Folders.{IsTree, shown};
 ghost use Rattle.poll_rounds.specs.Parts.{LooksEach};
 ghost use Rattle.poll_rounds.specs.Reports.{Reports, Tells};
-ghost use Rattle.poll_roots.specs.Polled.{IsThere, IsWatchRefusal, Lists, ShowsFirst, Watches, WatchesNext, is_watched, kept_by, other_roots, watch_not_found, with_root};
+ghost use Rattle.poll_roots.specs.Polled.{IsThere, IsWatchRefusal, Lists, Shows, ShowsFirst, Watches, WatchesNext, is_watched, kept_by, other_roots, watch_not_found, with_root};
 ghost use Rattle.poll_rounds.specs.Rounds.{HandsEach, HandsRefusal};
 
 use folder_listing::listing::Listing;
@@ -258,6 +258,8 @@ impl<A: Allocator + Copy> Polled<A> {
         ensures kept { result ≡ true →
             RoundKeeps (D.told folders.old) self.old.roots (D.closed folders.new) self.old.last
             self.new.last }
+        ensures shown { result ≡ true → D.closed folders.new ≡ [] →
+            Shows (D.told folders.old) self.old.roots self.new.last }
         ensures unchanged { result ≡ false → self.new.last ≡ self.old.last }
         ensures refused { result ≡ false →
             HandsRefusal H.handles (D.failed folders.old) (D.failed folders.new) handler.old
@@ -267,14 +269,17 @@ impl<A: Allocator + Copy> Polled<A> {
         ensures same { D.told folders.new ≡ D.told folders.old }
         ensures counted { D.failed folders.old ≤ D.failed folders.new }
     {
-        kept_round(
+        let went_well = kept_round(
             self.alloc,
             folders,
             self.roots.as_slice(),
             &mut self.last,
             trackers,
             handler,
-        )
+        );
+        // This call shows the proof that it is a listing.
+        let _entries = self.last.iter();
+        went_well
     }
 
     /// Looks at these paths alone, and below them, as [`kept_look`].

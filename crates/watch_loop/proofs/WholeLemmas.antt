@@ -79,7 +79,7 @@ led_to_last : (made : Option (Known × Config)) (last : Option (LastFound Global
 led_to_last made last log back begun config is initial =
     let came = back begun config is in (
       came.0,
-      subst (λ found. Reported FeedsItem begun found came.0) (sym (ap last_of came.2)) (came.3.1 initial),
+      subst (λ found. Reported FeedsItem begun found came.0) (sym (ap last_of came.2)) (came.3.0.1 initial),
       came.4,
     )
 

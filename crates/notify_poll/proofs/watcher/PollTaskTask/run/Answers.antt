@@ -17,5 +17,7 @@ returns g c = λ begun config made.
     let called = all_called handles ready begun config handler now rounds.new.self.handler own rounds.new.self.own
     found made rounds.ensures.works last.ensures.works in
     let reported = all_reported handles ready begun config handler now rounds.new.self.handler own
-    rounds.new.self.own found made rounds.ensures.works last.ensures.works in
-    subst (λ h. EndsPolling handles begun config h found) (sym c.into_handler.ensures) (called, reported)
+    rounds.new.self.own found made rounds.ensures.works last.ensures.works in (
+      subst (λ h. EndsPolling handles begun config h found) (sym c.into_handler.ensures) (called, reported),
+      last.ensures.tree,
+    )
