@@ -8,7 +8,7 @@ use Rattle.notify_watch.proofs.CallLemmas.{called-none, called-once, called-then
 use Rattle.notify_watch.specs.Handler.{IsCalledOn}
 use Rattle.folder_listing.specs.Listing.{ListingValue, IsListing}
 use Rattle.folder_listing.specs.Moves.{told_changes}
-use Rattle.poll_rounds.specs.Reports.{Tells, ReportAll, Reported, Begins, GoesOn, left_by}
+use Rattle.poll_rounds.specs.Reports.{Tells, ReportAll, Begins, GoesOn, left_by}
 use Rattle.poll_rounds.specs.Rounds.{HandsEach}
 
 -- one more step after others

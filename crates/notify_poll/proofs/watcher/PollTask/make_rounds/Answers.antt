@@ -1,12 +1,5 @@
-use Rattle.notify_poll.proofs.WorkLemmas.{idle, works-then}
+use Rattle.notify_poll.proofs.WorkLemmas.{works-then}
 use Rattle.notify_poll.proofs.watcher.PollTask.make_rounds.Goals as goal
-
-pub loop-init : goal.loop-init
-loop-init g c = record {
-  iterates = (tt, tt);
-  ready = c.requires;
-  works = idle g.F.EventHandler.handles c.args.self.now.own c.args.self.now.handler;
-}
 
 pub loop-preserved : goal.loop-preserved
 loop-preserved g c = record {
@@ -16,7 +9,7 @@ loop-preserved g c = record {
       c.args.self.now.handler c.loop.self.handler c.wait.new.self.handler c.loop.invariant.works c.wait.ensures.works;
 }
 
-pub returns-in-Some-clause-works : goal.returns-in-Some-clause-works
-returns-in-Some-clause-works g c =
+pub returns-in-Some-wait-clause-works : goal.returns-in-Some-wait-clause-works
+returns-in-Some-wait-clause-works g c =
     works-then g.F.EventHandler.handles c.args.self.now.own c.loop.self.own c.wait.new.self.own c.args.self.now.handler
     c.loop.self.handler c.wait.new.self.handler c.loop.invariant.works c.wait.ensures.works

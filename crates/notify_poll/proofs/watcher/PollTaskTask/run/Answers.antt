@@ -1,22 +1,21 @@
 -- The work from its beginning to its end.
 use Rattle.std.proofs.Common.{sym, subst}
+use Rattle.notify_poll.specs.Work.{EndsPolling}
 use Rattle.notify_poll.proofs.WorkLemmas.{all_called, all_reported}
 use Rattle.notify_poll.proofs.watcher.PollTaskTask.run.Goals as goal
 
-pub make_rounds-requires : goal.make_rounds-requires
-make_rounds-requires g c =
-    subst (λ h. g.F.EventHandler.ready h) (sym c.requires.2.same) c.requires.2.can_begin
-
-pub returns-clause-called : goal.returns-clause-called
-returns-clause-called g c = λ begun config made.
-    all_called g.F.EventHandler.handles g.F.EventHandler.ready begun config c.args.self.handler
-    c.find_last-found.new.self.handler c.make_rounds-looks_last.new.self.handler c.args.self.own
-    c.make_rounds-looks_last.new.self.own c.find_last-found.result.polled.last made
-    c.make_rounds-looks_last.ensures.works c.find_last-found.ensures.works
-
-pub returns-clause-ended : goal.returns-clause-ended
-returns-clause-ended g c = λ begun config made.
-    all_reported g.F.EventHandler.handles g.F.EventHandler.ready begun config c.args.self.handler
-    c.find_last-found.new.self.handler c.make_rounds-looks_last.new.self.handler c.args.self.own
-    c.make_rounds-looks_last.new.self.own c.find_last-found.result.polled.last made
-    c.make_rounds-looks_last.ensures.works c.find_last-found.ensures.works
+pub returns : goal.returns
+returns g c = λ begun config made.
+    let handles = g.F.EventHandler.handles in
+    let ready = g.F.EventHandler.ready in
+    let handler = c.args.self.handler in
+    let own = c.args.self.own in
+    let rounds = c.make_rounds-looks_last in
+    let last = c.find_last-found in
+    let found = last.result.polled.last in
+    let now = last.new.self.handler in
+    let called = all_called handles ready begun config handler now rounds.new.self.handler own rounds.new.self.own
+    found made rounds.ensures.works last.ensures.works in
+    let reported = all_reported handles ready begun config handler now rounds.new.self.handler own
+    rounds.new.self.own found made rounds.ensures.works last.ensures.works in
+    subst (λ h. EndsPolling handles begun config h found) (sym c.into_handler.ensures) (called, reported)
