@@ -1,5 +1,5 @@
 -- What a clock answers.
-use Rattle.std.specs.Prelude.{◌≡◌, ◌⊎◌, ℕ, List, [], ◌∷◌, ◌++◌, Option, Some, None}
+use Rattle.std.specs.Prelude.{◌≡◌, ◌⊎◌, ℕ, List, [], ◌∷◌, Option, Some, None}
 use Rattle.std.specs.declared.io.ErrorKind.{ErrorKind}
 use Rattle.told_lock.specs.declared.shown.Shown.{Shown}
 use Rattle.notify_paths.specs.Errors.{ErrorValue, IoKind}
