@@ -5,6 +5,7 @@ use crate::events::{creations, modifications};
 use crate::workloads::Figures;
 use anyhow::Result;
 use debounce_access::access::Access;
+use debounce_turns::clock::Stopwatch;
 use debounce_turns::feeding::Feeding;
 use debounce_turns::ticking::Ticking;
 use notify_debouncer_full::{
@@ -59,7 +60,8 @@ pub fn turn_in_vain<R: DebouncerRuntime + AllocGlobal>(rt: &R, n: u64) -> Result
     let book = Book::new(rt.alloc(), NoCache::new(), TIMEOUT);
     let mut owner = Access::open(rt.alloc(), book)?;
     feed_pending(rt, &mut owner)?;
-    let mut ticking = Ticking::new(*rt, owner.telling()?);
+    let clock = Stopwatch::new(Instant::now(rt)?);
+    let mut ticking = Ticking::new(*rt, owner.telling()?, clock);
     let figures = take_turns(rt, &mut ticking, n)?;
     Ok(Figures {
         checksum: owner.outlook(rt)?.len() as u64,
@@ -75,7 +77,8 @@ fn feed_pending<R: DebouncerRuntime + AllocGlobal>(
     requires { owner.old.feeds ≡ true }
     ensures rights { owner.new.tells ≡ owner.old.tells }
 {
-    let mut feeding = Feeding::new(*rt, owner.feeding()?);
+    let clock = Stopwatch::new(Instant::now(rt)?);
+    let mut feeding = Feeding::new(*rt, owner.feeding()?, clock);
     for event in creations(rt.alloc(), PENDING)? {
         feed_one(&mut feeding, Ok(event), 0, true)?;
     }

@@ -1,5 +1,5 @@
 //! Rounds and looks that keep what can't be looked at.
-ghost use Rattle.std.specs.Prelude.{◌≡◌, ◌≤◌, [], length, true, false, IfErr, IfOk, OnErr, OnOk};
+ghost use Rattle.std.specs.Prelude.{◌≡◌, ◌≤◌, [], length, true, false, Err, IfErr, IfOk, MatchResult, OnErr, OnOk};
 ghost use Rattle.notify_paths.specs.Errors.{out_of_memory};
 ghost use Rattle.folder_listing.specs.Moves.{told_changes, trackers_after};
 ghost use Rattle.folder_listing.specs.Updates.{IsUpdate, updated};
@@ -10,7 +10,7 @@ ghost use Rattle.poll_rounds.specs.Rounds.{HandsEach, HandsRefusal};
 use crate::folders::Folders;
 use crate::list::list_beside;
 use crate::look::list_near;
-use crate::round::hand_each;
+use crate::round::pass_on;
 use folder_listing::listing::Listing;
 use folder_listing::moves::{compare_moves, trackers_after};
 use folder_listing::updates::Updates;
@@ -138,19 +138,25 @@ fn renew_near_kept<A: Allocator + Copy, D: NotesClosed<A>>(
     settle(alloc, folders.closed(), trackers, last, updates)
 }
 
-/// Reports the events, in order, and keeps the first tracker that none of them can have.
-fn hand_told<A: Allocator, H: EventHandler<Result<Event<A>, Error<A>>>>(
-    events: Vec<Event<A>, A>,
+/// Reports what a walk came to as [`pass_on`], and keeps the first tracker that none of the events can have.
+fn pass_told<A: Allocator, H: EventHandler<Result<Event<A>, Error<A>>>>(
+    told: Result<Vec<Event<A>, A>, Error<A>>,
     trackers: &mut Option<u64>,
     handler: &mut H,
-)
+) -> bool
     requires { H.ready handler.old }
     ensures again { H.ready handler.new }
-    ensures handed { HandsEach H.handles events.items handler.old handler.new }
-    ensures trackers { trackers.new ≡ trackers_after trackers.old (length events.items) }
+    ensures handed { MatchResult told (λ events. (result ≡ true)
+        × HandsEach H.handles events.items handler.old handler.new)
+        (λ e. (result ≡ false) × H.handles handler.old (Err e) handler.new) }
+    ensures trackers { IfOk told (λ events.
+        trackers.new ≡ trackers_after trackers.old (length events.items)) }
+    ensures untold { OnErr told (trackers.new ≡ trackers.old) }
 {
-    *trackers = trackers_after(*trackers, events.len());
-    hand_each(events, handler);
+    if let Ok(events) = &told {
+        *trackers = trackers_after(*trackers, events.len());
+    }
+    pass_on(told, handler)
 }
 
 /// One round as [`poll_round`](crate::round::poll_round), but what the last listing has at a path that can't be looked
@@ -187,16 +193,8 @@ pub fn kept_round<
     ensures same { D.told folders.new ≡ D.told folders.old }
     ensures counted { D.failed folders.old ≤ D.failed folders.new }
 {
-    match renew_kept(alloc, folders, roots, last, *trackers) {
-        Ok(events) => {
-            hand_told(events, trackers, handler);
-            true
-        }
-        Err(error) => {
-            handler.handle_event(Err(error));
-            false
-        }
-    }
+    let told = renew_kept(alloc, folders, roots, last, *trackers);
+    pass_told(told, trackers, handler)
 }
 
 /// One look as [`look_round`](crate::look::look_round), which keeps as [`kept_round`] does.
@@ -229,14 +227,6 @@ pub fn kept_look<
     ensures same { D.told folders.new ≡ D.told folders.old }
     ensures counted { D.failed folders.old ≤ D.failed folders.new }
 {
-    match renew_near_kept(alloc, folders, roots, last, paths, *trackers) {
-        Ok(events) => {
-            hand_told(events, trackers, handler);
-            true
-        }
-        Err(error) => {
-            handler.handle_event(Err(error));
-            false
-        }
-    }
+    let told = renew_near_kept(alloc, folders, roots, last, paths, *trackers);
+    pass_told(told, trackers, handler)
 }

@@ -10,7 +10,7 @@ ghost use Rattle.poll_rounds.specs.Rounds.{HandsEach, HandsRefusal};
 use crate::beside::Beside;
 use crate::folders::Folders;
 use crate::part::{list_anew, top_of};
-use crate::round::hand_each;
+use crate::round::pass_on;
 use folder_listing::compare::compare_updates;
 use folder_listing::listing::Listing;
 use folder_listing::updates::Updates;
@@ -153,14 +153,6 @@ pub fn look_round<A: Allocator + Copy, D: Folders<A>, H: EventHandler<Result<Eve
     ensures same { D.told folders.new ≡ D.told folders.old }
     ensures counted { D.failed folders.old ≤ D.failed folders.new }
 {
-    match renew_near(alloc, folders, roots, last, paths) {
-        Ok(events) => {
-            hand_each(events, handler);
-            true
-        }
-        Err(error) => {
-            handler.handle_event(Err(error));
-            false
-        }
-    }
+    let told = renew_near(alloc, folders, roots, last, paths);
+    pass_on(told, handler)
 }

@@ -1,5 +1,5 @@
 //! One round of polling.
-ghost use Rattle.std.specs.Prelude.{◌≡◌, ◌≤◌, true, false, IfErr, IfOk, IfSome, OnErr, OnOk};
+ghost use Rattle.std.specs.Prelude.{◌≡◌, ◌≤◌, true, false, Err, IfErr, IfOk, IfSome, MatchResult, OnErr, OnOk};
 ghost use Rattle.poll_rounds.specs.Folders.{IsRefusal, IsTree, shown};
 ghost use Rattle.folder_listing.specs.Changes.{changes};
 ghost use Rattle.folder_listing.specs.Updates.{IsUpdate, updated};
@@ -27,6 +27,29 @@ pub fn hand_each<A: Allocator, H: EventHandler<Result<Event<A>, Error<A>>>>(
 {
     for event in events {
         handler.handle_event(Ok(event));
+    }
+}
+
+/// Reports what a walk over folders came to: each event, in order, or its one error. Returns whether it was no error.
+pub(crate) fn pass_on<A: Allocator, H: EventHandler<Result<Event<A>, Error<A>>>>(
+    told: Result<Vec<Event<A>, A>, Error<A>>,
+    handler: &mut H,
+) -> bool
+    requires { H.ready handler.old }
+    ensures again { H.ready handler.new }
+    ensures handed { MatchResult told (λ events. (result ≡ true)
+        × HandsEach H.handles events.items handler.old handler.new)
+        (λ e. (result ≡ false) × H.handles handler.old (Err e) handler.new) }
+{
+    match told {
+        Ok(events) => {
+            hand_each(events, handler);
+            true
+        }
+        Err(error) => {
+            handler.handle_event(Err(error));
+            false
+        }
     }
 }
 
@@ -96,14 +119,6 @@ pub fn poll_round<A: Allocator + Copy, D: Folders<A>, H: EventHandler<Result<Eve
     ensures same { D.told folders.new ≡ D.told folders.old }
     ensures counted { D.failed folders.old ≤ D.failed folders.new }
 {
-    match renew(alloc, folders, roots, last) {
-        Ok(events) => {
-            hand_each(events, handler);
-            true
-        }
-        Err(error) => {
-            handler.handle_event(Err(error));
-            false
-        }
-    }
+    let told = renew(alloc, folders, roots, last);
+    pass_on(told, handler)
 }
