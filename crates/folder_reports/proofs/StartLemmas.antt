@@ -17,10 +17,12 @@ use Rattle.notify_poll.specs.declared.watcher.LastFound.{LastFound}
 use Rattle.file_id_cache.specs.declared.cache.NoCache.{NoCache}
 use Rattle.notify_debouncer_full.specs.Emitted.{FinishesReports}
 use Rattle.report_loop.specs.declared.source.Rest.{Rest}
+use Rattle.report_queue.specs.Queue.{Giving}
 use Rattle.watch_pace.specs.declared.pace.Pace.{Pace}
 use Rattle.watch_program.specs.declared.fault.Fault.{Fault}
 use Rattle.folder_reports.specs.Rest.{IsLeft, IsRestOf, ends_polling}
-use Rattle.folder_reports.specs.Start.{AddsRoot, BeganWith, Followed, IsOpened}
+use Rattle.folder_reports.specs.Start.{AddsRoot, BeganWith, Followed, IsOpened, followed}
+use Rattle.folder_reports.specs.Waits.{Awaited}
 
 -- with one root
 pub opened_one : (pace : Pace) (path : PathValue) (mode : RecursiveMode) (before after : History) (s : Followed) →
@@ -48,19 +50,26 @@ began_with timeout initial config started opened made initial_is = (
   initial_is,
 )
 
--- what is left, if the rest could be had
-pub left_if : (s : Followed) (queue : List (Outcome Global)) (parts : List EntryValue) (book : Kept NoCache) →
+-- what is left of a debouncer and of the wait for its reports, if the rest could be had
+pub left_if : {T L : Type 0} (debouncer ended : Shown T L) (awaited : Awaited) (closed : Giving (Outcome Global)) →
+    ended ≡ debouncer → closed ≡ awaited.queue → (queue : List (Outcome Global)) (book : Kept NoCache)
     (missed unsent : ℕ) (last : Option (LastFound Global)) →
-    FinishesReports ends_polling s.made last s.seen parts s.awaited.queue.given queue unsent book missed →
-    (rest : Result Rest Fault) → IfOk rest (IsRestOf book queue missed unsent) → IfOk rest (IsLeft s)
-left_if s queue parts book missed unsent last ended (Ok rest) is = record {
+    FinishesReports ends_polling ended.made last ended.seen ended.parts closed.given queue unsent book missed →
+    (rest : Result Rest Fault) → IfOk rest (IsRestOf book queue missed unsent) →
+    IfOk rest (IsLeft (followed debouncer awaited))
+left_if {T} {L} debouncer ended awaited closed same waits queue book missed unsent last finished (Ok rest) is = record {
   book = book;
-  parts = parts;
+  parts = debouncer.parts;
   queue = queue;
   missed = missed;
   unsent = unsent;
   last = last;
-  ended = ended;
+  ended = subst
+      (λ (d : Shown T L). FinishesReports ends_polling d.made last d.seen d.parts awaited.queue.given
+      queue unsent book missed) same
+      (subst
+      (λ (q : Giving (Outcome Global)). FinishesReports ends_polling ended.made last ended.seen ended.parts q.given
+      queue unsent book missed) waits finished);
   rest_is = is;
 }
-left_if s queue parts book missed unsent last ended (Err fault) is = tt
+left_if debouncer ended awaited closed same waits queue book missed unsent last finished (Err fault) is = tt

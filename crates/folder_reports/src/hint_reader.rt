@@ -164,7 +164,16 @@ pub(crate) fn start_hints<R: DebouncerRuntime>(
 }
 
 /// Starts a thread that passes over standard input, and says when that has ended.
-pub(crate) fn start_skipping<R: DebouncerRuntime>(rt: R, input: InputEnd) -> Result<(), Fault>
+pub(crate) fn start_skipping<
+    R: Threads
+        + Wait
+        + Files<File: Send + Sync + 'static, Dir: Send + Sync + 'static>
+        + Copy
+        + Drop
+        + Send
+        + Sync
+        + 'static,
+>(rt: R, input: InputEnd) -> Result<(), Fault>
     ensures err { IfErr result (λ e. e ≡ NoThread) }
 {
     let task = SkipTask { rt, input };

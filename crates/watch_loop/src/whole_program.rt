@@ -52,7 +52,7 @@ pub fn run_program<
     ensures run { ((result ≡ 2) ⊎ (result ≡ 4)) ⊎ ((words : List (List ℕ))
         × (command : Result Command AllocError)
         × IfOk command (λ c. ids_of c ≡ option_ids ++ codes "until-eof" ∷ [])
-        × EndsAt command words (RunsFolder P.begins P.takes program) result) }
+        × EndsAt command words (RunsFolder P.begins P.takes P.wants program) result) }
 {
     match words_of(&rt) {
         Ok(words) => {
@@ -74,7 +74,7 @@ pub fn run_program_of_two<
     ensures run { ((result ≡ 2) ⊎ (result ≡ 4)) ⊎ ((words : List (List ℕ))
         × (command : Result Command AllocError)
         × IfOk command (λ c. ids_of c ≡ option_ids ++ codes "second" ∷ codes "until-eof" ∷ [])
-        × EndsAt command words (RunsFolder P.begins P.takes program) result) }
+        × EndsAt command words (RunsFolder P.begins P.takes P.wants program) result) }
 {
     match words_of(&rt) {
         Ok(words) => {
@@ -133,7 +133,7 @@ fn run_line<
 ) -> u8
     ensures status { IsStatus result }
     ensures run { EndsAt line.entry (map string_bytes words.entry.now)
-        (RunsFolder P.begins P.takes program) result }
+        (RunsFolder P.begins P.takes P.wants program) result }
 {
     let matches = match matches_of(&rt, line, words) {
         Ok(matches) => matches,
@@ -165,7 +165,7 @@ fn run_at<R: DebouncerRuntime + AllocGlobal + Eprint, P: TakesBatches, E: Write 
     mut err: E,
 ) -> u8
     ensures status { IsStatus result }
-    ensures run { (answer : Answer) × RunsFolder P.begins P.takes program matches.now answer
+    ensures run { (answer : Answer) × RunsFolder P.begins P.takes P.wants program matches.now answer
         × (result ≡ end_status answer) }
 {
     match places_of_line(&rt, matches) {
@@ -233,7 +233,7 @@ fn watch<R: DebouncerRuntime + AllocGlobal + Eprint, P: TakesBatches, E: Write +
     closed: &ClosedPaths,
     taker: &mut BatchTaker<'_, P, E>,
 ) -> Result<(), Fault>
-    ensures { RunsOver P.begins P.takes matches.now taker.old result taker.new }
+    ensures { RunsOver P.begins P.takes P.wants matches.now taker.old result taker.new }
 {
     let pace = Pace {
         initial: taker.wants_initial(),
