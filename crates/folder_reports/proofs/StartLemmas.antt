@@ -1,5 +1,5 @@
 -- A folder's reports, as they begin and as they end.
-use Rattle.std.proofs.Common.{◌≡◌, ℕ, Bool, false, List, [], ◌∷◌, Option, Result, Ok, Err, ap, subst, sym}
+use Rattle.std.proofs.Common.{◌≡◌, ℕ, false, List, [], ◌∷◌, Option, Result, Ok, Err, subst, sym}
 use Rattle.std.specs.Duration.{as_nanos}
 use Rattle.std.specs.Prelude.{IfOk}
 use Rattle.std.specs.declared.alloc.Global.{Global}
@@ -7,12 +7,10 @@ use Rattle.notify_paths.specs.Path.{PathValue}
 use Rattle.notify_types.specs.declared.event.RecursiveMode.{RecursiveMode}
 use Rattle.notify_watch.specs.Handler.{Outcome}
 use Rattle.debounce_book.specs.Book.{Kept}
-use Rattle.debounce_book.specs.Journal.{EntryValue}
-use Rattle.notify_watch.specs.declared.config.Config.{Config}
-use Rattle.told_lock.specs.History.{Begins, picked}
+use Rattle.told_lock.specs.History.{Begins}
 use Rattle.told_lock.proofs.Moves.{begins_self}
-use Rattle.debounce_access.specs.Happened.{History, Opened, is_fed}
-use Rattle.debounce_turns.specs.Running.{IsMadeWith, Shown}
+use Rattle.debounce_access.specs.Happened.{History, Opened}
+use Rattle.debounce_turns.specs.Running.{Shown}
 use Rattle.notify_poll.specs.declared.watcher.LastFound.{LastFound}
 use Rattle.file_id_cache.specs.declared.cache.NoCache.{NoCache}
 use Rattle.notify_debouncer_full.specs.Emitted.{FinishesReports}
@@ -37,18 +35,6 @@ opened_one pace path mode before after s is began adds seen given = record {
   );
   given = given;
 }
-
--- a watcher that was made with what is known of a history that has just begun
-pub began_with : {T L : Type 0} (timeout : ℕ) (initial : Bool) (config : Config) (started : Shown T L) →
-    started.seen ≡ Opened timeout false ∷ [] → IsMadeWith config started → config.initial_events ≡ initial →
-    BeganWith initial started.made
-began_with timeout initial config started opened made initial_is = (
-  record { lock = started.lock; seen = started.seen; moments = [] },
-  config,
-  made,
-  ap (λ seen. picked is_fed seen) opened,
-  initial_is,
-)
 
 -- what is left of a debouncer and of the wait for its reports, if the rest could be had
 pub left_if : {T L : Type 0} (debouncer ended : Shown T L) (awaited : Awaited) (closed : Giving (Outcome Global)) →
