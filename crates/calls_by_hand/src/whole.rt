@@ -1,35 +1,34 @@
 //! A caller over the whole chain: a polling watcher over folders whose tree is told, with its thread, a debouncer with
-//! its own, and a reader who plays each batch, and then what waits.
-ghost use Rattle.std.specs.Prelude.{◌≡◌, [], IfErr, IfOk, IfSome, IsSome};
+//! its own, its reports, and a reader who plays each batch, and then what waits.
+ghost use Rattle.std.specs.Prelude.{◌≡◌, [], IfErr, IfOk, OnErr, OnOk};
 ghost use Rattle.notify_paths.specs.Errors.{out_of_memory};
-ghost use Rattle.calls_by_hand.specs.Whole.{BeganWithNothing, ReadsRest, ReadsTree};
+ghost use Rattle.debounce_model.specs.Play.{events_of, play};
+ghost use Rattle.notify_debouncer_full.specs.Emitted.{batch_of, plain};
+ghost use Rattle.calls_by_hand.specs.Whole.{BeganWithNothing, IsReadError, ReadsRest, ReadsTree, read_on};
 
 use crate::fixed_watcher::FixedWatcher;
-use crate::reader::Reader;
 use debounce_book::book::Book;
-use debounce_shell::debouncer::{Debouncer, Finished, new_told_debouncer};
 use derived_laws::feeder::law_of_one_feeder;
 use fake_folders::fixed::FixedTree;
 use file_id_cache::cache::NoCache;
+use notify_debouncer_full::{DebouncerAllocator, DebouncerRuntime, LastReports, Reports};
 use notify_paths::error::Error;
 use notify_paths::path::PathBuf;
 use notify_poll::watcher::LastFound;
 use notify_types::event::RecursiveMode;
 use notify_watch::config::Config;
+use notify_watch::handler::DebounceEventResult;
 use path_sets::PathSet;
 use poll_roots::polled::Polled;
 use std::alloc::Allocator;
-use std::fs::Files;
-use std::sync::Wait;
-use std::thread::Threads;
-use std::time::{Clock, Duration};
+use std::time::Duration;
 
-/// A debouncer whose watcher looks at folders that hold the tree of `K`, and whose handler is a reader.
-pub type ReadDebouncer<K, R, A> = Debouncer<FixedWatcher<K, R, A>, NoCache, R, A, Reader<A>>;
+/// The reports of a debouncer whose watcher looks at folders that hold the tree of `K`.
+pub type FixedReports<K, R, A> = Reports<FixedWatcher<K, R, A>, R, A>;
 
 /// What a reader has at the end.
 #[derive(Drop)]
-pub struct ReadWhole<A: Allocator> {
+pub struct ReadWhole<A: DebouncerAllocator> {
     /// Its paths, once it has played all.
     pub paths: PathSet<A>,
     /// The roots, and what the watcher found last.
@@ -38,116 +37,113 @@ pub struct ReadWhole<A: Allocator> {
     pub went_well: bool,
     /// How many events and errors of the watcher were missed.
     pub missed: u64,
+    /// How many reports could not be put into the queue.
+    pub unsent: u64,
 }
 
-/// Starts such a debouncer, which begins with nothing, and watches the path.
-pub fn start_read<
+/// Watches the path in such folders, of which nothing is known at first. It plays the first report, if one comes within
+/// the patience; then it stops the debouncer after one more round, and plays the other reports, and what waits. If
+/// nothing was missed or unsent and the last round went well, its paths are those of what the tree shows at the roots.
+///
+/// The error is `Memory`, Io if a thread can't be started or a clock can't be read, or says why the path isn't watched.
+pub fn read_tree<
     K: FixedTree<A> + Drop + Send + 'static,
-    R: Threads
-        + Wait
-        + Clock
-        + Files<File: Send + Sync + 'static, Dir: Send + Sync + 'static>
-        + Alloc<A: Send + Sync + 'static>
-        + Copy
-        + Send
-        + Sync
-        + 'static,
-    A: Allocator + Copy + Send + Sync + 'static,
+    R: DebouncerRuntime,
+    A: DebouncerAllocator,
 >(
     rt: R,
     alloc: A,
     timeout: Duration,
     path: &PathBuf<A>,
     mode: RecursiveMode,
-) -> Result<ReadDebouncer<K, R, A>, Error<A>>
-    ensures made { IfOk result (λ d. BeganWithNothing d.made) }
-    ensures began { IfOk result (λ d. d.began.paths ≡ []) }
+    patience: Duration,
+) -> Result<ReadWhole<A>, Error<A>>
+    ensures ok { IfOk result (λ all.
+        ReadsTree K.tree all.found.roots all.went_well all.missed all.unsent all.paths) }
+    ensures err { IfErr result IsReadError }
 {
-    let config = Config::default().with_initial_events(true);
-    let reader = Reader::new(alloc);
-    let mut debouncer: ReadDebouncer<K, R, A> = new_told_debouncer(
-        rt,
-        alloc,
-        timeout,
-        None,
-        reader,
-        NoCache::new(),
-        config,
-    )?;
-    debouncer.watch(path, mode)?;
-    Ok(debouncer)
+    let mut reports = watch_fixed::<K, R, A>(rt, alloc, timeout, path, mode)?;
+    let mut paths = PathSet::new(alloc);
+    if let Some(report) = reports.next_within(patience) {
+        play_report(&mut paths, &report)?;
+    }
+    finish_read(reports, paths)
 }
 
-/// Stops it after one more round, and plays what waits then. If no event was missed and that round went well, the paths
-/// are those of what the tree shows at the roots. The error is `Memory`.
-pub fn finish_read<
-    K: FixedTree<A> + Drop + Send + 'static,
-    R: Threads
-        + Wait
-        + Clock
-        + Files<File: Send + Sync + 'static, Dir: Send + Sync + 'static>
-        + Alloc<A: Send + Sync + 'static>
-        + Copy
-        + Send
-        + Sync
-        + 'static,
-    A: Allocator + Copy + Send + Sync + 'static,
->(alloc: A, debouncer: ReadDebouncer<K, R, A>) -> Result<ReadWhole<A>, Error<A>>
-    requires made { BeganWithNothing debouncer.made }
-    requires began { debouncer.began.paths ≡ [] }
+/// Starts reports over such folders, which begin with nothing, and watches the path.
+fn watch_fixed<K: FixedTree<A> + Drop + Send + 'static, R: DebouncerRuntime, A: DebouncerAllocator>(
+    rt: R,
+    alloc: A,
+    timeout: Duration,
+    path: &PathBuf<A>,
+    mode: RecursiveMode,
+) -> Result<FixedReports<K, R, A>, Error<A>>
+    ensures made { IfOk result (λ r. BeganWithNothing r.debouncer.made) }
+    ensures given { IfOk result (λ r. r.queue.given ≡ []) }
+    ensures err { IfErr result IsReadError }
+{
+    let config = Config::default().with_initial_events(true);
+    let mut reports: FixedReports<K, R, A> = Reports::start(rt, alloc, timeout, None, config)?;
+    reports.watch(path, mode)?;
+    Ok(reports)
+}
+
+/// Plays a report, if it is a batch.
+fn play_report<A: DebouncerAllocator>(
+    paths: &mut PathSet<A>,
+    report: &DebounceEventResult<A>,
+) -> Result<(), Error<A>>
+    ensures ok { OnOk result (paths.new ≡ play paths.old (events_of (batch_of (plain report.now)))) }
+    ensures unchanged { OnErr result (paths.new ≡ paths.old) }
+    ensures err { IfErr result (λ e. e ≡ out_of_memory) }
+{
+    match report {
+        Ok(batch) => paths.play(batch.as_slice()),
+        Err(_errors) => Ok(()),
+    }
+}
+
+/// Stops the debouncer, and plays what was not played yet.
+fn finish_read<K: FixedTree<A> + Drop + Send + 'static, R: DebouncerRuntime, A: DebouncerAllocator>(
+    reports: FixedReports<K, R, A>,
+    paths: PathSet<A>,
+) -> Result<ReadWhole<A>, Error<A>>
+    requires made { BeganWithNothing reports.debouncer.made }
+    requires played { paths ≡ read_on [] reports.queue.given }
     ensures ok { IfOk result (λ all.
-        ReadsTree K.tree all.found.roots all.went_well all.missed all.paths) }
+        ReadsTree K.tree all.found.roots all.went_well all.missed all.unsent all.paths) }
     ensures err { IfErr result (λ e. e ≡ out_of_memory) }
 {
     law_of_one_feeder();
-    let finished = debouncer.finish_left();
-    read_all(alloc, finished)
-}
-
-/// What the reader has once it has played what waits.
-fn read_all<A: Allocator + Copy + Send + 'static>(
-    alloc: A,
-    finished: Finished<NoCache, Reader<A>, LastFound<A>, A>,
-) -> Result<ReadWhole<A>, Error<A>>
-    requires last { IsSome finished.last }
-    ensures found { IfOk result (λ all. IfSome finished.last (λ last.
-        (all.found ≡ last.polled) × (all.went_well ≡ last.went_well))) }
-    ensures missed { IfOk result (λ all. all.missed ≡ finished.missed) }
-    ensures paths { IfOk result (λ all.
-        ReadsRest finished.book.core.state finished.left all.paths) }
-    ensures err { IfErr result (λ e. e ≡ out_of_memory) }
-{
-    let Finished {
+    let LastReports {
+        queue,
         book,
         missed,
-        left,
+        unsent,
         last,
-    } = finished;
-    let paths = read_rest(alloc, left, &book)?;
+    } = reports.finish();
+    let paths = read_rest(paths, queue.as_slice(), &book)?;
     let LastFound { polled, went_well } = last.unwrap();
     Ok(ReadWhole {
         paths,
         found: polled,
         went_well,
         missed,
+        unsent,
     })
 }
 
-/// The reader's paths, once it has played what waits.
-fn read_rest<A: Allocator + Copy>(
-    alloc: A,
-    reader: Reader<A>,
+/// The reader's paths, once it has played these reports, and then what waits.
+fn read_rest<A: DebouncerAllocator>(
+    mut paths: PathSet<A>,
+    reports: &[DebounceEventResult<A>],
     book: &Book<NoCache, A>,
 ) -> Result<PathSet<A>, Error<A>>
-    ensures ok { IfOk result (ReadsRest book.now.core.state reader) }
+    ensures ok { IfOk result (ReadsRest book.now.core.state reports.now paths.entry) }
     ensures err { IfErr result (λ e. e ≡ out_of_memory) }
 {
-    let Reader {
-        mut paths,
-        is_whole,
-    } = reader;
-    if !is_whole {
-        return Err(Error::out_of_memory(alloc));
+    for report in reports {
+        play_report(&mut paths, report)?;
     }
     let outlook = book.outlook()?;
     paths.play(outlook.as_slice())?;

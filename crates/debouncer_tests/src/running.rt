@@ -1,8 +1,8 @@
 //! A watcher that polls.
 use crate::build::path;
 use notify_debouncer_full::{
-    Config, DebouncerRuntime, Error, Event, EventHandler, Made, PollWatcher, RecursiveMode, Watcher,
-    start_task,
+    Config, DebouncerRuntime, Error, Event, EventHandler, Made, PollWatcher, RecursiveMode,
+    Watcher, start_task,
 };
 use std::alloc::Global;
 use std::process::Abort;
@@ -67,8 +67,9 @@ fn use_watcher<R: DebouncerRuntime + AllocGlobal + Abort>(rt: R, dropped: &Arc<A
         dropped: Arc::try_clone(dropped).expect(&rt, "memory"),
     };
     let made = Made::of(&handler, config);
-    let (mut watcher, task) =
-        PollWatcher::new(rt, rt.alloc(), handler, config).expect(&rt, "memory");
+    let (mut watcher, task) = PollWatcher::new(rt, rt.alloc(), handler, config).expect(
+        &rt, "memory",
+    );
     check_watches::<R, _>(&rt, &mut watcher);
     start_task(&rt, rt.alloc(), task, made).expect(&rt, "a thread");
     thread::sleep(&rt, Duration::from_millis(10));

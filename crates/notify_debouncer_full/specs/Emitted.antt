@@ -38,6 +38,16 @@ abbrev pub reports_of : History → List Report
 reports_of [] = []
 reports_of (h ∷ hs) = reports_at h ++ reports_of hs
 
+-- the events of a report: those of a batch
+abbrev pub batch_of : Report → List Timed
+batch_of (Ok batch) = batch
+batch_of (Err errors) = []
+
+-- .. of all these reports, in order
+abbrev pub events_in : List Report → List Timed
+events_in [] = []
+events_in (report ∷ reports) = batch_of report ++ events_in reports
+
 module _ {A : Type 0} where
   -- what the report has
   abbrev pub plain : Outcome A → Report

@@ -1,5 +1,6 @@
 -- What a round of polling reports to its handler.
-use Rattle.std.specs.Prelude.{◌≡◌, ℕ, List, [], ◌∷◌, Result, Ok, Err}
+use Rattle.std.specs.Prelude.{◌≡◌, ℕ, Bool, true, false, List, [], ◌∷◌, Result, Ok, Err, MatchResult}
+use Rattle.std.specs.declared.vec.Vec.{Vec}
 use Rattle.notify_paths.specs.Errors.{ErrorValue}
 use Rattle.poll_rounds.specs.Folders.{IsRefusal}
 
@@ -13,3 +14,11 @@ HandsEach {H} handles (x ∷ xs) before after = (between : H) × handles before 
 abbrev pub HandsRefusal : {H X : Type 0} → (H → Result X ErrorValue → H → Type 0) → ℕ → ℕ → H → H → Type 0
 HandsRefusal handles failed failed_now before after =
     (e : ErrorValue) × IsRefusal e failed failed_now × handles before (Err e) after
+
+-- what a walk came to is reported: its events, in order, or its one error; the answer is whether it was no error
+abbrev pub HandsOutcome : {H X A : Type 0} → (H → Result X ErrorValue → H → Type 0) → Result (Vec X A) ErrorValue → Bool
+    → H → H → Type 0
+HandsOutcome handles outcome went_well before after =
+    MatchResult outcome
+    (λ events. (went_well ≡ true) × HandsEach handles events.items before after)
+    (λ e. (went_well ≡ false) × handles before (Err e) after)

@@ -1,11 +1,11 @@
 //! Rounds and looks that keep what can't be looked at.
-ghost use Rattle.std.specs.Prelude.{◌≡◌, ◌≤◌, [], length, true, false, Err, IfErr, IfOk, MatchResult, OnErr, OnOk};
+ghost use Rattle.std.specs.Prelude.{◌≡◌, ◌≤◌, [], length, true, false, IfErr, IfOk, OnErr, OnOk};
 ghost use Rattle.notify_paths.specs.Errors.{out_of_memory};
 ghost use Rattle.folder_listing.specs.Moves.{told_changes, trackers_after};
 ghost use Rattle.folder_listing.specs.Updates.{IsUpdate, updated};
 ghost use Rattle.poll_rounds.specs.Closed.{ClosedValue, IsKept, LookKeeps, RoundKeeps, is_kept, keeps};
 ghost use Rattle.poll_rounds.specs.Folders.{IsRefusal};
-ghost use Rattle.poll_rounds.specs.Rounds.{HandsEach, HandsRefusal};
+ghost use Rattle.poll_rounds.specs.Rounds.{HandsEach, HandsOutcome, HandsRefusal};
 
 use crate::folders::Folders;
 use crate::list::list_beside;
@@ -146,9 +146,7 @@ fn pass_told<A: Allocator, H: EventHandler<Result<Event<A>, Error<A>>>>(
 ) -> bool
     requires { H.ready handler.old }
     ensures again { H.ready handler.new }
-    ensures handed { MatchResult told (λ events. (result ≡ true)
-        × HandsEach H.handles events.items handler.old handler.new)
-        (λ e. (result ≡ false) × H.handles handler.old (Err e) handler.new) }
+    ensures handed { HandsOutcome H.handles told result handler.old handler.new }
     ensures trackers { IfOk told (λ events.
         trackers.new ≡ trackers_after trackers.old (length events.items)) }
     ensures untold { OnErr told (trackers.new ≡ trackers.old) }

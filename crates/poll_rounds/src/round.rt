@@ -1,9 +1,9 @@
 //! One round of polling.
-ghost use Rattle.std.specs.Prelude.{◌≡◌, ◌≤◌, true, false, Err, IfErr, IfOk, IfSome, MatchResult, OnErr, OnOk};
+ghost use Rattle.std.specs.Prelude.{◌≡◌, ◌≤◌, true, false, IfErr, IfOk, IfSome, OnErr, OnOk};
 ghost use Rattle.poll_rounds.specs.Folders.{IsRefusal, IsTree, shown};
 ghost use Rattle.folder_listing.specs.Changes.{changes};
 ghost use Rattle.folder_listing.specs.Updates.{IsUpdate, updated};
-ghost use Rattle.poll_rounds.specs.Rounds.{HandsEach, HandsRefusal};
+ghost use Rattle.poll_rounds.specs.Rounds.{HandsEach, HandsOutcome, HandsRefusal};
 
 use crate::folders::Folders;
 use crate::list::list_beside;
@@ -37,9 +37,7 @@ pub(crate) fn pass_on<A: Allocator, H: EventHandler<Result<Event<A>, Error<A>>>>
 ) -> bool
     requires { H.ready handler.old }
     ensures again { H.ready handler.new }
-    ensures handed { MatchResult told (λ events. (result ≡ true)
-        × HandsEach H.handles events.items handler.old handler.new)
-        (λ e. (result ≡ false) × H.handles handler.old (Err e) handler.new) }
+    ensures handed { HandsOutcome H.handles told result handler.old handler.new }
 {
     match told {
         Ok(events) => {

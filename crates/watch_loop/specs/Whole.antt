@@ -1,5 +1,5 @@
 -- What a program took that followed folders to the end.
-use Rattle.std.specs.Prelude.{◌≡◌, ℕ, List, [], ◌∷◌, ◌++◌, true, Option, None, Some, Ok, Err, map}
+use Rattle.std.specs.Prelude.{◌≡◌, ℕ, List, [], ◌∷◌, ◌++◌, true, Option, None, Some, map}
 use Rattle.std.specs.Map.{keys_of}
 use Rattle.std.specs.declared.alloc.Global.{Global}
 use Rattle.notify_types.specs.Event.{Timed}
@@ -18,7 +18,7 @@ use Rattle.debounce_access.specs.Stands.{HasAllFed, Known, LeadsTo}
 use Rattle.folder_listing.specs.Listing.{ListingValue}
 use Rattle.poll_rounds.specs.Reports.{Reported}
 use Rattle.file_id_cache.specs.declared.cache.NoCache.{NoCache}
-use Rattle.notify_debouncer_full.specs.Emitted.{Report, plain, reports_of}
+use Rattle.notify_debouncer_full.specs.Emitted.{events_in, plain, reports_of}
 use Rattle.report_loop.specs.Gave.{Gave}
 use Rattle.report_loop.specs.Loop.{Step}
 use Rattle.folder_reports.specs.Rest.{Waits}
@@ -30,12 +30,6 @@ abbrev pub taken_in : List Step → List (Outcome Global)
 taken_in [] = []
 taken_in (Some report ∷ steps) = report ∷ taken_in steps
 taken_in (None ∷ steps) = taken_in steps
-
--- the events of the batches among these reports, in order
-abbrev pub events_in : List Report → List Timed
-events_in [] = []
-events_in (Ok batch ∷ reports) = batch ++ events_in reports
-events_in (Err errors ∷ reports) = events_in reports
 
 -- what a program has that began with these paths, and plays each batch that it takes
 abbrev pub played_by : Paths → List Step → Paths
