@@ -93,7 +93,8 @@ fn play_report<A: DebouncerAllocator>(
     paths: &mut PathSet<A>,
     report: &DebounceEventResult<A>,
 ) -> Result<(), Error<A>>
-    ensures ok { OnOk result (paths.new ≡ play paths.old (events_of (batch_of (plain report.now)))) }
+    ensures ok { OnOk result
+        (paths.new ≡ play paths.old (events_of (batch_of (plain report.now)))) }
     ensures unchanged { OnErr result (paths.new ≡ paths.old) }
     ensures err { IfErr result (λ e. e ≡ out_of_memory) }
 {

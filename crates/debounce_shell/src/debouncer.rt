@@ -453,8 +453,8 @@ impl<
     /// debouncer that is fed by hand waits until the [`Feed`] was dropped.
     pub fn finish(self) -> (Book<C, A>, u64)
         ensures ended { (left : L) × (last : Option T.Task.Last)
-            × IsFinished C.rules T.Task.ends self.made last (L.tells self.began) left self.seen self.parts
-            result.0 result.1 }
+            × IsFinished C.rules T.Task.ends self.made last (L.tells self.began) left self.seen
+            self.parts result.0 result.1 }
         ensures legal { IfSome result.0.journal (λ es. IsLegal es result.0.core.state) }
         ensures part { IfSome result.0.part (λ es. IsPart es result.0.core.state) }
     {
@@ -515,8 +515,9 @@ impl<
     /// Stops as `finish` does, and takes the feed: all that was fed is what the feed shows.
     pub fn finish_fed(self, feed: Feed<C, R, A>) -> (Book<C, A>, u64)
         requires { feed.lock ≡ self.lock }
-        ensures ended { (left : L) × IsEndedFed C.rules (L.tells self.began) left self.seen feed.seen
-            self.parts result.0 result.1 }
+        ensures ended { (left : L)
+            × IsEndedFed C.rules (L.tells self.began) left self.seen feed.seen self.parts
+            result.0 result.1 }
         ensures legal { IfSome result.0.journal (λ es. IsLegal es result.0.core.state) }
         ensures part { IfSome result.0.part (λ es. IsPart es result.0.core.state) }
     {

@@ -95,8 +95,9 @@ module _ {A : Type 0} where
   -- .. at the end
   pub ends_reports : {C : Type 0} (began left : Sending (Outcome A)) (seen : History) (parts : List EntryValue)
       (given rest : List (Outcome A)) (unsent : ℕ) (book : Kept C) (count : ℕ)
-      → IsEnded no_numbers (WasCalled began) left seen parts book count → began.calls ≡ [] → given ++ rest ≡ put_in left.calls
-      → unsent ≡ min (lost_in left.calls) (2 ^ 64 - 1) → EndsReports seen parts given rest unsent book count
+      → IsEnded no_numbers (WasCalled began) left seen parts book count → began.calls ≡ []
+      → given ++ rest ≡ put_in left.calls → unsent ≡ min (lost_in left.calls) (2 ^ 64 - 1)
+      → EndsReports seen parts given rest unsent book count
   ends_reports began left seen parts given rest unsent book count ended fresh put lost = record {
     log = ended.log;
     goes_on = ended.goes_on;

@@ -18,14 +18,12 @@ use crate::queue_handler::QueueHandler;
 use crate::recommended::{RecommendedCache, RecommendedWatcher};
 use crate::runtime::{DebouncerAllocator, DebouncerRuntime};
 use debounce_book::book::Book;
-use debounce_shell::debouncer::{
-    Debouncer, Finished, LastOf, Running, TaskOf, new_told_debouncer,
-};
+use debounce_shell::debouncer::{Debouncer, Finished, LastOf, Running, TaskOf, new_told_debouncer};
 use debounce_turns::feed::Feed;
 use notify_paths::error::{Error, ErrorKind};
 use notify_paths::path::PathBuf;
-use notify_types::event::{DebouncedEvent, RecursiveMode};
 use notify_poll::watcher::LastFound;
+use notify_types::event::{DebouncedEvent, RecursiveMode};
 use notify_watch::config::Config;
 use notify_watch::handler::DebounceEventResult;
 use notify_watch::watcher::{ListingWatcher, Task, Watcher};

@@ -52,8 +52,8 @@ IsInitial matches initial =
 abbrev pub IsPace : ArgMatches → Pace → Type 0
 IsPace matches pace = IsTimeout matches (as_nanos pace.timeout) × IsInitial matches pace.initial
 
--- the program followed the folder that the words name, with all below it, with their timeout, and with initial events if
--- it wants them; and then took once more what it had asked for again; or a fault ended it before
+-- the program followed the folder that the words name, with all below it, with their timeout, and with initial events
+-- if it wants them; and then took once more what it had asked for again; or a fault ended it before
 abbrev pub RunsOver : {P : Type 0} → Begins P → Takes P → Wants P → ArgMatches → Keeps P → Answer → Keeps P → Type 0
 RunsOver {P} begins takes wants matches before answer after =
     (pace : Pace) × (missed : Result ℕ Fault) × (last : Keeps P) × IsTimeout matches (as_nanos pace.timeout)
@@ -73,4 +73,5 @@ abbrev pub RunsFolder : {P : Type 0} → Begins P → Takes P → Wants P → P 
 RunsFolder {P} begins takes wants program matches answer =
     ((fault : Fault) × IsRefusal fault × (answer ≡ Err fault))
     ⊎ ((before : Keeps P) × (after : Keeps P) × (run : Answer) × (before.program ≡ program) × (before.waiting ≡ [])
-    × (before.places ≡ named_places matches) × RunsOver begins takes wants matches before run after × EndsAfter run answer)
+    × (before.places ≡ named_places matches) × RunsOver begins takes wants matches before run after
+    × EndsAfter run answer)
