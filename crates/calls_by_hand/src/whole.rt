@@ -64,9 +64,7 @@ pub fn read_tree<
 {
     let mut reports = watch_fixed::<K, R, A>(rt, alloc, timeout, path, mode)?;
     let mut paths = PathSet::new(alloc);
-    if let Some(report) = reports.next_within(patience) {
-        play_report(&mut paths, &report)?;
-    }
+    play_next(&mut reports, &mut paths, patience)?;
     finish_read(reports, paths)
 }
 
@@ -86,6 +84,26 @@ fn watch_fixed<K: FixedTree<A> + Drop + Send + 'static, R: DebouncerRuntime, A: 
     let mut reports: FixedReports<K, R, A> = Reports::start(rt, alloc, timeout, None, config)?;
     reports.watch(path, mode)?;
     Ok(reports)
+}
+
+/// Plays the next report, if one comes within the patience.
+fn play_next<K: FixedTree<A> + Drop + Send + 'static, R: DebouncerRuntime, A: DebouncerAllocator>(
+    reports: &mut FixedReports<K, R, A>,
+    paths: &mut PathSet<A>,
+    patience: Duration,
+) -> Result<(), Error<A>>
+    requires played { paths.old ≡ read_on [] reports.old.queue.given }
+    ensures debouncer { reports.new.debouncer ≡ reports.old.debouncer }
+    ensures ok { OnOk result (paths.new ≡ read_on [] reports.new.queue.given) }
+    ensures err { IfErr result (λ e. e ≡ out_of_memory) }
+{
+    match reports.next_within(patience) {
+        Some(report) => {
+            play_report(paths, &report)?;
+            Ok(())
+        }
+        None => Ok(()),
+    }
 }
 
 /// Plays a report, if it is a batch.
@@ -140,7 +158,7 @@ fn read_rest<A: DebouncerAllocator>(
     reports: &[DebounceEventResult<A>],
     book: &Book<NoCache, A>,
 ) -> Result<PathSet<A>, Error<A>>
-    ensures ok { IfOk result (ReadsRest book.now.core.state reports.now paths.entry) }
+    ensures ok { IfOk result (ReadsRest book.now.core.state reports.now paths) }
     ensures err { IfErr result (λ e. e ≡ out_of_memory) }
 {
     for report in reports {

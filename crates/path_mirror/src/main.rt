@@ -87,26 +87,33 @@ fn stop_in(rt: &impl AllocGlobal, folder: &PathBuf) -> Result<PathBuf> {
     Ok(PathBuf::parse(rt.alloc(), stop.as_str())?)
 }
 
-fn watch<R: DebouncerRuntime + AllocGlobal + Print + Eprint>(
+fn open<R: DebouncerRuntime + AllocGlobal>(
     rt: R,
     folder: &PathBuf,
-) -> Result<()> {
+) -> Result<RecommendedReports<R>> {
     let config = Config::default()
         .with_poll_interval(Duration::from_millis(5))
         .with_initial_events(true);
-    let mut reports: RecommendedReports<R> = Reports::start(
-        rt,
-        rt.alloc(),
-        Duration::from_millis(20),
-        None,
-        config,
-    )?;
+    let timeout = Duration::from_millis(20);
+    let mut reports: RecommendedReports<R> = Reports::start(rt, rt.alloc(), timeout, None, config)?;
     reports.watch(folder, RecursiveMode::Recursive)?;
+    Ok(reports)
+}
+
+fn watch<R: DebouncerRuntime + AllocGlobal + Print + Eprint>(
+    rt: R,
+    folder: &PathBuf,
+    stop: &PathBuf,
+) -> Result<()> {
+    let mut reports = open(rt, folder)?;
     let mut paths = PathSet::new(rt.alloc());
-    mirror(&rt, &mut reports, &mut paths, &stop_in(&rt, folder)?)?;
-    end(&rt, &mut paths, &reports.finish())
+    let mirrored = mirror(&rt, &mut reports, &mut paths, stop);
+    let last = reports.finish();
+    mirrored?;
+    end(&rt, &mut paths, &last)
 }
 
 fn main(rt: HostRuntime) -> Result<()> {
-    watch(rt, &folder_of(&rt)?)
+    let folder = folder_of(&rt)?;
+    watch(rt, &folder, &stop_in(&rt, &folder)?)
 }
