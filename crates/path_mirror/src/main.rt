@@ -4,8 +4,8 @@
 
 use anyhow::{Result, bail};
 use notify_debouncer_full::{
-    Config, DebounceEventResult, DebouncerRuntime, LastReports, PathBuf, RecommendedReports,
-    RecursiveMode, Reports,
+    Config, DebounceEventResult, DebouncerAllocator, DebouncerRuntime, Error, LastReports, PathBuf,
+    RecommendedReports, RecursiveMode, Reports,
 };
 use path_sets::PathSet;
 use std::env;
@@ -87,17 +87,24 @@ fn stop_in(rt: &impl AllocGlobal, folder: &PathBuf) -> Result<PathBuf> {
     Ok(PathBuf::parse(rt.alloc(), stop.as_str())?)
 }
 
-fn open<R: DebouncerRuntime + AllocGlobal>(
+fn open<R: DebouncerRuntime, A: DebouncerAllocator>(
     rt: R,
-    folder: &PathBuf,
-) -> Result<RecommendedReports<R>> {
+    alloc: A,
+    folder: &PathBuf<A>,
+) -> Result<RecommendedReports<R, A>, Error<A>> {
     let config = Config::default()
         .with_poll_interval(Duration::from_millis(5))
         .with_initial_events(true);
     let timeout = Duration::from_millis(20);
-    let mut reports: RecommendedReports<R> = Reports::start(rt, rt.alloc(), timeout, None, config)?;
+    let mut reports: RecommendedReports<R, A> = Reports::start(rt, alloc, timeout, None, config)?;
     reports.watch(folder, RecursiveMode::Recursive)?;
     Ok(reports)
+}
+
+fn finish<R: DebouncerRuntime, A: DebouncerAllocator>(
+    reports: RecommendedReports<R, A>,
+) -> LastReports<A> {
+    reports.finish()
 }
 
 fn watch<R: DebouncerRuntime + AllocGlobal + Print + Eprint>(
@@ -105,10 +112,10 @@ fn watch<R: DebouncerRuntime + AllocGlobal + Print + Eprint>(
     folder: &PathBuf,
     stop: &PathBuf,
 ) -> Result<()> {
-    let mut reports = open(rt, folder)?;
+    let mut reports = open(rt, rt.alloc(), folder)?;
     let mut paths = PathSet::new(rt.alloc());
     let mirrored = mirror(&rt, &mut reports, &mut paths, stop);
-    let last = reports.finish();
+    let last = finish(reports);
     mirrored?;
     end(&rt, &mut paths, &last)
 }
