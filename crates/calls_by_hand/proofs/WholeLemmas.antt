@@ -84,10 +84,12 @@ found_or x (Some found) = found
 -- who plays all that was reported, and then what waits
 pub reads_tree : {A : Type 0} → ReaderHasTheLastListing → (tree : ListingValue) (made : Option (Known × Config))
     (found : Option (LastFound A)) (last : LastFound A) (log : History) (state : State) (given left : List (Outcome A))
-    (slice : List (Outcome A)) (count unsent : ℕ) (before paths : Paths) → BeganWithNothing made → FeedComesBack (ends_fixed tree) made found log →
+    (slice : List (Outcome A)) (count unsent : ℕ) (before paths : Paths) → BeganWithNothing made →
+    FeedComesBack (ends_fixed tree) made found log →
     found ≡ Some last → count ≡ min (missed_in log) (2 ^ 64 - 1) → IsLegal (entries_of log) state →
     (unsent ≡ 0 → map plain (given ++ left) ≡ reports_of (picked is_emitting log)) → before ≡ read_on [] given →
-    slice ≡ left → ReadsRest state slice before paths → ReadsTree tree last.polled.roots last.went_well count unsent paths
+    slice ≡ left → ReadsRest state slice before paths →
+    ReadsTree tree last.polled.roots last.went_well count unsent paths
 reads_tree {A} law tree made found last log state given left slice count unsent before paths nothing back is counted
     legal whole read same_reports rest = λ is_tree well none sent.
     let came = back nothing.0 nothing.1 nothing.2 in

@@ -7,7 +7,7 @@ ghost use Rattle.poll_roots.specs.Polled.{IsUnwatchError, WatchesOrRefuses};
 use fake_folders::fixed::{FixedFolders, FixedTree};
 use notify_paths::error::Error;
 use notify_paths::path::PathBuf;
-use notify_poll::watcher::{PollTask, PollWatcher};
+use notify_poll::watcher::{PollWatcher, RoundTask};
 use notify_types::event::{Event, RecursiveMode};
 use notify_watch::config::{Config, WatcherKind};
 use notify_watch::handler::EventHandler;
@@ -32,7 +32,7 @@ impl<
     R: Clock + Wait + Files + Alloc + Copy + Send + Sync + 'static,
     A: Allocator + Copy + Send + Sync + 'static,
 > Watcher<F, R, A> for FixedWatcher<K, R, A> {
-    type Task = PollTask<F, R, A, FixedFolders<K, A>>;
+    type Task = RoundTask<F, R, A, FixedFolders<K, A>>;
 
     ghost takes = { λ handler. F.ready handler };
 
@@ -51,7 +51,13 @@ impl<
         alloc: A,
         handler: F,
         config: Config,
-    ) -> Result<(FixedWatcher<K, R, A>, PollTask<F, R, A, FixedFolders<K, A>>), Error<A>> {
+    ) -> Result<
+        (
+            FixedWatcher<K, R, A>,
+            RoundTask<F, R, A, FixedFolders<K, A>>,
+        ),
+        Error<A>,
+    > {
         let folders = FixedFolders::new(alloc)?;
         let (inner, task) = PollWatcher::over(rt, alloc, handler, config, folders)?;
         let watcher = FixedWatcher {

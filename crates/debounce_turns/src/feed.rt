@@ -28,12 +28,23 @@ use told_lock::shown::Shown;
 /// see how much of the book's history it has seen, and what its clock has answered.
 ///
 /// A debouncer has one, which can't be cloned.
-#[derive(Drop)]
 pub struct Feed<C: FileIdCache<A> + Drop, R: Wait + Drop, A: Allocator = Global> {
     rt: R,
     alloc: A,
     gate: Feeding<C, R, A>,
     signals: Arc<Signals, A>,
+}
+
+// Not derived: so a crate that drops what owns a feed doesn't prove the drops of all that it reaches once more.
+impl<C: FileIdCache<A> + Drop, R: Wait + Drop, A: Allocator> Drop for Feed<C, R, A> {
+    fn drop(self) {
+        let Self {
+            rt: _,
+            alloc: _,
+            gate: _,
+            signals: _,
+        } = self;
+    }
 }
 
 impl<C: FileIdCache<A> + Drop, R: Wait + Drop, A: Allocator> Model for Feed<C, R, A> {

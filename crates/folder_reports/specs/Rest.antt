@@ -46,7 +46,7 @@ pub record IsRestOf {C : Type 0} (book : Kept C) (queue : List (Outcome Global))
 
 -- how the work of a folder's watcher ends: its feed was called, and with initial events with just what leads from
 -- nothing to what was found last
-abbrev pub ends_polling : {A : Type 0} → Known → Config → Known → LastFound A → Type 0
+abbrev pub ends_polling : Known → Config → Known → LastFound Global → Type 0
 ends_polling begun config now found =
     EndsPolling FeedsItem begun config now found.polled.last
     × FindsTree None found.went_well found.polled.roots found.polled.last

@@ -5,10 +5,11 @@ ghost use Rattle.folder_reports.specs.Start.{followed};
 ghost use Rattle.notify_debouncer_full.specs.Emitted.{IsTied};
 ghost use Rattle.watch_program.specs.declared.fault.Fault.TheVariants.{Memory};
 
-use crate::polled;
 use crate::rest::rest_of;
 use crate::waiting::Waiting;
-use notify_debouncer_full::{ClosedCount, DebouncerRuntime, QueueingDebouncer, RecommendedWatcher};
+use notify_debouncer_full::{
+    ClosedCount, DebouncerRuntime, QueueingDebouncer, RecommendedWatcher, Reports,
+};
 use report_loop::Rest;
 use std::io::Write;
 use watch_program::{Complaints, Fault};
@@ -83,8 +84,8 @@ impl<'n, R: DebouncerRuntime + AllocGlobal, E: Write + Drop> FolderWatch<'n, R, 
             debouncer,
             mut complaints,
         } = self;
-        let last = polled::finish(rt, debouncer, waiting.into_queue());
-        let rest = rest_of(rt.alloc(), last);
+        let reports = Reports::of(rt, debouncer, waiting.into_queue());
+        let rest = rest_of(rt.alloc(), reports.finish());
         complaints.note_closed(closed.get());
         rest
     }

@@ -12,7 +12,6 @@ mod folder_watch;
 mod hint_reader;
 mod input_end;
 mod live;
-mod polled;
 mod reports;
 mod rest;
 mod waiting;

@@ -10,7 +10,6 @@ ghost use Rattle.watch_program.specs.declared.fault.Fault.TheVariants.{CannotWat
 use crate::folder_watch::Watching;
 use crate::hint_reader::{start_hints, start_skipping};
 use crate::input_end::InputEnd;
-use crate::polled;
 use crate::waiting::Waiting;
 use notify_debouncer_full::{
     Config, DebouncerRuntime, PathBuf, RecommendedReports, RecursiveMode, Reports,
@@ -79,7 +78,7 @@ impl<R: DebouncerRuntime + AllocGlobal> Live<R> {
         ensures queue { self.new.reports.queue ≡ self.old.reports.queue }
         ensures err { IfErr result (λ e. (e ≡ Memory) ⊎ ((e ≡ NotThere) ⊎ (e ≡ CannotWatch))) }
     {
-        match polled::watch(&mut self.reports, folder, mode) {
+        match self.reports.watch(folder, mode) {
             Ok(()) => Ok(()),
             Err(error) => Err(Fault::of_watch(&error)),
         }

@@ -83,7 +83,7 @@ pub use folder_listing::compare::compare;
 pub use folder_listing::entry::{EntryKind, FileNumber, Found};
 pub use folder_listing::listing::Listing;
 pub use notify_poll::hints::Hints;
-pub use notify_poll::watcher::{ClosedCount, LastFound, PollTask, PollWatcher};
+pub use notify_poll::watcher::{ClosedCount, LastFound, PollTask, PollWatcher, RoundTask};
 pub use poll_roots::polled::Polled;
 pub use poll_rounds::folders::Folders;
 pub use poll_rounds::list::list;

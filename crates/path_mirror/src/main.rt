@@ -4,8 +4,8 @@
 
 use anyhow::{Result, bail};
 use notify_debouncer_full::{
-    Config, DebounceEventResult, DebouncerAllocator, DebouncerRuntime, Error, LastReports, PathBuf,
-    RecommendedReports, RecursiveMode, Reports,
+    Config, DebounceEventResult, DebouncerRuntime, LastReports, PathBuf, RecommendedReports,
+    RecursiveMode, Reports,
 };
 use path_sets::PathSet;
 use std::env;
@@ -87,40 +87,26 @@ fn stop_in(rt: &impl AllocGlobal, folder: &PathBuf) -> Result<PathBuf> {
     Ok(PathBuf::parse(rt.alloc(), stop.as_str())?)
 }
 
-fn open<R: DebouncerRuntime, A: DebouncerAllocator>(
-    rt: R,
-    alloc: A,
-    folder: &PathBuf<A>,
-) -> Result<RecommendedReports<R, A>, Error<A>> {
-    let config = Config::default()
-        .with_poll_interval(Duration::from_millis(5))
-        .with_initial_events(true);
-    let timeout = Duration::from_millis(20);
-    let mut reports: RecommendedReports<R, A> = Reports::start(rt, alloc, timeout, None, config)?;
-    reports.watch(folder, RecursiveMode::Recursive)?;
-    Ok(reports)
-}
-
-fn finish<R: DebouncerRuntime, A: DebouncerAllocator>(
-    reports: RecommendedReports<R, A>,
-) -> LastReports<A> {
-    reports.finish()
-}
-
 fn watch<R: DebouncerRuntime + AllocGlobal + Print + Eprint>(
     rt: R,
     folder: &PathBuf,
-    stop: &PathBuf,
 ) -> Result<()> {
-    let mut reports = open(rt, rt.alloc(), folder)?;
+    let config = Config::default()
+        .with_poll_interval(Duration::from_millis(5))
+        .with_initial_events(true);
+    let mut reports: RecommendedReports<R> = Reports::start(
+        rt,
+        rt.alloc(),
+        Duration::from_millis(20),
+        None,
+        config,
+    )?;
+    reports.watch(folder, RecursiveMode::Recursive)?;
     let mut paths = PathSet::new(rt.alloc());
-    let mirrored = mirror(&rt, &mut reports, &mut paths, stop);
-    let last = finish(reports);
-    mirrored?;
-    end(&rt, &mut paths, &last)
+    mirror(&rt, &mut reports, &mut paths, &stop_in(&rt, folder)?)?;
+    end(&rt, &mut paths, &reports.finish())
 }
 
 fn main(rt: HostRuntime) -> Result<()> {
-    let folder = folder_of(&rt)?;
-    watch(rt, &folder, &stop_in(&rt, &folder)?)
+    watch(rt, &folder_of(&rt)?)
 }

@@ -15,6 +15,6 @@ returns-clause-ok g c =
     let ended = c.finish-queue.ensures.ended in
     reads_tree c.law_of_one_feeder.ensures g.K.FixedTree.tree c.args.reports.debouncer.made last.last
     c.unwrap-polled.result ended.0.log last.book.core.state c.args.reports.queue.given last.queue.items
-    c.as_slice.result.now last.missed last.unsent c.args.paths c.in_ok-paths.paths c.requires.made ended.1 c.unwrap-polled.ensures ended.0.leads.missed
-    ended.0.leads.legal ended.0.told.whole c.requires.played c.as_slice.ensures.value
-    c.in_ok-paths.ensures.ok
+    c.as_slice.result.now last.missed last.unsent c.args.paths c.in_ok-paths.paths c.requires.made ended.1
+    c.unwrap-polled.ensures ended.0.leads.missed ended.0.leads.legal ended.0.told.whole c.requires.played
+    c.as_slice.ensures.value c.in_ok-paths.ensures.ok

@@ -24,7 +24,8 @@ pub returns-clause-ok : goal.returns-clause-ok
 returns-clause-ok g c =
     let reports = c.args.reports.now in
     let played : c.loop-report.paths ≡ read_on c.args.paths reports =
-    sym (at_drop_all (read_on c.loop-report.paths) reports c.loop-report.report-index (omega (arith, c.loop-report-test.false)))
+    sym (at_drop_all (read_on c.loop-report.paths) reports c.loop-report.report-index
+    (omega (arith, c.loop-report-test.false)))
     ∙ c.loop-report.invariant in (
       c.in_ok-outlook.outlook.items,
       c.in_ok-outlook.ensures.outlook,

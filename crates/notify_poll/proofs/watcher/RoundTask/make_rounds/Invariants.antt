@@ -1,5 +1,5 @@
 use Rattle.notify_poll.specs.Work.{Works}
-use Rattle.notify_poll.proofs.watcher.PollTask.make_rounds.Given as goal
+use Rattle.notify_poll.proofs.watcher.RoundTask.make_rounds.Given as goal
 
 -- what is done so far, and the handler can be called
 abbrev pub invariant-loop : goal.invariant-loop

@@ -1,5 +1,5 @@
 use Rattle.notify_poll.proofs.WorkLemmas.{works-then}
-use Rattle.notify_poll.proofs.watcher.PollTask.make_rounds.Goals as goal
+use Rattle.notify_poll.proofs.watcher.RoundTask.make_rounds.Goals as goal
 
 pub loop-preserved : goal.loop-preserved
 loop-preserved g c = record {

@@ -2,7 +2,7 @@
 use Rattle.std.proofs.Common.{sym, subst}
 use Rattle.notify_poll.specs.Work.{EndsPolling}
 use Rattle.notify_poll.proofs.WorkLemmas.{all_called, all_reported}
-use Rattle.notify_poll.proofs.watcher.PollTaskTask.run.Goals as goal
+use Rattle.notify_poll.proofs.watcher.RoundTaskTask.run.Goals as goal
 
 pub returns : goal.returns
 returns g c = λ begun config made.

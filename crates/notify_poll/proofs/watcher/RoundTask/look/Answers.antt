@@ -1,5 +1,5 @@
 use Rattle.notify_poll.proofs.WorkLemmas.{works-then}
-use Rattle.notify_poll.proofs.watcher.PollTask.look.Goals as goal
+use Rattle.notify_poll.proofs.watcher.RoundTask.look.Goals as goal
 
 pub returns-clause-works : goal.returns-clause-works
 returns-clause-works g c =
