@@ -14,4 +14,4 @@ garden =
 
 -- the tree of these entries, if they make one
 abbrev pub tree_of : List (PathValue × EntryKind × ℕ) → ListingValue
-tree_of entries = unwrap_or [] (listing_of entries)
+tree_of entries = unwrap_or (listing_of entries) []
