@@ -1,7 +1,7 @@
 //! A watcher that polls.
 use crate::build::path;
 use notify_debouncer_full::{
-    Config, DebouncerRuntime, Error, Event, EventHandler, PollTask, PollWatcher, RecursiveMode,
+    Config, DebouncerRuntime, Error, Event, EventHandler, Made, PollWatcher, RecursiveMode,
     Watcher, start_task,
 };
 use std::alloc::Global;
@@ -60,25 +60,18 @@ fn check_watches<R: Drop, W: Watcher<Flagged, R, Global>>(
     assert_eq!(rt; [watched, unwatched, again], [true, true, false]);
 }
 
-type Made<R> = (PollWatcher<R>, PollTask<Flagged, R>);
-
-/// A watcher whose handler raises the flag when it is dropped, and the task of its thread.
-fn new_watcher<R: DebouncerRuntime + AllocGlobal + Abort>(
-    rt: R,
-    dropped: &Arc<AtomicBool>,
-) -> Made<R> {
+/// Makes a watcher whose handler raises the flag when it is dropped, uses it with its thread, and drops it.
+fn use_watcher<R: DebouncerRuntime + AllocGlobal + Abort>(rt: R, dropped: &Arc<AtomicBool>) {
     let config = Config::default().with_poll_interval(Duration::from_secs(3600));
     let handler = Flagged {
         dropped: Arc::try_clone(dropped).expect(&rt, "memory"),
     };
-    PollWatcher::new(rt, rt.alloc(), handler, config).expect(&rt, "memory")
-}
-
-/// Starts such a watcher, uses it, and drops it.
-fn use_watcher<R: DebouncerRuntime + AllocGlobal + Abort>(rt: R, dropped: &Arc<AtomicBool>) {
-    let (mut watcher, task) = new_watcher(rt, dropped);
+    let made = Made::of(&handler, config);
+    let (mut watcher, task) = PollWatcher::new(rt, rt.alloc(), handler, config).expect(
+        &rt, "memory",
+    );
     check_watches::<R, _>(&rt, &mut watcher);
-    start_task(&rt, rt.alloc(), task).expect(&rt, "a thread");
+    start_task(&rt, rt.alloc(), task, made).expect(&rt, "a thread");
     thread::sleep(&rt, Duration::from_millis(10));
     drop(watcher);
 }
