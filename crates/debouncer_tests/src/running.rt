@@ -61,15 +61,18 @@ fn check_watches<R: Drop, W: Watcher<Flagged, R, Global>>(
 }
 
 /// Makes a watcher whose handler raises the flag when it is dropped, uses it with its thread, and drops it.
-fn use_watcher<R: DebouncerRuntime + AllocGlobal + Abort>(rt: R, dropped: &Arc<AtomicBool>) {
+fn use_watcher<R: DebouncerRuntime + AllocGlobal + Abort, W: Watcher<Flagged, R, Global>>(
+    rt: R,
+    dropped: &Arc<AtomicBool>,
+)
+    requires { (handler : _) → W.takes handler }
+{
     let config = Config::default().with_poll_interval(Duration::from_secs(3600));
     let handler = Flagged {
         dropped: Arc::try_clone(dropped).expect(&rt, "memory"),
     };
     let made = Made::of(&handler, config);
-    let (mut watcher, task) = PollWatcher::new(rt, rt.alloc(), handler, config).expect(
-        &rt, "memory",
-    );
+    let (mut watcher, task) = W::new(rt, rt.alloc(), handler, config).expect(&rt, "memory");
     check_watches::<R, _>(&rt, &mut watcher);
     start_task(&rt, rt.alloc(), task, made).expect(&rt, "a thread");
     thread::sleep(&rt, Duration::from_millis(10));
@@ -79,7 +82,7 @@ fn use_watcher<R: DebouncerRuntime + AllocGlobal + Abort>(rt: R, dropped: &Arc<A
 /// Whether a thread ends soon once its watcher is dropped.
 fn ends_its_thread<R: DebouncerRuntime + AllocGlobal + Abort>(rt: R) -> bool {
     let dropped = Arc::new(rt.alloc(), AtomicBool::new(false)).expect(&rt, "memory");
-    use_watcher(rt, &dropped);
+    use_watcher::<R, PollWatcher<R>>(rt, &dropped);
     wait_for(&rt, &dropped)
 }
 
