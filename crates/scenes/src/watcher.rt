@@ -93,6 +93,24 @@ fn report<F: EventHandler<Result<Event<A>, Error<A>>>, R: Wait, A: RefusingHeap>
     }
 }
 
+/// Reports what the scene's lines with this first word name, if that is asked for.
+fn report_if<F: EventHandler<Result<Event<A>, Error<A>>>, R: Staged + Wait, A: RefusingHeap>(
+    asked: bool,
+    handler: &mut F,
+    rt: &R,
+    heap: A,
+    word: &str,
+)
+    requires ready { F.ready handler.old }
+    ensures again { F.ready handler.new }
+    ensures called { IsCalledOn F.handles handler.old handler.new }
+{
+    if !asked {
+        return;
+    }
+    report(handler, rt, heap, rt.stage(), word);
+}
+
 /// Reports this, while a request for memory is refused, if the stage says so.
 fn report_item<F: EventHandler<Result<Event<A>, Error<A>>>, A: RefusingHeap>(
     handler: &mut F,
@@ -182,13 +200,10 @@ fn report_on<F: EventHandler<Result<Event<A>, Error<A>>>, R: Staged + Wait, A: R
         if stage.dropped.load(Ordering::SeqCst) && !flows {
             return;
         }
-        if stage.reported.load(Ordering::SeqCst) < stage.asked.load(Ordering::SeqCst) {
-            report(handler, rt, heap, stage, "report ");
-            stage.reported.fetch_add(1, Ordering::SeqCst);
-        }
-        if flows {
-            report(handler, rt, heap, stage, "flow ");
-        }
+        let asked = stage.reported.load(Ordering::SeqCst) < stage.asked.load(Ordering::SeqCst);
+        report_if(asked, handler, rt, heap, "report ");
+        stage.reported.fetch_add(u64::from(asked), Ordering::SeqCst);
+        report_if(flows, handler, rt, heap, "flow ");
         sleep_a_turn(rt);
     }
 }
