@@ -97,6 +97,6 @@ pub fn poll_round<A: Allocator + Copy, D: Folders<A>, H: EventHandler<Result<Eve
     ensures counted { D.failed folders.old ≤ D.failed folders.new }
 {
     let found = list_beside(alloc, folders, roots, last);
-    let mut trackers = None;
-    pass_on(alloc, &[], found, &mut trackers, last, handler)
+    let closed = Vec::new(alloc);
+    pass_on(alloc, closed.as_slice(), found, &mut None, last, handler)
 }
