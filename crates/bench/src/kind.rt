@@ -18,10 +18,16 @@ pub enum Kind {
     Sort,
     /// N creations that stay pending; timed are fifty ticks that emit ten events each.
     Due,
+    /// N modifications of a thousand paths in turn, each by a feed of a debouncer that runs, with its clock and its
+    /// lock. An operation is a feed.
+    Feed,
+    /// N turns of a debouncer's worker over a thousand pending events, with its lock; none is due. An operation is a
+    /// turn.
+    Turn,
 }
 
 /// Each kind, in the order in which they run.
-pub const KINDS: [Kind; 7] = [
+pub const KINDS: [Kind; 9] = [
     Kind::Create,
     Kind::Modify,
     Kind::Idle,
@@ -29,6 +35,8 @@ pub const KINDS: [Kind; 7] = [
     Kind::Rmdir,
     Kind::Sort,
     Kind::Due,
+    Kind::Feed,
+    Kind::Turn,
 ];
 
 impl Kind {
@@ -42,6 +50,8 @@ impl Kind {
             Kind::Rmdir => "rmdir",
             Kind::Sort => "sort",
             Kind::Due => "due",
+            Kind::Feed => "feed",
+            Kind::Turn => "turn",
         }
     }
 

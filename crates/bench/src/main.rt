@@ -11,13 +11,15 @@
 mod checksum;
 mod events;
 mod kind;
+mod locked;
 mod rounds;
 mod workloads;
 
 use anyhow::{Result, bail};
 use kind::{KINDS, Kind};
+use notify_debouncer_full::DebouncerRuntime;
 use rounds::{Compared, fastest_round};
-use std::env;
+use std::env::{self, Env};
 use std::process::ExitCode;
 use workloads::run_workload;
 
@@ -27,7 +29,12 @@ const FEW: u64 = 10_000;
 /// The most events that are run.
 const MOST: u64 = 100_000_000;
 
-fn run_kind(rt: &HostRuntime, kind: Kind, n: u64) -> Result<()> {
+/// What the program asks of its runtime.
+trait Runs: DebouncerRuntime + AllocGlobal + Print + Eprint + Env {}
+
+impl<R: DebouncerRuntime + AllocGlobal + Print + Eprint + Env> Runs for R {}
+
+fn run_kind<R: Runs>(rt: &R, kind: Kind, n: u64) -> Result<()> {
     let figures = run_workload(rt, kind, n)?;
     let name = kind.name();
     println!(rt; "{name} {n} {}", figures.checksum)?;
@@ -35,7 +42,7 @@ fn run_kind(rt: &HostRuntime, kind: Kind, n: u64) -> Result<()> {
     Ok(())
 }
 
-fn run_rounds(rt: &HostRuntime, n: &str, folder: &str, compared: Compared) -> Result<()> {
+fn run_rounds<R: Runs>(rt: &R, n: &str, folder: &str, compared: Compared) -> Result<()> {
     match n.parse::<u64>() {
         Ok(n) if 0 < n && n <= MOST => {
             println!(rt; "{}", fastest_round(rt, folder, n, compared)?)?;
@@ -45,7 +52,7 @@ fn run_rounds(rt: &HostRuntime, n: &str, folder: &str, compared: Compared) -> Re
     }
 }
 
-fn run_asked(rt: &HostRuntime, words: &[String]) -> Result<()> {
+fn run_asked<R: Runs>(rt: &R, words: &[String]) -> Result<()> {
     match words {
         [] => {
             for kind in KINDS {
@@ -65,7 +72,7 @@ fn run_asked(rt: &HostRuntime, words: &[String]) -> Result<()> {
     }
 }
 
-fn run(rt: &HostRuntime) -> Result<()> {
+fn run<R: Runs>(rt: &R) -> Result<()> {
     let words: Vec<String> = env::args(rt)?.collect(rt.alloc())?;
     match words.as_slice() {
         [_, words @ ..] => run_asked(rt, words),

@@ -1,7 +1,7 @@
 //! Rounds of the watcher that polls, over a real folder.
 use anyhow::{Result, ensure};
 use notify_debouncer_full::{
-    Error, Event, EventHandler, PathBuf, Polled, RealFolders, RecursiveMode,
+    DebouncerRuntime, Error, Event, EventHandler, PathBuf, Polled, RealFolders, RecursiveMode,
 };
 use std::alloc::Global;
 use std::time::Instant;
@@ -22,7 +22,7 @@ impl EventHandler<Result<Event, Error>> for Counter {
     }
 }
 
-type Real = RealFolders<HostRuntime, Global>;
+type Real<R> = RealFolders<R, Global>;
 
 /// What a round compares.
 #[derive(Clone, Copy)]
@@ -53,7 +53,7 @@ impl Compared {
     }
 
     /// The real file system, which tells what is compared.
-    fn folders(self, rt: &HostRuntime) -> Real {
+    fn folders<R: DebouncerRuntime + AllocGlobal>(self, rt: &R) -> Real<R> {
         match self {
             Compared::Lengths => RealFolders::new(*rt, rt.alloc()),
             Compared::LengthsAndTimes => RealFolders::with_modified_times(*rt, rt.alloc()),
@@ -68,8 +68,8 @@ impl Compared {
 
 /// Makes so many rounds over the folder, while nothing changes there, and returns the nanoseconds of the
 /// fastest.
-pub fn fastest_round(
-    rt: &HostRuntime,
+pub fn fastest_round<R: DebouncerRuntime + AllocGlobal>(
+    rt: &R,
     folder: &str,
     rounds: u64,
     compared: Compared,

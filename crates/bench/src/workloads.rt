@@ -6,9 +6,10 @@ use crate::events::{
     FOLDERS, creations, folder_removals, modifications, renames, scattered_events,
 };
 use crate::kind::Kind;
+use crate::locked::{feed_by_hand, turn_in_vain};
 use anyhow::{Result, ensure};
 use notify_debouncer_full::{
-    DebounceDataInner, DebouncedEvent, Event, Moment, NoCache, sort_events,
+    DebounceDataInner, DebouncedEvent, DebouncerRuntime, Event, Moment, NoCache, sort_events,
 };
 use std::alloc::Global;
 use std::time::Instant;
@@ -32,15 +33,15 @@ pub struct Figures {
     /// The time, in nanoseconds.
     pub total: u128,
     /// How many operations were timed.
-    operations: u64,
+    pub operations: u64,
     /// The sum over what was emitted.
     pub checksum: u64,
 }
 
 impl Figures {
     /// Returns the figures of so many operations that have just ended.
-    fn stop(
-        rt: &HostRuntime,
+    pub fn stop<R: DebouncerRuntime + AllocGlobal>(
+        rt: &R,
         start: Instant,
         operations: u64,
         batches: &[Batch],
@@ -60,13 +61,22 @@ impl Figures {
 }
 
 /// Runs a workload of this kind over n events.
-pub fn run_workload(rt: &HostRuntime, kind: Kind, n: u64) -> Result<Figures> {
+pub fn run_workload<R: DebouncerRuntime + AllocGlobal>(
+    rt: &R,
+    kind: Kind,
+    n: u64,
+) -> Result<Figures> {
     let mut core = DebounceDataInner::new(rt.alloc(), NoCache::new(), timeout_of(kind, n));
     run_on(rt, &mut core, kind, n)
 }
 
 /// Runs the workload on this core, for which nothing is pending yet.
-fn run_on(rt: &HostRuntime, core: &mut Core, kind: Kind, n: u64) -> Result<Figures> {
+fn run_on<R: DebouncerRuntime + AllocGlobal>(
+    rt: &R,
+    core: &mut Core,
+    kind: Kind,
+    n: u64,
+) -> Result<Figures> {
     match kind {
         Kind::Create => create(rt, core, n),
         Kind::Modify => modify(rt, core, n),
@@ -75,6 +85,8 @@ fn run_on(rt: &HostRuntime, core: &mut Core, kind: Kind, n: u64) -> Result<Figur
         Kind::Rmdir => rmdir(rt, core, n),
         Kind::Sort => sort(rt, n),
         Kind::Due => due(rt, core, n),
+        Kind::Feed => feed_by_hand(rt, n),
+        Kind::Turn => turn_in_vain(rt, n),
     }
 }
 
@@ -111,19 +123,19 @@ fn tick(core: &mut Core, now: Moment, batches: &mut Vec<Batch>) -> Result<()> {
     Ok(())
 }
 
-fn create(rt: &HostRuntime, core: &mut Core, n: u64) -> Result<Figures> {
+fn create<R: DebouncerRuntime + AllocGlobal>(rt: &R, core: &mut Core, n: u64) -> Result<Figures> {
     let events = creations(rt.alloc(), n)?;
     take_and_emit(rt, core, events, n)
 }
 
-fn rename(rt: &HostRuntime, core: &mut Core, n: u64) -> Result<Figures> {
+fn rename<R: DebouncerRuntime + AllocGlobal>(rt: &R, core: &mut Core, n: u64) -> Result<Figures> {
     let events = renames(rt.alloc(), n)?;
     take_and_emit(rt, core, events, n)
 }
 
 /// Times these events, and a tick at which all of them are due.
-fn take_and_emit(
-    rt: &HostRuntime,
+fn take_and_emit<R: DebouncerRuntime + AllocGlobal>(
+    rt: &R,
     core: &mut Core,
     events: Vec<Event>,
     operations: u64,
@@ -135,7 +147,7 @@ fn take_and_emit(
     Figures::stop(rt, start, operations, &[batch])
 }
 
-fn modify(rt: &HostRuntime, core: &mut Core, n: u64) -> Result<Figures> {
+fn modify<R: DebouncerRuntime + AllocGlobal>(rt: &R, core: &mut Core, n: u64) -> Result<Figures> {
     let events = modifications(rt.alloc(), n)?;
     let start = Instant::now(rt)?;
     let batches = take_with_ticks(rt.alloc(), core, events)?;
@@ -158,7 +170,7 @@ fn take_with_ticks(alloc: Global, core: &mut Core, events: Vec<Event>) -> Result
     Ok(batches)
 }
 
-fn idle(rt: &HostRuntime, core: &mut Core, n: u64) -> Result<Figures> {
+fn idle<R: DebouncerRuntime + AllocGlobal>(rt: &R, core: &mut Core, n: u64) -> Result<Figures> {
     take_at(core, creations(rt.alloc(), n)?, 0)?;
     let start = Instant::now(rt)?;
     let emitted = tick_in_vain(core)?;
@@ -180,7 +192,7 @@ fn tick_in_vain(core: &mut Core) -> Result<usize> {
     Ok(emitted)
 }
 
-fn rmdir(rt: &HostRuntime, core: &mut Core, n: u64) -> Result<Figures> {
+fn rmdir<R: DebouncerRuntime + AllocGlobal>(rt: &R, core: &mut Core, n: u64) -> Result<Figures> {
     take_all(core, creations(rt.alloc(), n)?)?;
     let figures = remove_folders(rt, core, u128::from(n))?;
     let batch = core.outlook()?;
@@ -191,21 +203,25 @@ fn rmdir(rt: &HostRuntime, core: &mut Core, n: u64) -> Result<Figures> {
 }
 
 /// Times the removals of the folders, at this moment.
-fn remove_folders(rt: &HostRuntime, core: &mut Core, now: Moment) -> Result<Figures> {
+fn remove_folders<R: DebouncerRuntime + AllocGlobal>(
+    rt: &R,
+    core: &mut Core,
+    now: Moment,
+) -> Result<Figures> {
     let removals = folder_removals(rt.alloc())?;
     let start = Instant::now(rt)?;
     take_at(core, removals, now)?;
     Figures::stop(rt, start, FOLDERS, &[])
 }
 
-fn sort(rt: &HostRuntime, n: u64) -> Result<Figures> {
+fn sort<R: DebouncerRuntime + AllocGlobal>(rt: &R, n: u64) -> Result<Figures> {
     let events = scattered_events(rt.alloc(), n)?;
     let start = Instant::now(rt)?;
     let batch = sort_events(rt.alloc(), events)?;
     Figures::stop(rt, start, n, &[batch])
 }
 
-fn due(rt: &HostRuntime, core: &mut Core, n: u64) -> Result<Figures> {
+fn due<R: DebouncerRuntime + AllocGlobal>(rt: &R, core: &mut Core, n: u64) -> Result<Figures> {
     take_all(core, creations(rt.alloc(), n)?)?;
     let start = Instant::now(rt)?;
     let batches = tick_by_tens(rt.alloc(), core, u128::from(n) + 9)?;

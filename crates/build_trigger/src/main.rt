@@ -12,7 +12,8 @@ ghost use Rattle.trigger_lines.specs.Line.{only_of};
 ghost use Rattle.trigger_lines.specs.Printed.{PrintsAll, PrintsSome};
 ghost use Rattle.notify_types.specs.declared.event.RecursiveMode.TheVariants.{Recursive};
 ghost use Rattle.watch_loop.specs.FollowsFolder.{OfReports, folder_source};
-ghost use Rattle.watch_loop.specs.WholeProgram.{IsTimeout};
+ghost use Rattle.watch_loop.specs.WholeProgram.{IsPace};
+ghost use Rattle.watch_pace.specs.declared.pace.Pace.{Pace};
 ghost use Rattle.watch_pace.specs.Words.{Gives};
 ghost use Rattle.watch_program.specs.Words.{places_in};
 ghost use Rattle.watch_program.specs.declared.fault.Fault.TheVariants.{Memory};
@@ -116,16 +117,16 @@ fn watch<R: DebouncerRuntime + AllocGlobal, O: Write + Drop, E: Write + Drop>(
     bursts: &mut Bursts<'_, '_, O, E>,
 ) -> Result<(), Fault>
     requires empty { bursts.old.trigger ≡ [] }
-    // Of the reports of these folders, with the timeout that the words say.
-    ensures printed { OnOk result ((timeout : ℕ) × IsTimeout matches.now timeout
-        × OfReports timeout (map parts_of (places_in matches.now)) Recursive
+    // Of the reports of these folders, at the pace that the words say.
+    ensures printed { OnOk result ((pace : Pace) × IsPace matches.now pace
+        × OfReports pace (map parts_of (places_in matches.now)) Recursive
         (λ s. PrintsAll folder_source s (filter_rule bursts.old.filter) bursts.old.folder.now
         (O.contents bursts.old.out) (O.contents bursts.new.out))) }
     // The folders couldn't be watched; or it is so of what was reported until the fault came.
     ensures begun { IfErr result (λ fault.
         (IsStartFault fault × (O.contents bursts.new.out ≡ O.contents bursts.old.out))
-        ⊎ ((timeout : ℕ) × IsTimeout matches.now timeout
-        × OfReports timeout (map parts_of (places_in matches.now)) Recursive
+        ⊎ ((pace : Pace) × IsPace matches.now pace
+        × OfReports pace (map parts_of (places_in matches.now)) Recursive
         (λ s. PrintsSome folder_source s (filter_rule bursts.old.filter) bursts.old.folder.now
         (O.contents bursts.old.out) (O.contents bursts.new.out)))) }
 {

@@ -5,7 +5,7 @@ ghost use Rattle.calls_by_hand.specs.Told.{EndsCalled, EndsFed};
 
 use debounce_book::book::Book;
 use debounce_shell::by_hand::{ByHand, new_told_debouncer_by_hand};
-use debounce_shell::debouncer::{Debouncer, new_told_debouncer};
+use debounce_shell::debouncer::{Debouncer, Finished, new_told_debouncer};
 use debounce_turns::feed::Feed;
 use debounce_turns::left::Leaves;
 use file_id_cache::cache::NoCache;
@@ -70,8 +70,13 @@ pub fn finish_told<
     ensures called { debouncer.began.once ≡ false → result.2 ≡ true →
         EndsCalled debouncer.seen debouncer.parts result.0 result.1 }
 {
-    let (book, missed, handler) = debouncer.finish_left();
-    (book, missed, handler.once)
+    let Finished {
+        book,
+        missed,
+        left,
+        last: _,
+    } = debouncer.finish_left();
+    (book, missed, left.once)
 }
 
 /// A debouncer that is fed by hand, and its feed.

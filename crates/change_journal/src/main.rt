@@ -2,14 +2,15 @@
 //! it is stopped. docs/examples/change_journal.md is its page.
 #![tactic(auto)]
 
-ghost use Rattle.std.specs.Prelude.{◌≡◌, ◌⊎◌, ℕ, map, IfErr, OnOk};
+ghost use Rattle.std.specs.Prelude.{◌≡◌, ◌⊎◌, map, IfErr, OnOk};
 ghost use Rattle.folder_reports.specs.Start.{IsStartFault};
 ghost use Rattle.journal_lines.specs.KeptView.{filter_rule};
 ghost use Rattle.journal_lines.specs.Printed.{WritesAll, WritesSome};
 ghost use Rattle.notify_paths.specs.PathText.{parts_of};
 ghost use Rattle.notify_types.specs.declared.event.RecursiveMode.TheVariants.{Recursive};
 ghost use Rattle.watch_loop.specs.FollowsFolder.{OfReports, folder_source};
-ghost use Rattle.watch_loop.specs.WholeProgram.{IsTimeout};
+ghost use Rattle.watch_loop.specs.WholeProgram.{IsPace};
+ghost use Rattle.watch_pace.specs.declared.pace.Pace.{Pace};
 ghost use Rattle.watch_program.specs.Words.{places_in};
 
 mod words;
@@ -59,17 +60,17 @@ fn watch<R: DebouncerRuntime + AllocGlobal, O: Write + Drop, E: Write + Drop>(
     complaints: Complaints<'_, E>,
     printer: &mut Printer<'_, '_, R, O, E>,
 ) -> Result<(), Fault>
-    // Of the reports of these folders, with the timeout that the words say.
-    ensures written { OnOk result ((timeout : ℕ) × IsTimeout matches.now timeout
-        × OfReports timeout (map parts_of (places_in matches.now)) Recursive
+    // Of the reports of these folders, at the pace that the words say.
+    ensures written { OnOk result ((pace : Pace) × IsPace matches.now pace
+        × OfReports pace (map parts_of (places_in matches.now)) Recursive
         (λ s. WritesAll folder_source s printer.old.journal.form
         (filter_rule printer.old.filter) printer.old.journal.next (O.contents printer.old.out)
         (O.contents printer.new.out))) }
     // The folders couldn't be watched; or it is so of what was reported until the fault came.
     ensures begun { IfErr result (λ fault.
         (IsStartFault fault × (O.contents printer.new.out ≡ O.contents printer.old.out))
-        ⊎ ((timeout : ℕ) × IsTimeout matches.now timeout
-        × OfReports timeout (map parts_of (places_in matches.now)) Recursive
+        ⊎ ((pace : Pace) × IsPace matches.now pace
+        × OfReports pace (map parts_of (places_in matches.now)) Recursive
         (λ s. WritesSome folder_source s printer.old.journal.form
         (filter_rule printer.old.filter) printer.old.journal.next (O.contents printer.old.out)
         (O.contents printer.new.out)))) }

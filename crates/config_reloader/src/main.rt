@@ -3,7 +3,6 @@
 #![tactic(auto)]
 
 ghost use Rattle.std.specs.Prelude.{◌≡◌, ◌⊎◌, ◌∷◌, [], IfErr, OnOk};
-ghost use Rattle.std.specs.Duration.{as_nanos};
 ghost use Rattle.config_state.specs.Followed.{ReadsSome, ReadsToEnd, following};
 ghost use Rattle.folder_reports.specs.Start.{IsStartFault};
 ghost use Rattle.notify_types.specs.declared.event.RecursiveMode.TheVariants.{NonRecursive};
@@ -46,13 +45,13 @@ fn watch<R: DebouncerRuntime + AllocGlobal, F: ReadsText, O: Write + Drop, E: Wr
     complaints: Complaints<'_, E>,
     follower: &mut Follower<'_, F, O, E>,
 ) -> Result<(), Fault>
-    ensures read { OnOk result (OfReports (as_nanos pace.entry.timeout) (folder.now ∷ [])
-        NonRecursive (λ s. ReadsToEnd folder_source s F.gives follower.old.file
+    ensures read { OnOk result (OfReports pace.entry (folder.now ∷ []) NonRecursive
+        (λ s. ReadsToEnd folder_source s F.gives follower.old.file
         (following follower.old.files follower.old.reloader (O.contents follower.old.out))
         (following follower.new.files follower.new.reloader (O.contents follower.new.out)))) }
     // The folder couldn't be watched; or it is so of what was reported until the fault came.
     ensures begun { IfErr result (λ fault. (IsStartFault fault × (follower.new ≡ follower.old))
-        ⊎ OfReports (as_nanos pace.entry.timeout) (folder.now ∷ []) NonRecursive
+        ⊎ OfReports pace.entry (folder.now ∷ []) NonRecursive
         (λ s. ReadsSome folder_source s F.gives follower.old.file
         (following follower.old.files follower.old.reloader (O.contents follower.old.out))
         (following follower.new.files follower.new.reloader (O.contents follower.new.out)))) }

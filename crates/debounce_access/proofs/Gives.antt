@@ -4,6 +4,7 @@ use Rattle.std.specs.declared.vec.Vec.{Vec}
 use Rattle.atomic_table.specs.Seated.{TableId}
 use Rattle.notify_paths.specs.Errors.{ErrorValue}
 use Rattle.notify_types.specs.Event.{EventValue, Timed}
+use Rattle.debounce_model.specs.Cache.{Rules}
 use Rattle.debounce_model.specs.Command.{CommandValue, ErrorsCommand, ReplyValue, ErrorsReply}
 use Rattle.debounce_model.specs.declared.file_id.FileId.{FileId}
 use Rattle.debounce_book.specs.Book.{Kept, fed_command, fed_reply, kept_entries, parted, written}
@@ -13,9 +14,9 @@ use Rattle.told_lock.specs.History.{Begins, has, picked, beside, MayGive, Took, 
 use Rattle.told_lock.specs.Rights.{Right, Emits, Feeds}
 use Rattle.told_lock.proofs.Moves.{begins_self, begins_trans}
 use Rattle.debounce_access.specs.declared.locked.Locked.{Locked}
-use Rattle.debounce_access.specs.Adds.{Adds, BatchMakes, CommandMakes, Does, FedMakes, GainsFed, GainsItem, GainsOne, GainsTick, AddsTick, Makes, TickMakes}
+use Rattle.debounce_access.specs.Adds.{Adds, AddsTick, BatchMakes, CommandMakes, Does, FedMakes, FedNow, FeedsItem, FeedsOn, GainsFed, GainsOne, GainsTick, Makes, MayRead, TickMakes}
 use Rattle.debounce_access.specs.Happened.{HappenedValue, History, Missed, accepted, entries_of, is_emitting, is_fed, journal_of, told_as}
-use Rattle.debounce_access.specs.Stands.{GoesOn, HasAllFed, IsTold, Lasts, LeadsTo, Reach, Stands}
+use Rattle.debounce_access.specs.Stands.{GoesOn, HasAllFed, IsTold, Known, Lasts, LeadsTo, Reach, Stands}
 use Rattle.debounce_access.specs.Taken.{TakesAll, all_out}
 use Rattle.debounce_access.proofs.Steps.{picked_append, parted_stands}
 
@@ -37,14 +38,14 @@ pub tells_quiet : (v : Hand HappenedValue) (hs : History) → v.tells ≡ true �
 tells_quiet v hs tells none Emits = inl tells
 tells_quiet v hs tells none Feeds = inr none
 
-module _ {C A : Type 0} where
-  abbrev StandsIn : Locked C A → History → History → Type 0
-  StandsIn l out log = Stands l.book.value l.missed out log
+abbrev StandsIn : {C A : Type 0} → Rules C → Locked C A → History → History → Type 0
+StandsIn r l out log = Stands r l.book.value l.missed out log
 
+module _ {C A : Type 0} {r : Rules C} where
   -- with what happened by what was done
   pub may_go : (v : Hand HappenedValue) (l : Locked C A) (hs : History) → v.holds ≡ true → Makes l.made.value hs
-      → Stands l.book.value l.missed v.taken (v.seen ++ hs) → IsQuiet v hs
-      → MayGive StandsIn told_as (λ before out l after now. Does l.made.value before out after now) v l
+      → Stands r l.book.value l.missed v.taken (v.seen ++ hs) → IsQuiet v hs
+      → MayGive (StandsIn r) told_as (λ before out l after now. Does l.made.value before out after now) v l
   may_go v l hs holds makes stands quiet = record {
     log = v.seen ++ hs;
     taken = v.taken;
@@ -59,8 +60,8 @@ module _ {C A : Type 0} where
   }
 
   -- as it was
-  pub may_stay : (v : Hand HappenedValue) (l : Locked C A) → v.holds ≡ true → StandsIn l v.taken v.seen
-      → MayGive StandsIn told_as (λ before taken x after now. (after ≡ before) × (now ≡ taken)) v l
+  pub may_stay : (v : Hand HappenedValue) (l : Locked C A) → v.holds ≡ true → StandsIn r l v.taken v.seen
+      → MayGive (StandsIn r) told_as (λ before taken x after now. (after ≡ before) × (now ≡ taken)) v l
   may_stay v l holds stands = record {
     log = v.seen;
     taken = v.taken;
@@ -74,22 +75,22 @@ module _ {C A : Type 0} where
 
   -- .. also after it was compared with another
   pub may_stay_beside : (v other w : Hand HappenedValue) (l : Locked C A) → w ≡ beside v other → v.holds ≡ true
-      → StandsIn l v.taken v.seen → MayGive StandsIn told_as (λ before taken x after now. (after ≡ before)
+      → StandsIn r l v.taken v.seen → MayGive (StandsIn r) told_as (λ before taken x after now. (after ≡ before)
       × (now ≡ taken)) w l
   may_stay_beside v other w l same holds stands =
-      subst (λ (x : Hand HappenedValue). MayGive StandsIn told_as (λ before taken x after now. (after ≡ before)
+      subst (λ (x : Hand HappenedValue). MayGive (StandsIn r) told_as (λ before taken x after now. (after ≡ before)
       × (now ≡ taken)) x l) (sym same) (may_stay (beside v other) l holds stands)
 
   -- with all entries taken out
   pub may_take : (v : Hand HappenedValue) (l : Locked C A) (old : Kept C) → v.holds ≡ true → v.keeps ≡ true
-      → Stands old l.missed v.taken v.seen → l.book.value ≡ parted old
-      → MayGive StandsIn told_as (λ before out l after now. TakesAll l.book.value before out after now) v l
+      → Stands r old l.missed v.taken v.seen → l.book.value ≡ parted old
+      → MayGive (StandsIn r) told_as (λ before out l after now. TakesAll l.book.value before out after now) v l
   may_take v l old holds keeps stands same = record {
     log = v.seen;
     taken = all_out (kept_entries l.book.value) v.taken v.seen;
     holds = holds;
     goes_on = begins_self v.seen;
-    stands = subst (λ (k : Kept C). Stands k l.missed (all_out (kept_entries k) v.taken v.seen) v.seen) (sym same)
+    stands = subst (λ (k : Kept C). Stands r k l.missed (all_out (kept_entries k) v.taken v.seen) v.seen) (sym same)
         (parted_stands old l.missed v.taken v.seen stands).0;
     makes = (refl, refl);
     keeps = inl keeps;
@@ -98,7 +99,7 @@ module _ {C A : Type 0} where
 
   pub goes_on_by : (change : History → History → Locked C A → History → History → Type 0) (a b : TableId)
       (u v w : Hand HappenedValue) (x y : Locked C A) → b ≡ a
-      → Took StandsIn told_as u x v → Gave StandsIn change v y w → GoesOn (reach_of a u) (reach_of b w)
+      → Took (StandsIn r) told_as u x v → Gave (StandsIn r) change v y w → GoesOn (reach_of a u) (reach_of b w)
   goes_on_by change a b u v w x y same took gave = record {
     lock = same;
     keeps = gave.keeps ∙ took.keeps;
@@ -109,7 +110,7 @@ module _ {C A : Type 0} where
 
   pub lasts_by : (change : History → History → Locked C A → History → History → Type 0) (a b : TableId)
       (u v w : Hand HappenedValue) (x y : Locked C A) → b ≡ a
-      → Took StandsIn told_as u x v → Gave StandsIn change v y w → w.taken ≡ v.taken
+      → Took (StandsIn r) told_as u x v → Gave (StandsIn r) change v y w → w.taken ≡ v.taken
       → Lasts (reach_of a u) (reach_of b w)
   lasts_by change a b u v w x y same took gave taken = (
     goes_on_by change a b u v w x y same took gave,
@@ -119,8 +120,8 @@ module _ {C A : Type 0} where
 
   -- .. also if it was compared with another meanwhile
   pub lasts_beside : (a b : TableId) (u v other m w : Hand HappenedValue) (x : Locked C A) → b ≡ a → m ≡ beside v other
-      → Took StandsIn told_as u x v
-      → Gave StandsIn (λ before taken y after now. (after ≡ before) × (now ≡ taken)) m x w
+      → Took (StandsIn r) told_as u x v
+      → Gave (StandsIn r) (λ before taken y after now. (after ≡ before) × (now ≡ taken)) m x w
       → Lasts (reach_of a u) (reach_of b w)
   lasts_beside a b u v other m w x same is took gave = (
     record {
@@ -136,22 +137,23 @@ module _ {C A : Type 0} where
 
   -- the way that alone takes entries out knows at which history they were
   pub told_by : (u v : Hand HappenedValue) (x : Locked C A) (seen : History) → u.keeps ≡ true
-      → Took StandsIn told_as u x v → Begins seen v.seen → picked is_emitting seen ≡ picked is_emitting v.seen
-      → IsTold u.seen seen (entries_of u.taken) x.book.value x.missed
+      → Took (StandsIn r) told_as u x v → Begins seen v.seen → picked is_emitting seen ≡ picked is_emitting v.seen
+      → IsTold r u.seen seen (entries_of u.taken) x.book.value x.missed
   told_by u v x seen keeps took begins told = (
     v.seen,
     took.goes_on,
     begins,
     subst (λ (l : History). LeadsTo x.book.value x.missed
         (entries_of l) v.seen) (took.taken keeps) took.stands.0,
+    took.stands.1,
     told,
   )
 
   -- .. and the feed knows all that was fed
   pub told_fed : (u v : Hand HappenedValue) (x : Locked C A) (seen fed : History) → u.keeps ≡ true
-      → Took StandsIn told_as u x v → Begins seen v.seen → picked is_emitting seen ≡ picked is_emitting v.seen
+      → Took (StandsIn r) told_as u x v → Begins seen v.seen → picked is_emitting seen ≡ picked is_emitting v.seen
       → Begins fed v.seen → picked is_fed fed ≡ picked is_fed v.seen
-      → (all : IsTold u.seen seen (entries_of u.taken) x.book.value x.missed) × HasAllFed fed all.0
+      → (all : IsTold r u.seen seen (entries_of u.taken) x.book.value x.missed) × HasAllFed fed all.0
   unfolding told_by
   told_fed u v x seen fed keeps took begins told begun all =
       (told_by u v x seen keeps took begins told, (begun, all))
@@ -203,22 +205,47 @@ fed_none before mid after shown now exists was res hs told end makes is = by res
     by (Ok u) m = tt
     by (Err e) m = ap (picked is_fed) (is ∙ ap (λ l. mid ++ l) m.1 ∙ append-nil mid) ∙ told
 
--- what a handler is called with is taken
-pub item_taken : (before after : History) (item : Result EventValue ErrorValue)
-    → ((now : ℕ) × (exists : Bool) × GainsFed before item now exists after) → GainsItem before item after
-item_taken before after item (now, exists, fed) = (fed.0, inl (now, exists, fed.1), fed.2)
+-- what a feed is called with is taken
+pub feeds_taken : (old new : Known) (item : Result EventValue ErrorValue) → new.lock ≡ old.lock → FedNow old item new
+    → FeedsItem old item new
+feeds_taken old new item lock (now, exists, fed, reads) =
+    (lock, (fed.0, inl (now, exists, fed.1), fed.2), inl (now, exists, fed, reads))
+
+-- what is missed, after a refusal, is one thing more
+one_missed : (before mid after : History) → Begins before mid → picked is_fed mid ≡ picked is_fed before
+    → GainsOne mid Missed after → GainsOne before Missed after
+one_missed before mid after goes told gains = (
+  (gains.0.0, begins_trans before mid gains.0.0 goes gains.0.1, gains.0.2),
+  gains.1 ∙ ap (λ l. l ++ Missed ∷ []) told,
+)
+
+may_read : (old mid new : Known) → MayRead old mid → new.moments ≡ mid.moments → MayRead old new
+may_read old mid new (inl same) is = inl (is ∙ same)
+may_read old mid new (inr (now, reads)) is = inr (now, is ∙ reads)
 
 -- .. or missed
-pub item_missed : (before mid after : History) (item : Result EventValue ErrorValue) → Begins before mid
-    → picked is_fed mid ≡ picked is_fed before → GainsOne mid Missed after → GainsItem before item after
-item_missed before mid after item goes told gains = (
-  Missed,
-  inr refl,
-  (
-    (gains.0.0, begins_trans before mid gains.0.0 goes gains.0.1, gains.0.2),
-    gains.1 ∙ ap (λ l. l ++ Missed ∷ []) told,
-  ),
-)
+pub feeds_missed : (old mid new : Known) (item : Result EventValue ErrorValue) → mid.lock ≡ old.lock
+    → Begins old.seen mid.seen × (picked is_fed mid.seen ≡ picked is_fed old.seen) × MayRead old mid
+    → (new.lock ≡ mid.lock) × (new.moments ≡ mid.moments) → GainsOne mid.seen Missed new.seen → FeedsItem old item new
+feeds_missed old mid new item lock (goes, told, reads) (same, is) gains =
+    let one = one_missed old.seen mid.seen new.seen goes told gains in
+    (same ∙ lock, (Missed, inr refl, one), inr (one, may_read old mid new reads is))
+
+-- what a feed does with its way to the book, once its clock was read
+pub fed_now : (old mid new : Known) (item : Result EventValue ErrorValue) (now : ℕ) (exists : Bool)
+    (res : Result (Unit {0}) ErrorValue) → mid ≡ record old { moments = old.moments ++ now ∷ [] }
+    → FeedsOn mid item now exists res new
+    → (new.lock ≡ old.lock) × OnOk res (FedNow old item new)
+    × OnErr res (Begins old.seen new.seen × (picked is_fed new.seen ≡ picked is_fed old.seen) × MayRead old new)
+fed_now old mid new item now exists res is feeds = by res
+    (subst (λ (k : Known). FeedsOn k item now exists res new) is feeds)
+  where
+    by : (r : Result (Unit {0}) ErrorValue)
+        → FeedsOn (record old { moments = old.moments ++ now ∷ [] }) item now exists r new
+        → (new.lock ≡ old.lock) × OnOk r (FedNow old item new)
+        × OnErr r (Begins old.seen new.seen × (picked is_fed new.seen ≡ picked is_fed old.seen) × MayRead old new)
+    by (Ok u) (lock, fed, none, same) = (lock, (now, exists, fed, same), tt)
+    by (Err e) (lock, fed, none, same) = (lock, tt, (none.0, none.1, inr (now, same)))
 
 -- .. by a command
 pub command_adds : (before mid after : History) (c : CommandValue) (y : ReplyValue)
@@ -289,10 +316,10 @@ module _ {A : Type 0} where
         ∙ (λ i. told i ++ tick_picked now shown.0 shown.1.items hs makes i),
   )
 
-module _ {C : Type 0} where
+module _ {C : Type 0} {r : Rules C} where
   -- what was taken out follows what was out before
   pub taken_out : (old new : Kept C) (count : ℕ) (out was log now : History) (items : List EntryValue)
-      → Stands old count out log → new ≡ parted old → now ≡ all_out (kept_entries new) out log → out ≡ was → items
+      → Stands r old count out log → new ≡ parted old → now ≡ all_out (kept_entries new) out log → out ≡ was → items
       ≡ written old
       → entries_of now ≡ entries_of was ++ items
   taken_out old new count out was log now items stands same all first is =
@@ -301,7 +328,7 @@ module _ {C : Type 0} where
       ∙ ap (λ l. entries_of was ++ l) (sym is)
 
   -- .. and with that is the journal
-  pub whole_out : (old new : Kept C) (count : ℕ) (out log now after : History) → Stands old count out log → new
+  pub whole_out : (old new : Kept C) (count : ℕ) (out log now after : History) → Stands r old count out log → new
       ≡ parted old → now ≡ all_out (kept_entries new) out log → after ≡ log → entries_of now ≡ journal_of after
   whole_out old new count out log now after stands same all is =
       ap entries_of (all ∙ ap (λ (k : Kept C). all_out (kept_entries k) out log) same)

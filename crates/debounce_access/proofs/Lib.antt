@@ -1,2 +1,4 @@
+pub mod Aged
 pub mod Gives
+pub mod Runs
 pub mod Steps

@@ -37,6 +37,28 @@ ItemMakes item h = ((now : ℕ) × (exists : Bool) × IsFedBy item now exists h)
 abbrev pub GainsItem : History → Result EventValue ErrorValue → History → Type 0
 GainsItem before item after = (h : HappenedValue) × ItemMakes item h × GainsOne before h after
 
+-- the clock was read once, and answered this moment
+abbrev pub Reads : Known → ℕ → Known → Type 0
+Reads old now new = new.moments ≡ old.moments ++ now ∷ []
+
+-- .. or not at all
+abbrev pub MayRead : Known → Known → Type 0
+MayRead old new = (new.moments ≡ old.moments) ⊎ ((now : ℕ) × Reads old now new)
+
+-- what was fed was taken at the moment that the clock answered, and nothing else was fed
+abbrev pub FedNow : Known → Result EventValue ErrorValue → Known → Type 0
+FedNow old item new =
+    (now : ℕ) × (exists : Bool) × GainsFed old.seen item now exists new.seen × Reads old now new
+
+-- .. or it was missed
+abbrev pub FedOrMissed : Known → Result EventValue ErrorValue → Known → Type 0
+FedOrMissed old item new = FedNow old item new ⊎ (GainsOne old.seen Missed new.seen × MayRead old new)
+
+-- what a feed does that is called with an item, in the same history
+abbrev pub FeedsItem : Known → Result EventValue ErrorValue → Known → Type 0
+FeedsItem old item new =
+    (new.lock ≡ old.lock) × GainsItem old.seen item new.seen × FedOrMissed old item new
+
 -- what happens by a command: it is accepted, or it is refused and nothing happens
 abbrev pub CommandMakes : CommandValue → ReplyValue → Result (Unit {0}) ErrorValue → History → Type 0
 CommandMakes command reply (Ok _) hs = hs ≡ accepted command reply ∷ []
@@ -72,17 +94,20 @@ abbrev pub AddsTick : {A : Type 0} → History → ℕ → Result (Vec Timed A) 
 AddsTick before now batch errors after =
     (mid : History) × Begins before mid × GainsTick mid now batch errors after
 
--- a tick goes on in the same history, and nothing else emits
+-- a tick goes on in the same history, and nothing else emits. The clock isn't read
 abbrev pub TicksOn : {A : Type 0} → Known → ℕ → Result (Vec Timed A) ErrorValue → List ErrorValue → Known → Type 0
 TicksOn old now batch errors new = (new.lock ≡ old.lock)
     × AddsTick old.seen now batch errors new.seen
     × GainsTick (picked is_emitting old.seen) now batch errors (picked is_emitting new.seen)
+    × (new.moments ≡ old.moments)
 
--- a feed goes on in the same history: what it gave was taken, and nothing else fed, or it was refused, and nothing was
+-- a feed goes on in the same history: what it gave was taken, and nothing else fed, or it was refused, and nothing was.
+-- The clock isn't read
 abbrev pub FeedsOn : Known → Result EventValue ErrorValue → ℕ → Bool → Result (Unit {0}) ErrorValue → Known → Type 0
 FeedsOn old item now exists answered new = (new.lock ≡ old.lock)
     × OnOk answered (GainsFed old.seen item now exists new.seen)
     × OnErr answered (Begins old.seen new.seen × (picked is_fed new.seen ≡ picked is_fed old.seen))
+    × (new.moments ≡ old.moments)
 
 -- what happens by what was done under the lock
 abbrev pub Makes : {A : Type 0} → Made A → History → Type 0

@@ -1,10 +1,12 @@
 -- The history of a book under its lock, and what each that reaches the book knows of it.
 use Rattle.std.specs.Prelude.{◌≡◌, ◌-◌, ◌^◌, min, ℕ, Bool, true, List, [], ◌∷◌, ◌++◌, Option, Some, None, is_some}
+use Rattle.debounce_model.specs.Cache.{Rules}
 use Rattle.atomic_table.specs.Seated.{TableId}
 use Rattle.told_lock.specs.Passes.{Pass, view}
-use Rattle.debounce_book.specs.Book.{Kept, kept_entries}
+use Rattle.debounce_book.specs.Book.{Kept, kept_entries, written}
 use Rattle.debounce_book.specs.Journal.{EntryValue, IsLegal}
 use Rattle.told_lock.specs.History.{Begins, picked}
+use Rattle.debounce_access.specs.Ran.{RanAs, RanTo, opened_core}
 use Rattle.debounce_access.specs.Happened.{History, Opened, entries_of, is_journaled, journal_of, missed_in, is_emitting, is_fed}
 
 -- it begins with the opening of a book of this timeout, with a journal or without
@@ -26,20 +28,28 @@ pub record LeadsTo {C : Type 0} (book : Kept C) (count : ℕ) (parts : List Entr
   pub legal : IsLegal (entries_of log) book.core.state
   pub missed : count ≡ min (missed_in log) (2 ^ 64 - 1)
 
--- .. where the entries of this beginning of it were taken out. A journal of which nothing was is whole
-abbrev pub Stands : {C : Type 0} → Kept C → ℕ → History → History → Type 0
-Stands book count out log = LeadsTo book count (entries_of out) log × (out ≡ [] → book.part ≡ None)
+-- .. where the entries of this beginning of it were taken out, and all was done by the cache's rules. A journal of
+-- which nothing was taken out is whole
+abbrev pub Stands : {C : Type 0} → Rules C → Kept C → ℕ → History → History → Type 0
+Stands rules book count out log =
+    LeadsTo book count (entries_of out) log × RanTo rules (entries_of log) book.core × (out ≡ [] → book.part ≡ None)
 
--- at the end one history goes on from what was seen and from what was told, it leads to the book and to the count, and
--- nothing else was emitted in it than was told
-abbrev pub IsTold : {C : Type 0} → History → History → List EntryValue → Kept C → ℕ → Type 0
-IsTold seen told parts book count =
+-- at the end one history goes on from what was seen and from what was told, it leads to the book and to the count, all
+-- in it was done by the cache's rules, and nothing else was emitted in it than was told
+abbrev pub IsTold : {C : Type 0} → Rules C → History → History → List EntryValue → Kept C → ℕ → Type 0
+IsTold rules seen told parts book count =
     (log : History) × Begins seen log × Begins told log × LeadsTo book count parts log
+    × RanTo rules (entries_of log) book.core
     × (picked is_emitting told ≡ picked is_emitting log)
 
 -- what a feed has seen is a beginning of this history, in which nothing else was fed or missed
 abbrev pub HasAllFed : History → History → Type 0
 HasAllFed fed log = Begins fed log × (picked is_fed fed ≡ picked is_fed log)
+
+-- a book that was just opened: its core is, and it has no entries, or keeps none
+abbrev pub IsFresh : {C : Type 0} → Kept C → Type 0
+IsFresh book =
+    (book.core ≡ opened_core book.core.state.timeout book.core.cache) × (written book ≡ []) × (book.part ≡ None)
 
 -- the history of a book that was just opened
 abbrev pub opening : {C : Type 0} → Kept C → History
@@ -65,10 +75,12 @@ tells_of pass = (view pass).tells
 abbrev pub feeds_of : {T E : Type 0} → Pass T E → Bool
 feeds_of pass = (view pass).feeds
 
--- what a feed, a receipt or the worker shows: of which lock it is, and the history as far as it has seen it
+-- what a feed, a receipt or the worker shows: of which lock it is, the history as far as it has seen it, and the
+-- moments that its clock has answered, in order
 pub record Known : Type 0 where
   pub lock : TableId
   pub seen : History
+  pub moments : List ℕ
 
 -- what each that reaches a book shows: also at which history entries were last taken out, and whether it alone takes
 -- them out, alone emits, and alone feeds
@@ -109,33 +121,10 @@ abbrev pub StaysButRights : Reach → Reach → Type 0
 StaysButRights old new =
     (new.lock ≡ old.lock) × (new.seen ≡ old.seen) × (new.out ≡ old.out) × (new.keeps ≡ old.keeps)
 
--- what a debouncer that runs shows: its watcher, of which lock it is, the history as far as it has seen it, the parts
--- of the journal that were taken out, and whether none was; and what was there of its handler at the start
-pub record Running (T L : Type 0) : Type 0 where
-  pub watcher : T
-  pub lock : TableId
-  pub seen : History
-  pub parts : List EntryValue
-  pub is_whole : Bool
-  pub began : L
-
--- it runs on in the same history, and nothing was taken out of its journal
-pub record RunsOn {T L : Type 0} (old new : Running T L) : Type 0 where
-  pub lock : new.lock ≡ old.lock
-  pub parts : new.parts ≡ old.parts
-  pub is_whole : new.is_whole ≡ old.is_whole
-  pub began : new.began ≡ old.began
-  pub seen : Begins old.seen new.seen
-
--- it has just been started with this timeout, and with a journal or without
-pub record IsStarted {T L : Type 0} (started : Running T L) (timeout : ℕ) (journaled : Bool) : Type 0 where
-  pub seen : started.seen ≡ Opened timeout journaled ∷ []
-  pub parts : started.parts ≡ []
-  pub is_whole : started.is_whole ≡ true
-
--- these are the timeout and the journal of a history that goes on from what was seen and from what was told, and
--- nothing else was emitted in it than was told
-abbrev pub ToldJournal : History → History → ℕ → List EntryValue → Type 0
-ToldJournal seen told timeout journal =
+-- these are the timeout and the journal of a history that goes on from what was seen and from what was told, all in it
+-- was done by the cache's rules, and nothing else was emitted in it than was told
+abbrev pub ToldJournal : {C : Type 0} → Rules C → History → History → ℕ → List EntryValue → Type 0
+ToldJournal rules seen told timeout journal =
     (log : History) × Begins seen log × Begins told log × BeginsAs timeout (is_journaled log) log
+    × RanAs rules timeout (entries_of log)
     × (journal ≡ journal_of log) × (picked is_emitting told ≡ picked is_emitting log)

@@ -10,7 +10,7 @@ ghost use Rattle.debounce_book.specs.Journal.{IsJournal, IsLegal, IsPart};
 ghost use Rattle.debounce_book.specs.JournalLaws.{LosesNoChange, GivesRawPaths, InventsNoRename};
 ghost use Rattle.debounce_access.specs.Adds.{Adds, AddsTick, CommandMakes, GainsFed, GainsOne, GainsTick};
 ghost use Rattle.debounce_access.specs.Happened.{Missed, accepted, entries_of, is_emitting, is_fed, journal_of};
-ghost use Rattle.debounce_access.specs.Stands.{GoesOn, HasAllFed, IsTold, Lasts, Stands, StaysButFeeds, StaysButTells, ToldJournal, feeds_of, opening, seen_by, tells_of};
+ghost use Rattle.debounce_access.specs.Stands.{GoesOn, HasAllFed, IsFresh, IsTold, Lasts, StaysButFeeds, StaysButTells, ToldJournal, feeds_of, opening, seen_by, tells_of};
 
 use crate::locked::{BookLock, BookPass, Goes, Locked, TakesOut};
 use crate::made::Made;
@@ -33,12 +33,12 @@ use told_lock::shown::Shown;
 
 /// A way to a book. Each call that names the runtime waits for the lock, and holds it meanwhile.
 #[derive(Drop)]
-pub struct Access<C: Drop, A: Allocator> {
+pub struct Access<C: FileIdCache<A> + Drop, A: Allocator> {
     lock: BookLock<C, A>,
     pass: BookPass<C, A>,
 }
 
-impl<C: Drop, A: Allocator> Model for Access<C, A> {
+impl<C: FileIdCache<A> + Drop, A: Allocator> Model for Access<C, A> {
     ghost use Rattle.std.specs.Arc.{arc_value};
     ghost use Rattle.told_lock.specs.Passes.{IsPassOf};
     ghost use Rattle.debounce_access.specs.Stands.{Reach, feeds_of, keeps_of, seen_by, taken_by, tells_of};
@@ -57,10 +57,10 @@ impl<C: Drop, A: Allocator> Model for Access<C, A> {
     ghost invariant = { λ a. IsPassOf (arc_value a.lock).table.shared.table_id a.pass };
 }
 
-impl<C: Drop, A: Allocator + Copy> Access<C, A> {
+impl<C: FileIdCache<A> + Drop, A: Allocator + Copy> Access<C, A> {
     /// Puts a new book under a lock. This way to it alone takes entries out, emits and feeds.
     pub fn open(alloc: A, book: Book<C, A>) -> Result<Access<C, A>, AllocError>
-        requires { Stands book 0 [] (opening book) }
+        requires { IsFresh book }
         ensures seen { IfOk result (λ a. (a.seen ≡ opening book) × (a.out ≡ [])) }
         ensures rights { IfOk result (λ a. (a.keeps ≡ true) × (a.tells ≡ true) × (a.feeds ≡ true)) }
     {
@@ -110,7 +110,7 @@ impl<C: Drop, A: Allocator + Copy> Access<C, A> {
     }
 }
 
-impl<C: Drop, A: Allocator> Access<C, A> {
+impl<C: FileIdCache<A> + Drop, A: Allocator> Access<C, A> {
     /// What this way has seen, for whoever is to be shown it.
     pub fn shown(&mut self) -> BookPass<C, A>
         ensures same { self.new ≡ self.old }
@@ -238,7 +238,7 @@ impl<C: FileIdCache<A> + Drop, A: Allocator + Copy> Access<C, A> {
     }
 }
 
-impl<C: Drop, A: Allocator + Copy> Access<C, A> {
+impl<C: FileIdCache<A> + Drop, A: Allocator + Copy> Access<C, A> {
     /// Returns what waits, in the order of a batch.
     pub fn outlook<R: Wait>(&mut self, rt: &R) -> Result<Vec<DebouncedEvent<A>, A>, Error<A>>
         ensures lasts { Lasts self.old self.new }
@@ -280,7 +280,8 @@ impl<C: Drop, A: Allocator + Copy> Access<C, A> {
         requires lock { (teller.table_id ≡ self.old.lock) × (teller.me.1 ≡ []) }
         requires tells { tells_of teller ≡ true }
         ensures left { self.old.keeps ≡ true → self.old.out ≡ [] →
-            IfOk result (λ r. ToldJournal self.old.seen (seen_by teller) r.0 r.1.items) }
+            IfOk result (λ r.
+            ToldJournal C.rules self.old.seen (seen_by teller) r.0 r.1.items) }
         ensures legal { IfOk result (λ r. IsJournal r.0 r.1.items) }
         ensures kept { IfOk result (λ r. LosesNoChange r.0 r.1.items) }
         ensures raw { IfOk result (λ r. GivesRawPaths r.0 r.1.items) }
@@ -301,7 +302,8 @@ impl<C: Drop, A: Allocator + Copy> Access<C, A> {
         requires keeps { self.keeps ≡ true }
         requires lock { (teller.table_id ≡ self.lock) × (teller.me.1 ≡ []) }
         requires tells { tells_of teller ≡ true }
-        ensures told { IsTold self.seen (seen_by teller) (entries_of self.out) result.0 result.1 }
+        ensures told { IsTold C.rules self.seen (seen_by teller) (entries_of self.out) result.0
+            result.1 }
     {
         let Access { lock, mut pass } = self;
         let lock = wait_for_last(rt, lock);
@@ -324,8 +326,8 @@ impl<C: Drop, A: Allocator + Copy> Access<C, A> {
             × (feed.table_id ≡ self.lock) × (feed.me.1 ≡ []) }
         requires tells { tells_of worker ≡ true }
         requires feeds { feeds_of feed ≡ true }
-        ensures told { (told : IsTold self.seen (seen_by worker) (entries_of self.out) result.0
-            result.1) × HasAllFed (seen_by feed) told.0 }
+        ensures told { (told : IsTold C.rules self.seen (seen_by worker) (entries_of self.out)
+            result.0 result.1) × HasAllFed (seen_by feed) told.0 }
     {
         let Access { lock, mut pass } = self;
         let lock = wait_for_last(rt, lock);

@@ -1,6 +1,7 @@
 //! What lies under the lock.
 use crate::made::{Happened, Made};
 use debounce_book::book::Book;
+use file_id_cache::cache::FileIdCache;
 use std::alloc::Allocator;
 use std::sync::Arc;
 use told_lock::hand::{Change, Pass, Told};
@@ -17,13 +18,13 @@ pub struct Locked<C: Drop, A: Allocator> {
     pub made: Shown<Made<A>>,
 }
 
-impl<C: Drop, A: Allocator> Told<Happened> for Locked<C, A> {
+impl<C: FileIdCache<A> + Drop, A: Allocator> Told<Happened> for Locked<C, A> {
     ghost use Rattle.debounce_access.specs.Happened.{told_as};
     ghost use Rattle.debounce_access.specs.Stands.{Stands, opening};
 
     ghost begins = { λ l. opening l.book.value };
 
-    ghost stands = { λ l out log. Stands l.book.value l.missed out log };
+    ghost stands = { λ l out log. Stands C.rules l.book.value l.missed out log };
 
     ghost told = { told_as };
 }

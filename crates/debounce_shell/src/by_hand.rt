@@ -1,13 +1,13 @@
 //! Debouncers that are fed by hand.
-ghost use Rattle.std.specs.Prelude.{◌≡◌, [], true, false, IfErr, IfOk, IsErrOf};
+ghost use Rattle.std.specs.Prelude.{◌≡◌, [], true, false, None, IfErr, IfOk, IsErrOf};
 ghost use Rattle.std.specs.Duration.{as_nanos};
 ghost use Rattle.told_lock.specs.History.{picked};
 ghost use Rattle.debounce_access.specs.Happened.{is_emitting};
-ghost use Rattle.debounce_access.specs.Stands.{IsStarted};
 ghost use Rattle.debounce_turns.specs.Handed.{LeavesAll};
+ghost use Rattle.debounce_turns.specs.Running.{IsStarted};
 ghost use Rattle.debounce_shell.specs.Start.{IsStartError, IsStopped, IsTooSlow, too_slow};
 
-use crate::debouncer::{Debouncer, Fed, start_fed, tick_of};
+use crate::debouncer::{Debouncer, Fed, Running, start_fed, tick_of};
 use debounce_book::book::Book;
 use debounce_turns::feed::Feed;
 use debounce_turns::left::{Ending, Forgotten, Leaves, Returned};
@@ -15,9 +15,9 @@ use debounce_turns::shared::Shared;
 use file_id_cache::cache::FileIdCache;
 use notify_paths::error::{Error, ErrorKind};
 use notify_paths::path::PathBuf;
-use notify_types::event::RecursiveMode;
+use notify_types::event::{Event, RecursiveMode};
 use notify_watch::config::{Config, WatcherKind};
-use notify_watch::handler::{DebounceEventHandler, DebounceEventResult};
+use notify_watch::handler::{DebounceEventHandler, DebounceEventResult, EventHandler};
 use notify_watch::watcher::{Task, Watcher};
 use std::alloc::Allocator;
 use std::fs::Files;
@@ -32,19 +32,35 @@ pub struct ByHand;
 
 /// The work of its thread: none.
 #[derive(Drop)]
-pub struct NoTask;
-
-impl Task for NoTask {
-    ghost can_run = { λ _. Unit {0} };
-
-    fn run(&mut self) {}
+pub struct NoTask<F: Drop> {
+    handler: F,
 }
 
-impl<F: Drop, R: Copy, A: Allocator + Copy> Watcher<F, R, A> for ByHand {
+impl<F: Send + Drop + 'static> Task for NoTask<F> {
+    ghost use Rattle.std.specs.Prelude.{◌≡◌};
+
+    type Handler = F;
+
+    type Last = ();
+
+    ghost is_made = { λ task begun _. task.handler ≡ begun };
+
+    ghost ends = { λ begun _ now _. now ≡ begun };
+
+    fn run(self) -> (F, ()) {
+        (self.handler, ())
+    }
+}
+
+impl<F: EventHandler<Result<Event<A>, Error<A>>> + Send, R: Copy, A: Allocator + Copy> Watcher<
+    F,
+    R,
+    A,
+> for ByHand {
     ghost use Rattle.std.specs.Prelude.{◌≡◌, Ok, false};
     ghost use Rattle.notify_watch.specs.declared.config.WatcherKind.TheVariants.{NullWatcher};
 
-    type Task = NoTask;
+    type Task = NoTask<F>;
 
     ghost takes = { λ _. Unit {0} };
 
@@ -58,8 +74,13 @@ impl<F: Drop, R: Copy, A: Allocator + Copy> Watcher<F, R, A> for ByHand {
 
     ghost configures = { λ _ _ answer _. answer ≡ Ok false };
 
-    fn new(_rt: R, _alloc: A, _handler: F, _config: Config) -> Result<(ByHand, NoTask), Error<A>> {
-        Ok((ByHand, NoTask))
+    fn new(
+        _rt: R,
+        _alloc: A,
+        handler: F,
+        _config: Config,
+    ) -> Result<(ByHand, NoTask<F>), Error<A>> {
+        Ok((ByHand, NoTask { handler }))
     }
 
     fn watch(&mut self, _path: &PathBuf<A>, _mode: RecursiveMode) -> Result<(), Error<A>> {
@@ -99,6 +120,7 @@ pub fn new_debouncer_by_hand<
     requires ready { F.ready event_handler }
     ensures rate { IsTooSlow timeout tick_rate → IsErrOf result too_slow }
     ensures opened { IfOk result (λ r. IsStarted r.0 (as_nanos timeout) false) }
+    ensures made { IfOk result (λ r. r.0.made ≡ None) }
     ensures feed { IfOk result (λ r. (r.1.lock ≡ r.0.lock) × (r.1.seen ≡ r.0.seen)) }
     ensures err { IfErr result (IsStartError (λ _. ⊥) timeout tick_rate) }
 {
@@ -129,6 +151,7 @@ pub fn new_journaled_debouncer_by_hand<
     requires ready { F.ready event_handler }
     ensures rate { IsTooSlow timeout tick_rate → IsErrOf result too_slow }
     ensures opened { IfOk result (λ r. IsStarted r.0 (as_nanos timeout) true) }
+    ensures made { IfOk result (λ r. r.0.made ≡ None) }
     ensures feed { IfOk result (λ r. (r.1.lock ≡ r.0.lock) × (r.1.seen ≡ r.0.seen)) }
     ensures err { IfErr result (IsStartError (λ _. ⊥) timeout tick_rate) }
 {
@@ -160,6 +183,7 @@ pub fn new_told_debouncer_by_hand<
     requires leaves { LeavesAll F.handles (λ h l. l ≡ h) F.tells event_handler event_handler }
     ensures rate { IsTooSlow timeout tick_rate → IsErrOf result too_slow }
     ensures opened { IfOk result (λ r. IsStarted r.0 (as_nanos timeout) false) }
+    ensures made { IfOk result (λ r. r.0.made ≡ None) }
     ensures began { IfOk result (λ r. r.0.began ≡ event_handler) }
     ensures feed { IfOk result (λ r. (r.1.lock ≡ r.0.lock) × (r.1.seen ≡ r.0.seen)) }
     ensures err { IfErr result (IsStartError (λ _. ⊥) timeout tick_rate) }
@@ -195,12 +219,14 @@ fn start_by_hand<
     ensures opened { IfOk result (λ r.
         (r.0.seen ≡ shared.owner.seen) × (r.0.parts ≡ []) × (r.0.is_whole ≡ true)
         × (r.0.began ≡ began.value)) }
+    ensures made { IfOk result (λ r. r.0.made ≡ None) }
     ensures feed { IfOk result (λ r. (r.1.lock ≡ r.0.lock) × (r.1.seen ≡ r.0.seen)) }
     ensures err { IfErr result (IsStopped (λ _. ⊥)) }
 {
     let Fed { feed, worker } = start_fed::<F, E, L, C, R, A>(&mut shared, tick, handler, began)?;
-    let debouncer = Debouncer {
+    let debouncer = Running {
         watcher: ByHand,
+        thread: None,
         shared,
         worker,
     };

@@ -1,5 +1,5 @@
 //! Debouncers that run: made, asked and stopped.
-ghost use Rattle.std.specs.Prelude.{◌≡◌, ◌↔◌, ◌⊎◌, ◌++◌, ◌∷◌, [], true, false, None, IfErr, IfOk, IfSome, IsErrOf, OnOk};
+ghost use Rattle.std.specs.Prelude.{◌≡◌, ◌↔◌, ◌⊎◌, ◌++◌, ◌∷◌, [], true, false, None, Option, IfErr, IfOk, IfSome, IsErrOf, OnOk};
 ghost use Rattle.std.specs.Duration.{as_nanos};
 ghost use Rattle.notify_paths.specs.Errors.{out_of_memory};
 ghost use Rattle.notify_watch.specs.Config.{not_started};
@@ -11,11 +11,12 @@ ghost use Rattle.debounce_book.specs.JournalLaws.{LosesNoChange, GivesRawPaths, 
 ghost use Rattle.told_lock.specs.History.{Begins, picked};
 ghost use Rattle.debounce_access.specs.Adds.{Adds};
 ghost use Rattle.debounce_access.specs.Happened.{Opened, accepted, entries_of, is_emitting, journal_of};
-ghost use Rattle.debounce_access.specs.Stands.{IsStarted, RunsOn, StaysButRights};
+ghost use Rattle.debounce_access.specs.Stands.{StaysButRights};
 ghost use Rattle.debounce_turns.specs.Clock.{IsIo};
 ghost use Rattle.debounce_turns.specs.Handed.{LeavesAll};
 ghost use Rattle.debounce_turns.specs.Watched.{AsksFirst, ListsFirst};
-ghost use Rattle.debounce_turns.specs.Ended.{EndsJournal, IsEnded, IsEndedFed};
+ghost use Rattle.debounce_turns.specs.Ended.{EndsJournal, IsEndedFed, IsFinished, StaysOfLock};
+ghost use Rattle.debounce_turns.specs.Running.{IsMadeWith, IsStarted, RunsOn};
 ghost use Rattle.debounce_shell.specs.Start.{IsStartError, IsStopped, IsTooSlow, too_slow, tick_nanos};
 
 use crate::by_hand::ByHand;
@@ -34,7 +35,7 @@ use notify_types::event::{DebouncedEvent, RecursiveMode};
 use notify_types::time::Moment;
 use notify_watch::config::{Config, WatcherKind};
 use notify_watch::handler::{DebounceEventHandler, DebounceEventResult};
-use notify_watch::watcher::{ListingWatcher, Watcher, start_task};
+use notify_watch::watcher::{ListingWatcher, Made, Task, Watcher, WatcherThread, start_task};
 use std::alloc::{Allocator, Global};
 use std::fs::Files;
 use std::marker::Model;
@@ -47,33 +48,68 @@ use std::time::{Clock, Duration};
 /// A debouncer that runs: a watcher of type `T` feeds it, and a thread of its own calls the handler.
 /// `C` is the cache of file numbers, and `R` the runtime.
 ///
-/// Clauses see its watcher, the history of its book as far as it has seen it, and the parts of the
-/// journal that were taken out. `L` is what is left of the handler at the end; of [`Forgotten`] clauses
-/// see nothing.
+/// Clauses see its watcher, with what it was made, the history of its book as far as it has seen it, and the
+/// parts of the journal that were taken out. `L` is what is left of the handler at the end; of [`Forgotten`]
+/// clauses see nothing.
 ///
-/// Dropping it asks its thread to end, and does not wait for it. What still waits then is dropped.
-pub struct Debouncer<
+/// Dropping it asks its thread to end, and waits neither for it nor for the watcher's thread. What still waits
+/// then is dropped.
+pub type Debouncer<T, C, R, A = Global, L = Forgotten> = Running<T, TaskOf<T, C, R, A>, C, R, A, L>;
+
+/// The work of the thread of a debouncer's watcher.
+pub type TaskOf<T, C, R, A> = <T as Watcher<Feed<C, R, A>, R, A>>::Task;
+
+/// What a debouncer's watcher finds last.
+pub type LastOf<T, C, R, A> = <TaskOf<T, C, R, A> as Task>::Last;
+
+/// A [`Debouncer`] whose watcher's thread does the work `K`.
+pub struct Running<
     T: Drop,
-    C: Drop,
-    R: Threads + Wait + Drop,
-    A: Allocator = Global,
+    K: Task<Handler = Feed<C, R, A>>,
+    C: FileIdCache<A> + Drop + Send + 'static,
+    R: Threads + Wait + Clock + Files + Copy + Send + Sync + 'static,
+    A: Allocator + Copy + Send + Sync + 'static = Global,
     L: Leaves = Forgotten,
 > {
     pub(crate) watcher: T,
+    /// The watcher's thread, which owns the feed; none if the debouncer is fed by hand.
+    pub(crate) thread: Option<WatcherThread<K>>,
     pub(crate) shared: Shared<C, R, A>,
     pub(crate) worker: Worker<C, L, A>,
 }
 
-impl<T: Drop, C: Drop, R: Threads + Wait + Drop, A: Allocator, L: Leaves> Model
-    for Debouncer<T, C, R, A, L> {
-    ghost use Rattle.std.specs.Prelude.{◌≡◌, true};
-    ghost use Rattle.debounce_access.specs.Happened.{entries_of, is_nil};
-    ghost use Rattle.debounce_access.specs.Stands.{Running};
+/// What is left when a debouncer ends. `N` is what its watcher finds last.
+#[derive(Drop)]
+pub struct Finished<C: Drop, L: Drop, N: Drop, A: Allocator = Global> {
+    /// In it is what was never emitted.
+    pub book: Book<C, A>,
+    /// How many events and errors were missed in all.
+    pub missed: u64,
+    /// What is left of the handler.
+    pub left: L,
+    /// What the watcher found last; `None` if the debouncer was fed by hand.
+    pub last: Option<N>,
+}
 
-    ghost Value = { Running T L };
+impl<
+    T: Drop,
+    K: Task<Handler = Feed<C, R, A>>,
+    C: FileIdCache<A> + Drop + Send + 'static,
+    R: Threads + Wait + Clock + Files + Copy + Send + Sync + 'static,
+    A: Allocator + Copy + Send + Sync + 'static,
+    L: Leaves,
+> Model for Running<T, K, C, R, A, L> {
+    ghost use Rattle.std.specs.Prelude.{◌≡◌, true, IfSome};
+    ghost use Rattle.std.specs.Option.{option_map};
+    ghost use Rattle.debounce_access.specs.Happened.{entries_of, is_nil};
+    ghost use Rattle.debounce_turns.specs.Ended.{StaysOfLock};
+    ghost use Rattle.debounce_turns.specs.Running.{Shown};
+
+    ghost Value = { Shown T L };
 
     ghost view = { λ d. record {
       watcher = d.watcher;
+      made = option_map (λ t. (t.promise.made.handler.value, t.promise.made.config)) d.thread;
       lock = d.shared.owner.lock;
       seen = d.shared.owner.seen;
       parts = entries_of d.shared.owner.out;
@@ -82,15 +118,24 @@ impl<T: Drop, C: Drop, R: Threads + Wait + Drop, A: Allocator, L: Leaves> Model
     } };
 
     ghost invariant = { λ d. (d.shared.owner.keeps ≡ true)
-        × (d.worker.promise.access.value.lock ≡ d.shared.owner.lock) };
+        × (d.worker.promise.access.value.lock ≡ d.shared.owner.lock)
+        × IfSome d.thread (λ t. (t.promise.made.handler.value.lock ≡ d.shared.owner.lock)
+        × StaysOfLock K.ends) };
 }
 
-impl<T: Drop, C: Drop, R: Threads + Wait + Drop, A: Allocator, L: Leaves> Drop
-    for Debouncer<T, C, R, A, L> {
+impl<
+    T: Drop,
+    K: Task<Handler = Feed<C, R, A>>,
+    C: FileIdCache<A> + Drop + Send + 'static,
+    R: Threads + Wait + Clock + Files + Copy + Send + Sync + 'static,
+    A: Allocator + Copy + Send + Sync + 'static,
+    L: Leaves,
+> Drop for Running<T, K, C, R, A, L> {
     fn drop(self) {
         self.shared.set_stop();
         let Self {
             watcher: _,
+            thread: _,
             shared: _,
             worker: _,
         } = self;
@@ -127,6 +172,7 @@ pub fn new_debouncer_opt<
     requires takes { (feed : _) → T.takes feed }
     ensures rate { IsTooSlow timeout tick_rate → IsErrOf result too_slow }
     ensures opened { IfOk result (λ d. IsStarted d (as_nanos timeout) false) }
+    ensures made { IfOk result (IsMadeWith config) }
     ensures err { IfErr result (IsStartError T.refuses timeout tick_rate) }
 {
     let Some(tick) = tick_of(timeout, tick_rate) else {
@@ -160,6 +206,7 @@ pub fn new_journaled_debouncer<
     requires takes { (feed : _) → T.takes feed }
     ensures rate { IsTooSlow timeout tick_rate → IsErrOf result too_slow }
     ensures opened { IfOk result (λ d. IsStarted d (as_nanos timeout) true) }
+    ensures made { IfOk result (IsMadeWith config) }
     ensures err { IfErr result (IsStartError T.refuses timeout tick_rate) }
 {
     let Some(tick) = tick_of(timeout, tick_rate) else {
@@ -193,6 +240,7 @@ pub fn new_told_debouncer<
     requires takes { (feed : _) → T.takes feed }
     ensures rate { IsTooSlow timeout tick_rate → IsErrOf result too_slow }
     ensures opened { IfOk result (λ d. IsStarted d (as_nanos timeout) false) }
+    ensures made { IfOk result (IsMadeWith config) }
     ensures began { IfOk result (λ d. d.began ≡ event_handler) }
     ensures err { IfErr result (IsStartError T.refuses timeout tick_rate) }
 {
@@ -245,12 +293,14 @@ fn start<
     ensures opened { IfOk result (λ d.
         (d.seen ≡ shared.owner.seen) × (d.parts ≡ []) × (d.is_whole ≡ true)
         × (d.began ≡ began.value)) }
+    ensures made { IfOk result (IsMadeWith config) }
     ensures err { IfErr result (IsStopped T.refuses) }
 {
     let Fed { feed, worker } = start_fed::<F, E, L, C, R, A>(&mut shared, tick, handler, began)?;
     match start_watcher(shared.rt, shared.alloc, feed, config) {
-        Ok(watcher) => Ok(Debouncer {
+        Ok((watcher, thread)) => Ok(Running {
             watcher,
+            thread: Some(thread),
             shared,
             worker,
         }),
@@ -262,7 +312,7 @@ fn start<
 }
 
 /// A debouncer but for its watcher.
-pub(crate) struct Fed<C: Drop, R: Wait + Drop, L: Leaves, A: Allocator> {
+pub(crate) struct Fed<C: FileIdCache<A> + Drop, R: Wait + Drop, L: Leaves, A: Allocator> {
     pub(crate) feed: Feed<C, R, A>,
     pub(crate) worker: Worker<C, L, A>,
 }
@@ -290,7 +340,7 @@ pub(crate) fn start_fed<
         (f.worker.promise.access.value.lock ≡ shared.old.owner.lock)
         × (f.worker.promise.began.value ≡ began.value)) }
     ensures feed { IfOk result (λ f. (f.feed.lock ≡ shared.old.owner.lock)
-        × (f.feed.seen ≡ shared.old.owner.seen)) }
+        × (f.feed.seen ≡ shared.old.owner.seen) × (f.feed.moments ≡ [])) }
     ensures err { IfErr result (λ e. (e ≡ out_of_memory) ⊎ IsIo e) }
 {
     let start = start_of(&shared.rt, shared.alloc)?;
@@ -301,18 +351,27 @@ pub(crate) fn start_fed<
 }
 
 /// Makes the watcher and starts its thread.
-fn start_watcher<H, T: Watcher<H, R, A>, R: Threads + Copy, A: Allocator + Copy>(
+fn start_watcher<
+    T: Watcher<Feed<C, R, A>, R, A>,
+    C: FileIdCache<A> + Drop + Send + 'static,
+    R: Threads + Wait + Clock + Files + Copy + Send + Sync + 'static,
+    A: Allocator + Copy + Send + Sync + 'static,
+>(
     rt: R,
     alloc: A,
-    handler: H,
+    feed: Feed<C, R, A>,
     config: Config,
-) -> Result<T, Error<A>>
-    requires { T.takes handler }
-    ensures { IfErr result (λ e. T.refuses e ⊎ (e ≡ not_started)) }
+) -> Result<(T, WatcherThread<T::Task>), Error<A>>
+    requires { T.takes feed }
+    ensures ok { IfOk result (λ r. (r.1.promise.made.handler.value ≡ feed)
+        × (r.1.promise.made.config ≡ config)) }
+    ensures stays { IfOk result (λ _. StaysOfLock T.Task.ends) }
+    ensures err { IfErr result (λ e. T.refuses e ⊎ (e ≡ not_started)) }
 {
-    let (watcher, task) = T::new(rt, alloc, handler, config)?;
-    start_task(&rt, alloc, task)?;
-    Ok(watcher)
+    let made = Made::of(&feed, config);
+    let (watcher, task) = T::new(rt, alloc, feed, config)?;
+    let thread = start_task(&rt, alloc, task, made)?;
+    Ok((watcher, thread))
 }
 
 impl<
@@ -390,37 +449,60 @@ impl<
     /// has applied all that the watcher reported, but for what was missed. The journal comes out by
     /// `into_journal`, and is not copied; the last part of one that was taken in parts, by `take_journal`.
     ///
-    /// It waits until the [`Feed`] was dropped: for ever, if the watcher keeps it after its own drop.
+    /// It waits until the watcher's work has ended: for ever, if that goes on after the watcher's drop. A
+    /// debouncer that is fed by hand waits until the [`Feed`] was dropped.
     pub fn finish(self) -> (Book<C, A>, u64)
-        ensures ended { (left : L)
-            × IsEnded (L.tells self.began) left self.seen self.parts result.0 result.1 }
+        ensures ended { (left : L) × (last : Option T.Task.Last)
+            × IsFinished C.rules T.Task.ends self.made last (L.tells self.began) left self.seen
+            self.parts result.0 result.1 }
         ensures legal { IfSome result.0.journal (λ es. IsLegal es result.0.core.state) }
         ensures part { IfSome result.0.part (λ es. IsPart es result.0.core.state) }
     {
-        let (book, missed, left) = self.finish_left();
-        drop(left);
+        let Finished {
+            book,
+            missed,
+            left: _,
+            last: _,
+        } = self.finish_left();
         (book, missed)
     }
 
-    /// Stops as `finish` does, and returns what is left of the handler too, which was called with just what
-    /// was emitted.
-    pub fn finish_left(self) -> (Book<C, A>, u64, L)
-        ensures ended { IsEnded (L.tells self.began) result.2 self.seen self.parts result.0
-            result.1 }
-        ensures legal { IfSome result.0.journal (λ es. IsLegal es result.0.core.state) }
-        ensures part { IfSome result.0.part (λ es. IsPart es result.0.core.state) }
+    /// Stops as `finish` does, and returns also what is left of the handler, which was called with just what
+    /// was emitted, and what the watcher found last.
+    pub fn finish_left(self) -> Finished<C, L, LastOf<T, C, R, A>, A>
+        ensures ended { IsFinished C.rules T.Task.ends self.made result.last
+            (L.tells self.began) result.left self.seen self.parts result.book result.missed }
+        ensures legal { IfSome result.book.journal (λ es. IsLegal es result.book.core.state) }
+        ensures part { IfSome result.book.part (λ es. IsPart es result.book.core.state) }
     {
         self.shared.set_stop();
         let Self {
             mut watcher,
+            thread,
             shared,
             worker,
         } = self;
         watcher.look_last();
         drop(watcher);
-        let (teller, left) = worker.join(&shared.rt);
-        let (book, missed) = shared.into_book(teller);
-        (book, missed, left)
+        let Some(thread) = thread else {
+            let (emitted, left) = worker.join(&shared.rt);
+            let (book, missed) = shared.into_book(emitted);
+            return Finished {
+                book,
+                missed,
+                left,
+                last: None,
+            };
+        };
+        let (feed, last) = thread.join(&shared.rt);
+        let (emitted, left) = worker.join(&shared.rt);
+        let (book, missed) = shared.into_book_fed(emitted, feed);
+        Finished {
+            book,
+            missed,
+            left,
+            last: Some(last),
+        }
     }
 }
 
@@ -433,14 +515,16 @@ impl<
     /// Stops as `finish` does, and takes the feed: all that was fed is what the feed shows.
     pub fn finish_fed(self, feed: Feed<C, R, A>) -> (Book<C, A>, u64)
         requires { feed.lock ≡ self.lock }
-        ensures ended { (left : L) × IsEndedFed (L.tells self.began) left self.seen feed.seen
-            self.parts result.0 result.1 }
+        ensures ended { (left : L)
+            × IsEndedFed C.rules (L.tells self.began) left self.seen feed.seen self.parts
+            result.0 result.1 }
         ensures legal { IfSome result.0.journal (λ es. IsLegal es result.0.core.state) }
         ensures part { IfSome result.0.part (λ es. IsPart es result.0.core.state) }
     {
         self.shared.set_stop();
         let Self {
             watcher: _,
+            thread: _,
             shared,
             worker,
         } = self;
@@ -450,13 +534,14 @@ impl<
     }
 }
 
-impl<T: Drop, C: Drop, R: Threads + Wait + Clock + Drop, A: Allocator + Copy, L: Leaves> Debouncer<
-    T,
-    C,
-    R,
-    A,
-    L,
-> {
+impl<
+    T: Drop,
+    K: Task<Handler = Feed<C, R, A>>,
+    C: FileIdCache<A> + Drop + Send + 'static,
+    R: Threads + Wait + Clock + Files + Copy + Send + Sync + 'static,
+    A: Allocator + Copy + Send + Sync + 'static,
+    L: Leaves,
+> Running<T, K, C, R, A, L> {
     /// Returns how many events and errors of the watcher were refused, and so are never emitted.
     /// After 2^64 - 1 it begins again at 0.
     pub fn missed(&self) -> u64 {
@@ -519,7 +604,8 @@ impl<T: Drop, C: Drop, R: Threads + Wait + Clock + Drop, A: Allocator + Copy, L:
         self.shared.catch_up(receipt);
     }
 
-    /// Stops the watcher and the debouncer's thread, and waits until that thread has ended. A turn that
+    /// Stops the watcher and the debouncer's thread, and waits until that thread has ended, not until the
+    /// watcher's has. A turn that
     /// has begun is finished, so the handler can be called once more with a batch and once with errors.
     /// What still waits then is dropped; `finish` returns it. A handler can't call either, since a
     /// debouncer isn't `Send`.
@@ -527,6 +613,7 @@ impl<T: Drop, C: Drop, R: Threads + Wait + Clock + Drop, A: Allocator + Copy, L:
         self.shared.set_stop();
         let Self {
             watcher: _,
+            thread: _,
             shared,
             worker,
         } = self;
@@ -544,7 +631,7 @@ impl<T: Drop, C: Drop, R: Threads + Wait + Clock + Drop, A: Allocator + Copy, L:
     /// thread has ended too.
     pub fn stop_journal(self) -> Result<(Moment, Vec<Entry<A>, A>), Error<A>>
         ensures ended { self.is_whole ≡ true → IfOk result (λ r. (left : L)
-            × EndsJournal (L.tells self.began) left self.seen r.0 r.1.items) }
+            × EndsJournal C.rules (L.tells self.began) left self.seen r.0 r.1.items) }
         ensures legal { IfOk result (λ r. IsJournal r.0 r.1.items) }
         ensures kept { IfOk result (λ r. LosesNoChange r.0 r.1.items) }
         ensures raw { IfOk result (λ r. GivesRawPaths r.0 r.1.items) }
@@ -554,6 +641,7 @@ impl<T: Drop, C: Drop, R: Threads + Wait + Clock + Drop, A: Allocator + Copy, L:
         self.shared.set_stop();
         let Self {
             watcher: _,
+            thread: _,
             shared,
             worker,
         } = self;

@@ -51,6 +51,11 @@ module _ {H A : Type 0} (handles : H → Outcome A → H → Type 0) where
         ),
       )
 
+  -- nothing was handed over where nothing was emitted
+  pub handed_none : (h : H) (known : Known) → picked is_emitting known.seen ≡ []
+      → Handed handles h (picked is_emitting known.seen) h
+  handed_none h known none = subst (λ l. Handed handles h l h) (sym none) refl
+
   -- .. after what was handed over before
   pub hands_more : (first h h' : H) (old new : Known) → Handed handles first (picked is_emitting old.seen) h
       → HandsOn handles old h new h' → Handed handles first (picked is_emitting new.seen) h'

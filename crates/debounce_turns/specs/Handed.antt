@@ -1,12 +1,13 @@
 -- What a handler was called with.
-use Rattle.std.specs.Prelude.{◌≡◌, ◌++◌, [], ◌∷◌, Ok}
+use Rattle.std.specs.Prelude.{◌≡◌, ◌⊎◌, ◌++◌, ℕ, List, [], ◌∷◌, Ok}
 use Rattle.std.specs.declared.vec.Vec.{Vec}
 use Rattle.notify_paths.specs.Errors.{ErrorValue}
 use Rattle.notify_types.specs.Event.{Timed}
 use Rattle.notify_watch.specs.Handler.{Outcome}
 use Rattle.debounce_turns.specs.Turn.{HandsBatch, HandsErrors}
-use Rattle.debounce_model.specs.Command.{ReplyValue, ErrorsReply, BatchReply}
+use Rattle.debounce_model.specs.Command.{CommandValue, TickCommand, ReplyValue, ErrorsReply, BatchReply}
 use Rattle.told_lock.specs.History.{picked}
+use Rattle.debounce_access.specs.Adds.{MayRead, Reads}
 use Rattle.debounce_access.specs.Happened.{HappenedValue, History, Accepted, is_emitting}
 use Rattle.debounce_access.specs.Stands.{Known}
 
@@ -40,3 +41,28 @@ pub record LeavesAll {H L A : Type 0} (handles : H → Outcome A → H → Type 
     (tells : L → L → History → Type 0) (handler : H) (began : L) : Type 0 where
   pub told : (hs : History) (last : H) (left : L) → Handed handles handler hs last → ends last left
       → tells began left hs
+
+-- the moment of a tick
+abbrev pub tick_of : CommandValue → List ℕ
+tick_of (TickCommand now) = now ∷ []
+tick_of command = []
+
+-- .. that was accepted
+abbrev pub tick_in : HappenedValue → List ℕ
+tick_in (Accepted entry) = tick_of entry.command
+tick_in h = []
+
+-- the moments of the ticks of a history, in order
+abbrev pub ticks_of : History → List ℕ
+ticks_of [] = []
+ticks_of (h ∷ hs) = tick_in h ++ ticks_of hs
+
+-- .. of what was emitted, as far as this has seen it
+abbrev pub ticks_by : Known → List ℕ
+ticks_by known = ticks_of (picked is_emitting known.seen)
+
+-- the clock was read, and one tick was at the moment that it answered; or there was no tick
+abbrev pub TicksNow : Known → Known → Type 0
+TicksNow old new =
+    ((now : ℕ) × Reads old now new × (ticks_by new ≡ ticks_by old ++ now ∷ []))
+    ⊎ (MayRead old new × (ticks_by new ≡ ticks_by old))

@@ -1,12 +1,12 @@
 //! What a watcher reports to.
-ghost use Rattle.std.specs.Prelude.{◌≡◌, ℕ, Bool, [], true, IfErr, IfOk, OnErr, OnOk};
+ghost use Rattle.std.specs.Prelude.{◌≡◌, [], true, IfErr, IfOk, OnErr, OnOk};
 ghost use Rattle.notify_paths.specs.Errors.{out_of_memory};
 ghost use Rattle.told_lock.specs.History.{Begins, picked};
-ghost use Rattle.debounce_access.specs.Adds.{GainsFed, GainsItem};
+ghost use Rattle.debounce_access.specs.Adds.{FedNow, FeedsItem, MayRead};
 ghost use Rattle.debounce_access.specs.Happened.{is_fed};
 ghost use Rattle.debounce_access.specs.Stands.{Lasts, StaysButFeeds, feeds_of, seen_by};
 
-use crate::clock::now;
+use crate::clock::Stopwatch;
 use crate::feeding::Feeding;
 use crate::shared::{Shared, Signals};
 use crate::turn::feed_one;
@@ -22,52 +22,69 @@ use std::marker::Model;
 use std::sync::atomic::Ordering;
 use std::sync::{Arc, Wait};
 use std::time::{Clock, Instant};
+use told_lock::shown::Shown;
 
 /// The handler that a debouncer gives to its watcher: it alone feeds events and errors to the book. Clauses
-/// see how much of the book's history it has seen.
+/// see how much of the book's history it has seen, and what its clock has answered.
 ///
 /// A debouncer has one, which can't be cloned.
-#[derive(Drop)]
-pub struct Feed<C: Drop, R: Wait + Drop, A: Allocator = Global> {
+pub struct Feed<C: FileIdCache<A> + Drop, R: Wait + Drop, A: Allocator = Global> {
     rt: R,
     alloc: A,
     gate: Feeding<C, R, A>,
     signals: Arc<Signals, A>,
-    start: Instant,
 }
 
-impl<C: Drop, R: Wait + Drop, A: Allocator> Model for Feed<C, R, A> {
+// Not derived: so a crate that drops what owns a feed doesn't prove the drops of all that it reaches once more.
+impl<C: FileIdCache<A> + Drop, R: Wait + Drop, A: Allocator> Drop for Feed<C, R, A> {
+    fn drop(self) {
+        let Self {
+            rt: _,
+            alloc: _,
+            gate: _,
+            signals: _,
+        } = self;
+    }
+}
+
+impl<C: FileIdCache<A> + Drop, R: Wait + Drop, A: Allocator> Model for Feed<C, R, A> {
     ghost use Rattle.debounce_access.specs.Stands.{Known};
 
     ghost Value = { Known };
 
-    ghost view = { λ f. record { lock = f.gate.lock; seen = f.gate.seen } };
+    ghost view = { λ f. f.gate };
 }
 
-/// Shows that something was taken. Clauses see the history up to then. It has no bytes.
+/// Shows that something was taken. Clauses see the history up to then, and what the feed's clock had answered. It
+/// has no bytes.
 #[derive(Drop)]
-pub struct Receipt<C: Drop, A: Allocator = Global> {
+pub struct Receipt<C: FileIdCache<A> + Drop, A: Allocator = Global> {
     pass: BookPass<C, A>,
+    answers: Shown<Stopwatch>,
 }
 
-impl<C: Drop, A: Allocator> Model for Receipt<C, A> {
+impl<C: FileIdCache<A> + Drop, A: Allocator> Model for Receipt<C, A> {
     ghost use Rattle.std.specs.Prelude.{◌≡◌, []};
     ghost use Rattle.debounce_access.specs.Stands.{Known, seen_by};
 
     ghost Value = { Known };
 
-    ghost view = { λ r. record { lock = r.pass.table_id; seen = seen_by r.pass } };
+    ghost view = { λ r. record {
+      lock = r.pass.table_id;
+      seen = seen_by r.pass;
+      moments = r.answers.value;
+    } };
 
     ghost invariant = { λ r. r.pass.me.1 ≡ [] };
 }
 
-impl<C: Drop, R: Wait + Copy + Drop, A: Allocator + Copy> Shared<C, R, A> {
+impl<C: FileIdCache<A> + Drop, R: Wait + Copy + Drop, A: Allocator + Copy> Shared<C, R, A> {
     /// The feed of the debouncer, which counts from this start, and alone feeds from then on.
     pub fn feed(&mut self, start: Instant) -> Result<Feed<C, R, A>, Error<A>>
         requires { self.old.owner.feeds ≡ true }
         ensures same { StaysButFeeds self.old.owner self.new.owner }
         ensures ok { IfOk result (λ f.
-            (f.lock ≡ self.old.owner.lock) × (f.seen ≡ self.old.owner.seen)) }
+            (f.lock ≡ self.old.owner.lock) × (f.seen ≡ self.old.owner.seen) × (f.moments ≡ [])) }
         ensures err { IfErr result (λ e. e ≡ out_of_memory) }
     {
         let access = self.feeding()?;
@@ -75,21 +92,20 @@ impl<C: Drop, R: Wait + Copy + Drop, A: Allocator + Copy> Shared<C, R, A> {
         Ok(Feed {
             rt: self.rt,
             alloc: self.alloc,
-            gate: Feeding::new(self.rt, access),
+            gate: Feeding::new(self.rt, access, Stopwatch::new(start)),
             signals,
-            start,
         })
     }
 }
 
-impl<C: Drop, R: Wait + Drop, A: Allocator> Shared<C, R, A> {
+impl<C: FileIdCache<A> + Drop, R: Wait + Drop, A: Allocator> Shared<C, R, A> {
     /// Looks at the history up to now. What the receipt shows is in it.
     pub fn catch_up(&mut self, receipt: Receipt<C, A>)
         requires { receipt.lock ≡ self.old.owner.lock }
         ensures lasts { Lasts self.old.owner self.new.owner }
         ensures shown { Begins receipt.seen self.new.owner.seen }
     {
-        let Receipt { pass } = receipt;
+        let Receipt { pass, answers: _ } = receipt;
         self.owner.catch_up(&self.rt, pass);
     }
 }
@@ -101,14 +117,13 @@ impl<
 > EventHandler<Result<Event<A>, Error<A>>> for Feed<C, R, A> {
     ghost ready = { λ _. Unit {0} };
 
-    ghost handles = { λ old item new. (new.lock ≡ old.lock) × GainsItem old.seen item new.seen };
+    ghost handles = { FeedsItem };
 
-    /// Feeds an event or an error to the book, once. One that is refused is counted as missed, under the lock for
-    /// `finish`, and beside it for `Debouncer::missed`.
+    /// Feeds an event or an error to the book, once, at the moment of the call. One that is refused is counted as
+    /// missed, under the lock for `finish`, and beside it for `Debouncer::missed`.
     fn handle_event(&mut self, event: Result<Event<A>, Error<A>>)
         ensures again { Unit {0} }
-        ensures handled { (self.new.lock ≡ self.old.lock)
-            × GainsItem self.old.seen event self.new.seen }
+        ensures handled { FeedsItem self.old event self.new }
     {
         if self.feed(event).is_err() {
             self.gate.miss();
@@ -118,25 +133,25 @@ impl<
 }
 
 impl<C: FileIdCache<A> + Drop, R: Clock + Files + Wait + Drop, A: Allocator + Copy> Feed<C, R, A> {
-    /// Feeds an event or an error to the book, at the moment of the call. One that is refused isn't
-    /// counted as missed: who feeds by hand has the error.
+    /// Feeds an event or an error to the book, at the moment of the call, for which it reads its clock. One that is
+    /// refused isn't counted as missed: who feeds by hand has the error.
     pub fn feed(&mut self, item: Result<Event<A>, Error<A>>) -> Result<(), Error<A>>
         ensures lock { self.new.lock ≡ self.old.lock }
-        ensures ok { OnOk result ((now : ℕ) × (exists : Bool)
-            × GainsFed self.old.seen item now exists self.new.seen) }
+        ensures ok { OnOk result (FedNow self.old item self.new) }
         ensures err { OnErr result (Begins self.old.seen self.new.seen
-            × (picked is_fed self.new.seen ≡ picked is_fed self.old.seen)) }
+            × (picked is_fed self.new.seen ≡ picked is_fed self.old.seen)
+            × MayRead self.old self.new) }
     {
         let exists = match &item {
             Ok(event) => exists(&self.rt, event),
             Err(_) => false,
         };
-        let now = now(&self.rt, self.alloc, self.start)?;
+        let now = self.gate.now(self.alloc)?;
         feed_one(&mut self.gate, item, now, exists)
     }
 }
 
-impl<C: Drop, R: Wait + Drop, A: Allocator> Feed<C, R, A> {
+impl<C: FileIdCache<A> + Drop, R: Wait + Drop, A: Allocator> Feed<C, R, A> {
     /// Shows as much of the history as this feed has seen, to `Debouncer::catch_up`.
     pub fn receipt(&mut self) -> Receipt<C, A>
         ensures same { self.new ≡ self.old }
@@ -144,6 +159,7 @@ impl<C: Drop, R: Wait + Drop, A: Allocator> Feed<C, R, A> {
     {
         Receipt {
             pass: self.gate.shown(),
+            answers: self.gate.answers(),
         }
     }
 
@@ -158,7 +174,6 @@ impl<C: Drop, R: Wait + Drop, A: Allocator> Feed<C, R, A> {
             alloc: _,
             gate,
             signals: _,
-            start: _,
         } = self;
         gate.into_pass()
     }

@@ -3,9 +3,10 @@ ghost use Rattle.std.specs.Prelude.{◌≡◌, [], true};
 ghost use Rattle.told_lock.specs.History.{picked};
 ghost use Rattle.debounce_access.specs.Happened.{is_emitting};
 ghost use Rattle.debounce_access.specs.Stands.{seen_by, tells_of};
-ghost use Rattle.debounce_turns.specs.Handed.{Handed, HandsOn};
+ghost use Rattle.debounce_turns.specs.Clock.{AreAmong};
+ghost use Rattle.debounce_turns.specs.Handed.{Handed, HandsOn, TicksNow, ticks_of};
 
-use crate::clock::now;
+use crate::clock::Stopwatch;
 use crate::left::{Ending, Leaves};
 use crate::shared::Signals;
 use crate::ticking::Ticking;
@@ -30,8 +31,8 @@ pub struct Pace {
     pub tick: Duration,
 }
 
-/// The worker's life: turns, until it is to stop. Then it returns the pass by which it emitted, and what `E` leaves
-/// of the handler, which was called with just what was emitted.
+/// The worker's life: turns, until it is to stop. Then it returns the pass by which it emitted, what `E` leaves of
+/// the handler, which was called with just what was emitted, and the clock, which gave the moments of all ticks.
 pub fn turns<
     H: DebounceEventHandler<DebounceEventResult<A>>,
     E: Ending<H, L>,
@@ -46,7 +47,7 @@ pub fn turns<
     handler: H,
     signals: &Signals,
     pace: Pace,
-) -> (BookPass<C, A>, L)
+) -> (BookPass<C, A>, L, Stopwatch)
     requires ready { H.ready handler }
     requires tells { access.tells ≡ true }
     requires fresh { picked is_emitting access.seen ≡ [] }
@@ -55,11 +56,12 @@ pub fn turns<
     ensures told { (last : H)
         × Handed H.handles handler (picked is_emitting (seen_by result.0)) last
         × E.ends last result.1 }
+    ensures moments { AreAmong (ticks_of (picked is_emitting (seen_by result.0))) result.2 }
 {
-    let gate = Ticking::new(rt, access);
-    let (gate, handler) = work(&rt, alloc, gate, handler, signals, pace);
-    let pass = gate.into_pass();
-    (pass, E::end(handler))
+    let gate = Ticking::new(rt, access, Stopwatch::new(pace.start));
+    let (gate, handler) = work(&rt, alloc, gate, handler, signals, pace.tick);
+    let (pass, clock) = gate.into_pass();
+    (pass, E::end(handler), clock)
 }
 
 /// Takes a turn after each whole sleep, until the stop flag is set, which also ends a sleep. A turn whose clock
@@ -75,41 +77,38 @@ fn work<
     mut gate: Ticking<C, R, A>,
     mut handler: H,
     signals: &Signals,
-    pace: Pace,
+    tick: Duration,
 ) -> (Ticking<C, R, A>, H)
     requires ready { H.ready handler }
     requires fresh { picked is_emitting gate.seen ≡ [] }
     ensures lock { result.0.lock ≡ gate.lock }
     ensures handed { Handed H.handles handler (picked is_emitting result.0.seen) result.1 }
+    ensures moments { AreAmong (ticks_of (picked is_emitting result.0.seen)) result.0.moments }
 {
     for _ in rt.forever() {
-        if !sleep_unless(rt, &signals.stop, pace.tick) {
+        if !sleep_unless(rt, &signals.stop, tick) {
             return (gate, handler);
         }
-        if turn_now(rt, alloc, &mut gate, &mut handler, pace.start).is_err() {
+        if turn_now(alloc, &mut gate, &mut handler).is_err() {
             signals.refused_turns.fetch_add(1, Ordering::SeqCst);
         }
     }
     unreachable!()
 }
 
-/// One turn at this moment. It is refused if the clock can't be read, or its tick is refused.
+/// One turn at this moment, for which it reads the clock. It is refused if that can't be read, or its tick is
+/// refused.
 fn turn_now<
     C: FileIdCache<A> + Drop,
     H: DebounceEventHandler<DebounceEventResult<A>>,
     R: Wait + Clock + Drop,
     A: Allocator + Copy,
->(
-    rt: &R,
-    alloc: A,
-    gate: &mut Ticking<C, R, A>,
-    handler: &mut H,
-    start: Instant,
-) -> Result<(), Error<A>>
+>(alloc: A, gate: &mut Ticking<C, R, A>, handler: &mut H) -> Result<(), Error<A>>
     requires { H.ready handler.old }
     ensures again { H.ready handler.new }
     ensures handed { HandsOn H.handles gate.old handler.old gate.new handler.new }
+    ensures moment { TicksNow gate.old gate.new }
 {
-    let moment = now(rt, alloc, start)?;
+    let moment = gate.now(alloc)?;
     turn(gate, moment, handler)
 }

@@ -6,7 +6,7 @@ ghost use Rattle.debounce_book.specs.Journal.{IsJournal, IsLegal, IsPart};
 ghost use Rattle.debounce_book.specs.JournalLaws.{LosesNoChange, GivesRawPaths, InventsNoRename};
 ghost use Rattle.debounce_access.specs.Adds.{Adds};
 ghost use Rattle.debounce_access.specs.Happened.{accepted, entries_of};
-ghost use Rattle.debounce_access.specs.Stands.{HasAllFed, IsTold, Lasts, Stands, StaysButFeeds, StaysButTells, ToldJournal, opening, seen_by, tells_of};
+ghost use Rattle.debounce_access.specs.Stands.{HasAllFed, IsFresh, IsTold, Lasts, StaysButFeeds, StaysButTells, ToldJournal, opening, seen_by, tells_of};
 ghost use Rattle.debounce_turns.specs.Watched.{AsksFirst};
 
 use crate::feed::Feed;
@@ -21,13 +21,14 @@ use notify_types::event::RecursiveMode;
 use notify_types::time::Moment;
 use notify_watch::watcher::Watcher;
 use std::alloc::Allocator;
+use std::fs::Files;
 use std::sync::atomic::{AtomicBool, AtomicU64, Ordering};
 use std::sync::{Arc, Wait};
 use std::time::Clock;
 
 /// A debouncer's own way to its book, and the signals that it shares with its worker and its feed.
 #[derive(Drop)]
-pub struct Shared<C: Drop, R: Wait + Drop, A: Allocator> {
+pub struct Shared<C: FileIdCache<A> + Drop, R: Wait + Drop, A: Allocator> {
     pub rt: R,
     pub alloc: A,
     /// It alone takes entries out.
@@ -56,17 +57,17 @@ impl Signals {
     }
 }
 
-impl<C: Drop, R: Wait + Drop, A: Allocator> Shared<C, R, A> {
+impl<C: FileIdCache<A> + Drop, R: Wait + Drop, A: Allocator> Shared<C, R, A> {
     /// Asks the worker to end.
     pub fn set_stop(&self) {
         self.signals.stop.store(true, Ordering::SeqCst);
     }
 }
 
-impl<C: Drop, R: Wait + Copy + Drop, A: Allocator + Copy> Shared<C, R, A> {
+impl<C: FileIdCache<A> + Drop, R: Wait + Copy + Drop, A: Allocator + Copy> Shared<C, R, A> {
     /// Puts a new book under a lock.
     pub fn new(rt: R, alloc: A, book: Book<C, A>) -> Result<Shared<C, R, A>, Error<A>>
-        requires { Stands book 0 [] (opening book) }
+        requires { IsFresh book }
         ensures seen { IfOk result (λ s.
             (s.owner.seen ≡ opening book) × (s.owner.out ≡ [])) }
         ensures rights { IfOk result (λ s.
@@ -139,7 +140,11 @@ impl<C: Drop, R: Wait + Copy + Drop, A: Allocator + Copy> Shared<C, R, A> {
     }
 }
 
-impl<C: FileIdCache<A> + Drop, R: Wait + Drop, A: Allocator + Copy> Shared<C, R, A> {
+impl<
+    C: FileIdCache<A> + Drop + Send + 'static,
+    R: Clock + Files + Wait + Drop + Send + 'static,
+    A: Allocator + Copy + Send + Sync + 'static,
+> Shared<C, R, A> {
     /// Asks a watcher to watch a path, and makes the path a root once it has agreed.
     pub fn watch<T: Watcher<Feed<C, R, A>, R, A>>(
         &mut self,
@@ -158,7 +163,7 @@ impl<C: FileIdCache<A> + Drop, R: Wait + Drop, A: Allocator + Copy> Shared<C, R,
     }
 }
 
-impl<C: Drop, R: Wait + Drop, A: Allocator + Copy> Shared<C, R, A> {
+impl<C: FileIdCache<A> + Drop, R: Wait + Drop, A: Allocator + Copy> Shared<C, R, A> {
     /// Returns the timeout and a copy of the journal at the end, if one is kept and nothing was taken out of it;
     /// else no entries. `teller` is the worker's pass, by which all was emitted that was.
     pub fn into_journal(
@@ -168,7 +173,8 @@ impl<C: Drop, R: Wait + Drop, A: Allocator + Copy> Shared<C, R, A> {
         requires lock { (teller.table_id ≡ self.owner.lock) × (teller.me.1 ≡ []) }
         requires tells { tells_of teller ≡ true }
         ensures left { self.owner.keeps ≡ true → self.owner.out ≡ [] →
-            IfOk result (λ r. ToldJournal self.owner.seen (seen_by teller) r.0 r.1.items) }
+            IfOk result (λ r.
+            ToldJournal C.rules self.owner.seen (seen_by teller) r.0 r.1.items) }
         ensures legal { IfOk result (λ r. IsJournal r.0 r.1.items) }
         ensures kept { IfOk result (λ r. LosesNoChange r.0 r.1.items) }
         ensures raw { IfOk result (λ r. GivesRawPaths r.0 r.1.items) }
@@ -186,8 +192,8 @@ impl<C: FileIdCache<A> + Drop, R: Wait + Clock + Drop, A: Allocator + Copy> Shar
         requires keeps { self.owner.keeps ≡ true }
         requires lock { (teller.table_id ≡ self.owner.lock) × (teller.me.1 ≡ []) }
         requires tells { tells_of teller ≡ true }
-        ensures told { IsTold self.owner.seen (seen_by teller) (entries_of self.owner.out) result.0
-            result.1 }
+        ensures told { IsTold C.rules self.owner.seen (seen_by teller) (entries_of self.owner.out)
+            result.0 result.1 }
         ensures legal { IfSome result.0.journal (λ es. IsLegal es result.0.core.state) }
         ensures part { IfSome result.0.part (λ es. IsPart es result.0.core.state) }
     {
@@ -210,8 +216,8 @@ impl<C: FileIdCache<A> + Drop, R: Wait + Clock + Drop, A: Allocator + Copy> Shar
         requires lock { (worker.table_id ≡ self.owner.lock) × (worker.me.1 ≡ []) }
         requires tells { tells_of worker ≡ true }
         requires feed { feed.lock ≡ self.owner.lock }
-        ensures told { (told : IsTold self.owner.seen (seen_by worker) (entries_of self.owner.out)
-            result.0 result.1) × HasAllFed feed.seen told.0 }
+        ensures told { (told : IsTold C.rules self.owner.seen (seen_by worker)
+            (entries_of self.owner.out) result.0 result.1) × HasAllFed feed.seen told.0 }
         ensures legal { IfSome result.0.journal (λ es. IsLegal es result.0.core.state) }
         ensures part { IfSome result.0.part (λ es. IsPart es result.0.core.state) }
     {

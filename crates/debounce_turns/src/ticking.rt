@@ -1,8 +1,10 @@
 //! The worker's way to a book.
-ghost use Rattle.std.specs.Prelude.{◌≡◌, [], true};
+ghost use Rattle.std.specs.Prelude.{◌≡◌, ◌++◌, ◌∷◌, [], true, IfErr, IfOk, OnErr};
 ghost use Rattle.debounce_access.specs.Adds.{TicksOn};
 ghost use Rattle.debounce_access.specs.Stands.{seen_by, tells_of};
+ghost use Rattle.debounce_turns.specs.Clock.{IsIo};
 
+use crate::clock::Stopwatch;
 use crate::turn::TickGate;
 use debounce_access::access::Access;
 use debounce_access::locked::BookPass;
@@ -14,43 +16,67 @@ use notify_types::time::Moment;
 use std::alloc::Allocator;
 use std::marker::Model;
 use std::sync::Wait;
+use std::time::Clock;
 
-/// The worker's way to the book, by which alone is emitted. Clauses see how much of the book's history it has
-/// seen.
+/// The worker's way to the book, by which alone is emitted, and its clock. Clauses see how much of the book's
+/// history it has seen, and what the clock has answered.
 #[derive(Drop)]
-pub struct Ticking<C: Drop, R: Wait + Drop, A: Allocator> {
+pub struct Ticking<C: FileIdCache<A> + Drop, R: Wait + Drop, A: Allocator> {
     rt: R,
     access: Access<C, A>,
+    clock: Stopwatch,
 }
 
-impl<C: Drop, R: Wait + Drop, A: Allocator> Model for Ticking<C, R, A> {
+impl<C: FileIdCache<A> + Drop, R: Wait + Drop, A: Allocator> Model for Ticking<C, R, A> {
     ghost use Rattle.std.specs.Prelude.{◌≡◌, true};
     ghost use Rattle.debounce_access.specs.Stands.{Known};
 
     ghost Value = { Known };
 
-    ghost view = { λ t. record { lock = t.access.lock; seen = t.access.seen } };
+    ghost view = { λ t. record {
+      lock = t.access.lock;
+      seen = t.access.seen;
+      moments = t.clock;
+    } };
 
     ghost invariant = { λ t. t.access.tells ≡ true };
 }
 
-impl<C: Drop, R: Wait + Drop, A: Allocator> Ticking<C, R, A> {
+impl<C: FileIdCache<A> + Drop, R: Wait + Drop, A: Allocator> Ticking<C, R, A> {
     /// The worker's way, by one that alone emits.
-    pub fn new(rt: R, access: Access<C, A>) -> Ticking<C, R, A>
+    pub fn new(rt: R, access: Access<C, A>, clock: Stopwatch) -> Ticking<C, R, A>
         requires { access.tells ≡ true }
-        ensures { (result.lock ≡ access.lock) × (result.seen ≡ access.seen) }
+        ensures { (result.lock ≡ access.lock) × (result.seen ≡ access.seen)
+            × (result.moments ≡ clock) }
     {
-        Ticking { rt, access }
+        Ticking { rt, access, clock }
     }
 
-    /// The pass alone, by which it emitted.
-    pub fn into_pass(self) -> BookPass<C, A>
-        ensures lock { result.table_id ≡ self.lock }
-        ensures free { result.me.1 ≡ [] }
-        ensures same { (seen_by result ≡ self.seen) × (tells_of result ≡ true) }
+    /// The pass alone, by which it emitted, and the clock.
+    pub fn into_pass(self) -> (BookPass<C, A>, Stopwatch)
+        ensures lock { result.0.table_id ≡ self.lock }
+        ensures free { result.0.me.1 ≡ [] }
+        ensures same { (seen_by result.0 ≡ self.seen) × (tells_of result.0 ≡ true) }
+        ensures moments { result.1 ≡ self.moments }
     {
-        let Ticking { rt: _, access } = self;
-        access.into_pass()
+        let Ticking {
+            rt: _,
+            access,
+            clock,
+        } = self;
+        (access.into_pass(), clock)
+    }
+}
+
+impl<C: FileIdCache<A> + Drop, R: Wait + Clock + Drop, A: Allocator + Copy> Ticking<C, R, A> {
+    /// Reads the clock.
+    pub fn now(&mut self, alloc: A) -> Result<Moment, Error<A>>
+        ensures ok { IfOk result (λ now.
+            self.new ≡ record self.old { moments = self.old.moments ++ now ∷ [] }) }
+        ensures err { OnErr result (self.new ≡ self.old) }
+        ensures io { IfErr result IsIo }
+    {
+        self.clock.read(&self.rt, alloc)
     }
 }
 

@@ -27,3 +27,5 @@ mod rounds;
 mod running;
 #[cfg(test)]
 mod trees;
+#[cfg(test)]
+mod whole;

@@ -1,7 +1,7 @@
 //! A watcher that polls.
 use crate::build::path;
 use notify_debouncer_full::{
-    Config, DebouncerRuntime, Error, Event, EventHandler, PollTask, PollWatcher, RecursiveMode,
+    Config, DebouncerRuntime, Error, Event, EventHandler, Made, PollWatcher, RecursiveMode,
     Watcher, start_task,
 };
 use std::alloc::Global;
@@ -9,10 +9,7 @@ use std::process::Abort;
 use std::sync::Arc;
 use std::sync::atomic::{AtomicBool, Ordering};
 use std::thread;
-use std::time::{Clock, Duration};
-
-/// How many times a test waits for a hundredth of a second, at most: a second in all.
-const TURNS: u32 = 100;
+use std::time::Duration;
 
 /// A handler that does nothing, and raises a flag when it is dropped.
 struct Flagged {
@@ -37,17 +34,6 @@ impl EventHandler<Result<Event, Error>> for Flagged {
     {}
 }
 
-/// Waits for the flag, and answers whether it was raised.
-fn wait_for(rt: &impl Clock, flag: &AtomicBool) -> bool {
-    for _ in 0..TURNS {
-        if flag.load(Ordering::SeqCst) {
-            return true;
-        }
-        thread::sleep(rt, Duration::from_millis(10));
-    }
-    false
-}
-
 /// Checks that a path is watched until it is unwatched, and no longer.
 fn check_watches<R: Drop, W: Watcher<Flagged, R, Global>>(
     rt: &(impl Abort + AllocGlobal),
@@ -60,43 +46,36 @@ fn check_watches<R: Drop, W: Watcher<Flagged, R, Global>>(
     assert_eq!(rt; [watched, unwatched, again], [true, true, false]);
 }
 
-type Made<R> = (PollWatcher<R>, PollTask<Flagged, R>);
-
-/// A watcher whose handler raises the flag when it is dropped, and the task of its thread.
-fn new_watcher<R: DebouncerRuntime + AllocGlobal + Abort>(
+/// Makes a watcher whose handler raises the flag when it is dropped, uses it with its thread, drops it, and waits
+/// until the thread has ended.
+fn use_watcher<R: DebouncerRuntime + AllocGlobal + Abort, W: Watcher<Flagged, R, Global>>(
     rt: R,
     dropped: &Arc<AtomicBool>,
-) -> Made<R> {
+)
+    requires { (handler : _) → W.takes handler }
+{
     let config = Config::default().with_poll_interval(Duration::from_secs(3600));
     let handler = Flagged {
         dropped: Arc::try_clone(dropped).expect(&rt, "memory"),
     };
-    PollWatcher::new(rt, rt.alloc(), handler, config).expect(&rt, "memory")
-}
-
-/// Starts such a watcher, uses it, and drops it.
-fn use_watcher<R: DebouncerRuntime + AllocGlobal + Abort>(rt: R, dropped: &Arc<AtomicBool>) {
-    let (mut watcher, task) = new_watcher(rt, dropped);
+    let made = Made::of(&handler, config);
+    let (mut watcher, task) = W::new(rt, rt.alloc(), handler, config).expect(&rt, "memory");
     check_watches::<R, _>(&rt, &mut watcher);
-    start_task(&rt, rt.alloc(), task).expect(&rt, "a thread");
+    let running = start_task(&rt, rt.alloc(), task, made).expect(&rt, "a thread");
     thread::sleep(&rt, Duration::from_millis(10));
     drop(watcher);
+    // A thread that goes on lets this wait for ever, and the test is killed.
+    drop(running.join(&rt));
 }
 
-/// Whether a thread ends soon once its watcher is dropped.
+/// Whether a thread ends once its watcher is dropped, and gives the handler back.
 fn ends_its_thread<R: DebouncerRuntime + AllocGlobal + Abort>(rt: R) -> bool {
     let dropped = Arc::new(rt.alloc(), AtomicBool::new(false)).expect(&rt, "memory");
-    use_watcher(rt, &dropped);
-    wait_for(&rt, &dropped)
+    use_watcher::<R, PollWatcher<R>>(rt, &dropped);
+    dropped.load(Ordering::SeqCst)
 }
 
 #[test]
 fn a_dropped_watcher_ends_its_thread(rt: HostRuntime) {
-    // A machine that is busy elsewhere may need another try.
-    for _ in 0..3 {
-        if ends_its_thread(rt) {
-            return;
-        }
-    }
-    panic!(rt; "the thread goes on");
+    assert!(rt; ends_its_thread(rt));
 }

@@ -1,2 +1,5 @@
+mod FedLemmas
+mod FeederLemmas
 mod ListingLemmas
 mod ReportLemmas
+mod Unmissed

@@ -19,12 +19,12 @@ use Rattle.folder_listing.specs.Changes.{LeadsTo}
 use Rattle.folder_listing.specs.Listing.{ListingValue, IsListing}
 use Rattle.folder_listing.specs.Moves.{told_changes}
 use Rattle.folder_listing.proofs.MoveLemmas.{told_lead}
-use Rattle.poll_rounds.specs.Reports.{Notes, Tells, ReportAll, Reported, Begins, GoesOn, left_by}
+use Rattle.poll_rounds.specs.Reports.{Notes, Tells, ReportAll, Reported, left_by}
 use Rattle.poll_rounds.specs.Rounds.{HandsEach}
 use Rattle.derived_laws.proofs.ListingLemmas.{lead-append, reader_led}
 
 -- no entries ascend
-none_sorted : IsStrictlySortedBy path_cmp []
+pub none_sorted : IsStrictlySortedBy path_cmp []
 unfolding IsStrictlySortedBy
 none_sorted = tt
 
@@ -86,29 +86,15 @@ module _ {H : Type 0} (handles : H → Result EventValue ErrorValue → H → Ty
       chain-step first step.0 (left_by step.0 step.1 steps).0 before step.1
       (notes (left_by step.0 step.1 steps).1) h.1.0 law h.0 h.1.1 (chain step.0 step.1 steps h.0 h.2)
 
--- one more step after others
-report-push : {H : Type 0} (handles : H → Result EventValue ErrorValue → H → Type 0) (old : ListingValue) (before : H)
-    (steps : List (ListingValue × H)) (next : ListingValue) (later : H) (trackers : Option ℕ) →
-    ReportAll handles old before steps → IsListing next →
-    Tells handles trackers (left_by old before steps).0 next (left_by old before steps).1 later →
-    ReportAll handles old before (steps ++ (next, later) ∷ [])
-    × (left_by old before (steps ++ (next, later) ∷ []) ≡ (next, later))
-report-push handles old before [] next later trackers h law r = ((law, (trackers, r), tt), refl)
-report-push handles old before (step ∷ steps) next later trackers h law r =
-    let more = report-push handles step.0 step.1 steps next later trackers h.2 law r in
-    ((h.0, h.1, more.0), more.1)
-
--- no step
-pub begins : {H : Type 0} (handles : H → Result EventValue ErrorValue → H → Type 0) → Begins handles
-begins handles = λ begun. ([], tt, refl)
-
--- one more
-pub goes_on : {H : Type 0} (handles : H → Result EventValue ErrorValue → H → Type 0) → GoesOn handles
-goes_on {H} handles = λ begun last now next later trackers reported law r.
-    let steps = reported.0 in
-    let more = report-push handles [] begun steps next later trackers reported.1 law
-    (subst (λ (e : ListingValue × H). Tells handles trackers e.0 next e.1 later) (sym reported.2) r) in
-    (steps ++ (next, later) ∷ [], more.0, more.1)
+  -- from no listing on, all that was noted leads to the last one
+  pub reported_leads : (begun : H) (last : ListingValue) (now : H) → notes begun ≡ [] →
+      Reported handles begun last now → LeadsTo [] (keys_of last) (notes now)
+  reported_leads begun last now none reported =
+      let c = chain [] begun reported.0 nothing reported.1 in
+      let all : notes (left_by [] begun reported.0).1 ≡ c.events = c.noted ∙ ap (λ es. es ++ c.events) none in
+      let end : LeadsTo [] (keys_of (left_by [] begun reported.0).0) (notes (left_by [] begun reported.0).1) =
+      subst (λ es. LeadsTo [] (keys_of (left_by [] begun reported.0).0) es) (sym all) c.leads in
+      subst (λ (e : ListingValue × H). LeadsTo [] (keys_of e.0) (notes e.1)) reported.2 end
 
 -- so a reader of a run that takes what was noted has the last listing's paths
 pub reader_has_what_is_reported : {C H : Type 0} (r : Rules C) (handles : H → Result EventValue ErrorValue → H → Type 0)
@@ -119,10 +105,5 @@ pub reader_has_what_is_reported : {C H : Type 0} (r : Rules C) (handles : H → 
     read_paths [] replies outlook ≡ keys_of last
 reader_has_what_is_reported {C} {H} r handles notes begun last now s t commands replies outlook noting none reported
     run laws empty taken shown =
-    let c = chain handles notes noting [] begun reported.0 nothing reported.1 in
-    let end : left_by [] begun reported.0 ≡ (last, now) = reported.2 in
-    reader_led r s t commands replies [] (keys_of (left_by [] begun reported.0).0) c.events outlook run laws empty
-    none_sorted c.leads
-    (taken ∙ (sym (ap (λ (e : ListingValue × H). notes e.1) end)
-    ∙ (c.noted ∙ ap (λ es. es ++ c.events) none))) shown
-    ∙ ap (λ (e : ListingValue × H). keys_of e.0) end
+    reader_led r s t commands replies [] (keys_of last) (notes now) outlook run laws empty none_sorted
+    (reported_leads handles notes noting begun last now none reported) taken shown

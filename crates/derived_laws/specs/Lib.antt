@@ -1,3 +1,4 @@
+pub mod Feeder
 pub mod Listings
 pub mod Renames
 pub mod Reports

@@ -1,5 +1,5 @@
-//! Folders for tests: a tree in memory, folders of which one call fails, folders of which some are closed, and folders
-//! in which files have numbers.
+//! Folders for tests: a tree in memory, folders of which one call fails, folders of which some are closed, folders in
+//! which files have numbers, and folders whose type tells what they hold.
 //!
 //! ```text
 //! let Some(folders) = TreeFolders::new(rt.alloc(), tree) else { .. };
@@ -10,5 +10,6 @@
 
 pub mod closed;
 pub mod failing;
+pub mod fixed;
 pub mod numbered;
 pub mod tree;

@@ -1,27 +1,33 @@
 -- A folder's reports, as they begin and as they end.
-use Rattle.std.proofs.Common.{◌≡◌, ℕ, false, List, [], ◌∷◌, Result, Ok, Err, subst, sym}
+use Rattle.std.proofs.Common.{◌≡◌, ℕ, false, List, [], ◌∷◌, Option, Result, Ok, Err, subst, sym}
+use Rattle.std.specs.Duration.{as_nanos}
 use Rattle.std.specs.Prelude.{IfOk}
 use Rattle.std.specs.declared.alloc.Global.{Global}
 use Rattle.notify_paths.specs.Path.{PathValue}
 use Rattle.notify_types.specs.declared.event.RecursiveMode.{RecursiveMode}
 use Rattle.notify_watch.specs.Handler.{Outcome}
 use Rattle.debounce_book.specs.Book.{Kept}
-use Rattle.debounce_book.specs.Journal.{EntryValue}
 use Rattle.told_lock.specs.History.{Begins}
 use Rattle.told_lock.proofs.Moves.{begins_self}
 use Rattle.debounce_access.specs.Happened.{History, Opened}
+use Rattle.debounce_turns.specs.Running.{Shown}
+use Rattle.notify_poll.specs.declared.watcher.LastFound.{LastFound}
 use Rattle.file_id_cache.specs.declared.cache.NoCache.{NoCache}
-use Rattle.notify_debouncer_full.specs.Emitted.{EndsReports}
+use Rattle.notify_debouncer_full.specs.Emitted.{FinishesReports}
 use Rattle.report_loop.specs.declared.source.Rest.{Rest}
+use Rattle.report_queue.specs.Queue.{Giving}
+use Rattle.watch_pace.specs.declared.pace.Pace.{Pace}
 use Rattle.watch_program.specs.declared.fault.Fault.{Fault}
-use Rattle.folder_reports.specs.Rest.{IsLeft, IsRestOf}
-use Rattle.folder_reports.specs.Start.{AddsRoot, Followed, IsOpened}
+use Rattle.folder_reports.specs.Rest.{IsLeft, IsRestOf, ends_polling}
+use Rattle.folder_reports.specs.Start.{AddsRoot, BeganWith, Followed, IsOpened, followed}
+use Rattle.folder_reports.specs.Waits.{Awaited}
 
 -- with one root
-pub opened_one : (timeout : ℕ) (path : PathValue) (mode : RecursiveMode) (before after : History) (s : Followed) →
-    before ≡ Opened timeout false ∷ [] → AddsRoot before path mode after → s.seen ≡ after →
-    s.awaited.queue.given ≡ [] → IsOpened timeout (path ∷ []) mode s
-opened_one timeout path mode before after s is adds seen given = record {
+pub opened_one : (pace : Pace) (path : PathValue) (mode : RecursiveMode) (before after : History) (s : Followed) →
+    before ≡ Opened (as_nanos pace.timeout) false ∷ [] → BeganWith pace.initial s.made →
+    AddsRoot before path mode after → s.seen ≡ after → s.awaited.queue.given ≡ [] → IsOpened pace (path ∷ []) mode s
+opened_one pace path mode before after s is began adds seen given = record {
+  began = began;
   roots = (
     after,
     subst (λ h. AddsRoot h path mode after) is adds,
@@ -30,17 +36,26 @@ opened_one timeout path mode before after s is adds seen given = record {
   given = given;
 }
 
--- what is left, if the rest could be had
-pub left_if : (seen : History) (given queue : List (Outcome Global)) (parts : List EntryValue) (book : Kept NoCache) →
-    (missed unsent : ℕ) → EndsReports seen parts given queue unsent book missed → (rest : Result Rest Fault) →
-    IfOk rest (IsRestOf book queue missed unsent) → IfOk rest (IsLeft seen given)
-left_if seen given queue parts book missed unsent ended (Ok rest) is = record {
+-- what is left of a debouncer and of the wait for its reports, if the rest could be had
+pub left_if : {T L : Type 0} (debouncer ended : Shown T L) (awaited : Awaited) (closed : Giving (Outcome Global)) →
+    ended ≡ debouncer → closed ≡ awaited.queue → (queue : List (Outcome Global)) (book : Kept NoCache)
+    (missed unsent : ℕ) (last : Option (LastFound Global)) →
+    FinishesReports ends_polling ended.made last ended.seen ended.parts closed.given queue unsent book missed →
+    (rest : Result Rest Fault) → IfOk rest (IsRestOf book queue missed unsent) →
+    IfOk rest (IsLeft (followed debouncer awaited))
+left_if {T} {L} debouncer ended awaited closed same waits queue book missed unsent last finished (Ok rest) is = record {
   book = book;
-  parts = parts;
+  parts = debouncer.parts;
   queue = queue;
   missed = missed;
   unsent = unsent;
-  ended = ended;
+  last = last;
+  ended = subst
+      (λ (d : Shown T L). FinishesReports ends_polling d.made last d.seen d.parts awaited.queue.given
+      queue unsent book missed) same
+      (subst
+      (λ (q : Giving (Outcome Global)). FinishesReports ends_polling ended.made last ended.seen ended.parts q.given
+      queue unsent book missed) waits finished);
   rest_is = is;
 }
-left_if seen given queue parts book missed unsent ended (Err fault) is = tt
+left_if debouncer ended awaited closed same waits queue book missed unsent last finished (Err fault) is = tt

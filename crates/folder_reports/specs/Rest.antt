@@ -1,5 +1,5 @@
 -- What is left when a debouncer ends.
-use Rattle.std.specs.Prelude.{◌≡◌, ◌+◌, ◌-◌, ◌^◌, ℕ, min, List, [], ◌∷◌, ◌++◌, Ok, Err}
+use Rattle.std.specs.Prelude.{◌≡◌, ◌+◌, ◌-◌, ◌^◌, ℕ, min, List, [], ◌∷◌, ◌++◌, Option, None, Ok, Err}
 use Rattle.std.specs.declared.alloc.Global.{Global}
 use Rattle.std.specs.declared.vec.Vec.{Vec}
 use Rattle.notify_paths.specs.Errors.{ErrorValue}
@@ -9,10 +9,15 @@ use Rattle.debounce_model.specs.State.{State}
 use Rattle.debounce_model.specs.Tick.{IsOutlook}
 use Rattle.debounce_book.specs.Book.{Kept}
 use Rattle.debounce_book.specs.Journal.{EntryValue}
-use Rattle.debounce_access.specs.Happened.{History}
+use Rattle.debounce_access.specs.Adds.{FeedsItem}
+use Rattle.debounce_access.specs.Stands.{Known}
 use Rattle.file_id_cache.specs.declared.cache.NoCache.{NoCache}
-use Rattle.notify_debouncer_full.specs.Emitted.{EndsReports}
+use Rattle.notify_debouncer_full.specs.Emitted.{FinishesReports}
+use Rattle.notify_poll.specs.declared.watcher.LastFound.{LastFound}
+use Rattle.notify_poll.specs.Work.{EndsPolling, FindsTree}
+use Rattle.notify_watch.specs.declared.config.Config.{Config}
 use Rattle.report_loop.specs.declared.source.Rest.{Rest}
+use Rattle.folder_reports.specs.Start.{Followed}
 
 -- the reports are one batch of these events, or none if there are no events
 abbrev pub IsBatchOf : List Timed → List (Outcome Global) → Type 0
@@ -39,14 +44,23 @@ pub record IsRestOf {C : Type 0} (book : Kept C) (queue : List (Outcome Global))
   pub reports : rest.reports.items ≡ queue ++ waiting
   pub missed_is : rest.missed ≡ min (missed + unsent) (2 ^ 64 - 1)
 
+-- how the work of a folder's watcher ends: its feed was called, and with initial events with just what leads from
+-- nothing to what was found last
+abbrev pub ends_polling : Known → Config → Known → LastFound Global → Type 0
+ends_polling begun config now found =
+    EndsPolling FeedsItem begun config now found.polled.last
+    × FindsTree None found.went_well found.polled.roots found.polled.last
+
 -- what is left when the debouncer ends of which this was seen, and whose queue gave this: one history goes on from what
 -- was seen, what was emitted in it was given or is left in the queue, each once and in order, it leads to the book, and
--- the reports are those of this queue and this book
-pub record IsLeft (seen : History) (given : List (Outcome Global)) (rest : Rest) : Type 0 where
+-- the reports are those of this queue and this book. What was fed in it is what the watcher's feed shows, whose work
+-- has ended with what was found last
+pub record IsLeft (s : Followed) (rest : Rest) : Type 0 where
   pub book : Kept NoCache
   pub parts : List EntryValue
   pub queue : List (Outcome Global)
   pub missed : ℕ
   pub unsent : ℕ
-  pub ended : EndsReports seen parts given queue unsent book missed
+  pub last : Option (LastFound Global)
+  pub ended : FinishesReports ends_polling s.made last s.seen parts s.awaited.queue.given queue unsent book missed
   pub rest_is : IsRestOf book queue missed unsent rest

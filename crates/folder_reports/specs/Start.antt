@@ -1,11 +1,16 @@
 -- A folder's reports, as they begin.
-use Rattle.std.specs.Prelude.{◌≡◌, ◌⊎◌, ℕ, false, List, [], ◌∷◌}
+use Rattle.std.specs.Prelude.{◌≡◌, ◌⊎◌, Bool, false, List, [], ◌∷◌, Option, Some}
+use Rattle.std.specs.Duration.{as_nanos}
 use Rattle.notify_paths.specs.Path.{PathValue}
 use Rattle.notify_types.specs.declared.event.RecursiveMode.{RecursiveMode}
 use Rattle.debounce_model.specs.Command.{RootCommand, RootedReply}
-use Rattle.told_lock.specs.History.{Begins}
+use Rattle.notify_watch.specs.declared.config.Config.{Config}
+use Rattle.told_lock.specs.History.{Begins, picked}
 use Rattle.debounce_access.specs.Adds.{Adds}
-use Rattle.debounce_access.specs.Happened.{History, Opened, accepted}
+use Rattle.debounce_access.specs.Happened.{History, Opened, accepted, is_fed}
+use Rattle.debounce_access.specs.Stands.{Known}
+use Rattle.debounce_turns.specs.Running.{Shown}
+use Rattle.watch_pace.specs.declared.pace.Pace.{Pace}
 use Rattle.watch_program.specs.declared.fault.Fault.{Fault}
 use Rattle.watch_program.specs.declared.fault.Fault.TheVariants.{CannotWatch, Memory, NoHints, NoThread, NotThere, NotWatched}
 use Rattle.folder_reports.specs.Waits.{Awaited}
@@ -25,12 +30,25 @@ AddsRoots before [] mode after = Begins before after
 AddsRoots before (path ∷ paths) mode after =
     (mid : History) × AddsRoot before path mode mid × AddsRoots mid paths mode after
 
--- what is reported of folders shows: the history of its debouncer, as far as it was seen, and the wait for its reports
+-- what is reported of folders shows: with which feed its watcher was made, and with which configuration; the history of
+-- its debouncer, as far as it was seen; and the wait for its reports
 pub record Followed : Type 0 where
+  pub made : Option (Known × Config)
   pub seen : History
   pub awaited : Awaited
 
--- a debouncer with this timeout was started, each of the paths became a root, and nothing was given yet
-pub record IsOpened (timeout : ℕ) (paths : List PathValue) (mode : RecursiveMode) (s : Followed) : Type 0 where
-  pub roots : AddsRoots (Opened timeout false ∷ []) paths mode s.seen
+-- what is shown of this debouncer and of this wait
+abbrev pub followed : {T L : Type 0} → Shown T L → Awaited → Followed
+followed debouncer awaited = record { made = debouncer.made; seen = debouncer.seen; awaited = awaited }
+
+-- the watcher was made with a feed by which nothing had been fed, and with initial events or without
+abbrev pub BeganWith : Bool → Option (Known × Config) → Type 0
+BeganWith initial made =
+    (begun : Known) × (config : Config) × (made ≡ Some (begun, config)) × (picked is_fed begun.seen ≡ [])
+    × (config.initial_events ≡ initial)
+
+-- a debouncer was started at this pace, each of the paths became a root, and nothing was given yet
+pub record IsOpened (pace : Pace) (paths : List PathValue) (mode : RecursiveMode) (s : Followed) : Type 0 where
+  pub began : BeganWith pace.initial s.made
+  pub roots : AddsRoots (Opened (as_nanos pace.timeout) false ∷ []) paths mode s.seen
   pub given : s.awaited.queue.given ≡ []

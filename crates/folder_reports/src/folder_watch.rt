@@ -1,6 +1,7 @@
 //! A folder that is watched, apart from the wait for its reports.
 ghost use Rattle.std.specs.Prelude.{◌≡◌, IfErr, IfOk};
 ghost use Rattle.folder_reports.specs.Rest.{IsLeft};
+ghost use Rattle.folder_reports.specs.Start.{followed};
 ghost use Rattle.notify_debouncer_full.specs.Emitted.{IsTied};
 ghost use Rattle.watch_program.specs.declared.fault.Fault.TheVariants.{Memory};
 
@@ -73,7 +74,7 @@ impl<'n, R: DebouncerRuntime + AllocGlobal, E: Write + Drop> FolderWatch<'n, R, 
     /// Ends the folder's reports, as `FolderReports::finish`.
     pub fn finish(mut self, waiting: Waiting<R>) -> Result<Rest, Fault>
         requires tied { IsTied self.debouncer.began waiting.queue }
-        ensures ok { IfOk result (IsLeft self.entry.debouncer.seen waiting.queue.given) }
+        ensures ok { IfOk result (IsLeft (followed self.entry.debouncer waiting)) }
         ensures err { IfErr result (λ e. e ≡ Memory) }
     {
         self.say_left_out();

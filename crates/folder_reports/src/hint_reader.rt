@@ -3,17 +3,17 @@
 //! Nothing waits for such a thread. It may stand in a read that nothing in this language can end, and so
 //! whoever waited for it might wait for ever. It holds no report and no part of the debouncer, only the
 //! handle by which it asks the watcher for looks, so nothing is lost when the program ends before it does.
-ghost use Rattle.std.specs.Prelude.{◌≡◌, ◌⊎◌, [], Some, IfErr, IfSome};
+ghost use Rattle.std.specs.Prelude.{◌≡◌, ◌⊎◌, [], Some, IfErr};
 ghost use Rattle.watch_program.specs.declared.fault.Fault.TheVariants.{Memory, NoHints, NoThread};
 
 use crate::input_end::InputEnd;
 use hint_lines::{HintLines, HintedFolder, TakesHints, read_hints};
-use notify_debouncer_full::{DebouncerRuntime, Hints, PathBuf, Task, start_task};
+use notify_debouncer_full::{DebouncerRuntime, Hints, PathBuf};
 use std::alloc::Global;
 use std::fs::Files;
 use std::sync::Wait;
 use std::thread::Threads;
-use std::{fs, io};
+use std::{fs, io, thread};
 use watch_program::{Fault, HintWords};
 
 /// Standard input, as a file: a thread to which the runtime's own is sent has no proof.
@@ -65,20 +65,25 @@ struct HintTask<R: Wait + Drop> {
     rt: R,
     file: String,
     /// What the lines are gathered in. It is asked for before the thread starts.
-    lines: Option<HintLines>,
+    lines: HintLines,
     sink: HintSink<R>,
     input: InputEnd,
 }
 
-impl<R: Wait + Files + Alloc + Copy + Drop + Send + Sync + 'static> Task for HintTask<R> {
-    ghost can_run = { λ task. IfSome task.lines (λ lines. lines.held ≡ Some []) };
-
+impl<R: Wait + Files + Alloc + Copy + Drop> HintTask<R> {
     /// Reads hints until they end, or the watcher has ended.
-    fn run(&mut self) {
-        if let Some(lines) = self.lines.take() {
-            let _ = read_file(&self.rt, self.file.as_str(), lines, &mut self.sink);
-        }
-        self.input.set();
+    fn run(self)
+        requires { self.lines.held ≡ Some [] }
+    {
+        let HintTask {
+            rt,
+            file,
+            lines,
+            mut sink,
+            input,
+        } = self;
+        let _ = read_file(&rt, file.as_str(), lines, &mut sink);
+        input.set();
     }
 }
 
@@ -89,10 +94,8 @@ struct SkipTask<R: Wait + Drop> {
     input: InputEnd,
 }
 
-impl<R: Wait + Files + Alloc + Copy + Drop + Send + Sync + 'static> Task for SkipTask<R> {
-    ghost can_run = { λ _. Unit {0} };
-
-    fn run(&mut self) {
+impl<R: Wait + Files + Drop> SkipTask<R> {
+    fn run(self) {
         if let Ok(mut source) = fs::open(&self.rt, STANDARD_INPUT) {
             // A read that is interrupted is made again; one that fails ends it too.
             let _ = io::copy(&mut source, &mut io::sink());
@@ -146,7 +149,7 @@ pub(crate) fn start_hints<R: DebouncerRuntime>(
     let task = HintTask {
         rt,
         file: String::from_str(alloc, file)?,
-        lines: Some(HintLines::new(alloc, words.ends)?),
+        lines: HintLines::new(alloc, words.ends)?,
         sink: HintSink {
             alloc,
             folders: hinted_folders(&rt, alloc, folders)?,
@@ -154,26 +157,36 @@ pub(crate) fn start_hints<R: DebouncerRuntime>(
         },
         input,
     };
-    start(rt, alloc, task)
+    let run = move ||
+        requires { task.lines.held ≡ Some [] }
+    { task.run() };
+    start(&rt, run)
 }
 
 /// Starts a thread that passes over standard input, and says when that has ended.
-pub(crate) fn start_skipping<R: DebouncerRuntime>(
-    rt: R,
-    alloc: Global,
-    input: InputEnd,
-) -> Result<(), Fault>
+pub(crate) fn start_skipping<
+    R: Threads
+        + Wait
+        + Files<File: Send + Sync + 'static, Dir: Send + Sync + 'static>
+        + Copy
+        + Drop
+        + Send
+        + Sync
+        + 'static,
+>(rt: R, input: InputEnd) -> Result<(), Fault>
     ensures err { IfErr result (λ e. e ≡ NoThread) }
 {
-    start(rt, alloc, SkipTask { rt, input })
+    let task = SkipTask { rt, input };
+    let run = move || { task.run() };
+    start(&rt, run)
 }
 
 /// Starts a thread that nothing waits for.
-fn start<R: Threads + Drop, K: Task>(rt: R, alloc: Global, task: K) -> Result<(), Fault>
-    requires { K.can_run task }
+fn start<R: Threads, F: FnOnce() + Send + 'static>(rt: &R, run: F) -> Result<(), Fault>
+    requires { F.pre run }
     ensures { IfErr result (λ e. e ≡ NoThread) }
 {
-    match start_task(&rt, alloc, task) {
+    match thread::spawn(rt, run) {
         Ok(_) => Ok(()),
         Err(_) => Err(Fault::NoThread),
     }

@@ -3,7 +3,7 @@ ghost use Rattle.std.specs.Prelude.{◌≡◌, ◌≤◌, ◌<◌, ◌+◌, ◌*
 ghost use Rattle.std.specs.Duration.{as_nanos};
 ghost use Rattle.std.specs.Time.{FitsClock, instant_nanos};
 ghost use Rattle.debounce_access.specs.Happened.{Opened};
-ghost use Rattle.folder_reports.specs.Start.{AddsRoot};
+ghost use Rattle.folder_reports.specs.Start.{AddsRoot, BeganWith};
 ghost use Rattle.notify_debouncer_full.specs.Emitted.{IsTied};
 ghost use Rattle.watch_program.specs.declared.fault.Fault.TheVariants.{CannotWatch, Memory, NoThread, NotThere};
 
@@ -35,6 +35,8 @@ impl<R: DebouncerRuntime + AllocGlobal> Live<R> {
     pub(crate) fn start(rt: R, pace: Pace<'_>) -> Result<Live<R>, Fault>
         ensures opened { IfOk result (λ live. live.reports.debouncer.seen
             ≡ Opened (as_nanos pace.entry.timeout) false ∷ []) }
+        ensures began { IfOk result (λ live. BeganWith pace.entry.initial
+            live.reports.debouncer.made) }
         ensures given { IfOk result (λ live. live.reports.queue.given ≡ []) }
         ensures err { IfErr result (λ e. (e ≡ Memory) ⊎ (e ≡ NoThread)) }
     {
@@ -72,6 +74,7 @@ impl<R: DebouncerRuntime + AllocGlobal> Live<R> {
     pub(crate) fn watch(&mut self, folder: &PathBuf, mode: RecursiveMode) -> Result<(), Fault>
         ensures ok { OnOk result (AddsRoot self.old.reports.debouncer.seen folder.now mode
             self.new.reports.debouncer.seen) }
+        ensures made { self.new.reports.debouncer.made ≡ self.old.reports.debouncer.made }
         ensures queue { self.new.reports.queue ≡ self.old.reports.queue }
         ensures err { IfErr result (λ e. (e ≡ Memory) ⊎ ((e ≡ NotThere) ⊎ (e ≡ CannotWatch))) }
     {
@@ -120,12 +123,13 @@ impl<R: DebouncerRuntime + AllocGlobal> Live<R> {
         if !until_eof {
             return Ok(());
         }
-        start_skipping(self.rt, self.rt.alloc(), self.input.share()?)
+        start_skipping(self.rt, self.input.share()?)
     }
 
     /// Returns the debouncer, and the wait for its reports.
     pub(crate) fn apart(self) -> (Watching<R>, Waiting<R>)
         ensures tied { IsTied result.0.began result.1.queue }
+        ensures made { result.0.made ≡ self.reports.debouncer.made }
         ensures seen { result.0.seen ≡ self.reports.debouncer.seen }
         ensures given { result.1.queue.given ≡ self.reports.queue.given }
     {

@@ -1,9 +1,8 @@
 //! What is reported of a folder.
 ghost use Rattle.std.specs.Prelude.{◌≡◌, ◌≢◌, ◌⊎◌, ◌++◌, ◌∷◌, [], true, false, None, IfErr, IfOk, OnOk};
-ghost use Rattle.std.specs.Duration.{as_nanos};
 ghost use Rattle.std.specs.Option.{option_to_list};
 ghost use Rattle.notify_types.specs.declared.event.RecursiveMode.TheVariants.{NonRecursive};
-ghost use Rattle.folder_reports.specs.Start.{AddsRoots, IsOpened, IsStartFault};
+ghost use Rattle.folder_reports.specs.Start.{AddsRoots, IsOpened, IsStartFault, followed};
 ghost use Rattle.folder_reports.specs.Rest.{IsLeft};
 ghost use Rattle.notify_debouncer_full.specs.Emitted.{IsTied};
 ghost use Rattle.watch_program.specs.declared.fault.Fault.TheVariants.{CannotWatch, Memory, NotThere, NotWatched};
@@ -29,11 +28,11 @@ pub struct FolderReports<'n, R: DebouncerRuntime, E: Drop> {
 }
 
 impl<'n, R: DebouncerRuntime, E: Drop> Model for FolderReports<'n, R, E> {
-    ghost use Rattle.folder_reports.specs.Start.{Followed};
+    ghost use Rattle.folder_reports.specs.Start.{Followed, followed};
 
     ghost Value = { Followed };
 
-    ghost view = { λ r. record { seen = r.watch.debouncer.seen; awaited = r.waiting } };
+    ghost view = { λ r. followed r.watch.debouncer r.waiting };
 }
 
 impl<'n, R: DebouncerRuntime + AllocGlobal, E: Write + Drop> FolderReports<'n, R, E> {
@@ -48,7 +47,7 @@ impl<'n, R: DebouncerRuntime + AllocGlobal, E: Write + Drop> FolderReports<'n, R
         pace: Pace<'_>,
         complaints: Complaints<'n, E>,
     ) -> Result<FolderReports<'n, R, E>, Fault>
-        ensures ok { IfOk result (IsOpened (as_nanos pace.entry.timeout) (folder.now ∷ []) mode) }
+        ensures ok { IfOk result (IsOpened pace.entry (folder.now ∷ []) mode) }
         ensures err { IfErr result IsStartFault }
         ensures unsaid { IfErr result (λ e. e ≢ NotWatched) }
     {
@@ -68,8 +67,7 @@ impl<'n, R: DebouncerRuntime + AllocGlobal, E: Write + Drop> FolderReports<'n, R
         pace: Pace<'_>,
         complaints: Complaints<'n, E>,
     ) -> Result<FolderReports<'n, R, E>, Fault>
-        ensures ok { IfOk result (IsOpened (as_nanos pace.entry.timeout) (folder.now ∷ [])
-            NonRecursive) }
+        ensures ok { IfOk result (IsOpened pace.entry (folder.now ∷ []) NonRecursive) }
         ensures err { IfErr result IsStartFault }
         ensures unsaid { IfErr result (λ e. e ≢ NotWatched) }
     {
@@ -90,7 +88,7 @@ impl<'n, R: DebouncerRuntime + AllocGlobal, E: Write + Drop> FolderReports<'n, R
         pace: Pace<'_>,
         mut complaints: Complaints<'n, E>,
     ) -> Result<FolderReports<'n, R, E>, Fault>
-        ensures ok { IfOk result (IsOpened (as_nanos pace.entry.timeout) folders.now mode) }
+        ensures ok { IfOk result (IsOpened pace.entry folders.now mode) }
         ensures err { IfErr result IsStartFault }
         ensures said { IfErr result (λ e. (e ≢ NotThere) × (e ≢ CannotWatch)) }
     {
@@ -103,6 +101,7 @@ impl<'n, R: DebouncerRuntime + AllocGlobal, E: Write + Drop> FolderReports<'n, R
 
     /// The reports of what is watched.
     fn of(rt: R, live: Live<R>, complaints: Complaints<'n, E>) -> FolderReports<'n, R, E>
+        ensures made { result.made ≡ live.reports.debouncer.made }
         ensures seen { result.seen ≡ live.reports.debouncer.seen }
         ensures given { result.awaited.queue.given ≡ live.reports.queue.given }
     {
@@ -135,6 +134,7 @@ impl<'n, R: DebouncerRuntime + AllocGlobal, E: Write + Drop> FolderReports<'n, R
     /// Waits for the next report. `None` says that the life is over, as by the end of the input, or that the
     /// clock can't be read.
     pub fn next(&mut self) -> Option<DebounceEventResult>
+        ensures made { self.new.made ≡ self.old.made }
         ensures seen { self.new.seen ≡ self.old.seen }
         ensures given { self.new.awaited.queue.given
             ≡ self.old.awaited.queue.given ++ option_to_list result }
@@ -147,6 +147,7 @@ impl<'n, R: DebouncerRuntime + AllocGlobal, E: Write + Drop> FolderReports<'n, R
 
     /// Waits so long for the next report. `None` says that none came, or what it says of `next`.
     pub fn next_within(&mut self, pause: Duration) -> Option<DebounceEventResult>
+        ensures made { self.new.made ≡ self.old.made }
         ensures seen { self.new.seen ≡ self.old.seen }
         ensures given { self.new.awaited.queue.given
             ≡ self.old.awaited.queue.given ++ option_to_list result }
@@ -158,8 +159,7 @@ impl<'n, R: DebouncerRuntime + AllocGlobal, E: Write + Drop> FolderReports<'n, R
     /// Returns what waits for these reports, as `report_loop::hand_on` takes it, and what is watched, which ends with it.
     pub fn apart(self) -> (Waiting<R>, FolderWatch<'n, R, E>)
         ensures tied { IsTied result.1.debouncer.began result.0.queue }
-        ensures seen { result.1.debouncer.seen ≡ self.entry.seen }
-        ensures awaited { result.0 ≡ self.entry.awaited }
+        ensures same { followed result.1.debouncer result.0 ≡ self.entry }
     {
         let FolderReports { watch, waiting } = self;
         (waiting, watch)
@@ -169,7 +169,7 @@ impl<'n, R: DebouncerRuntime + AllocGlobal, E: Write + Drop> FolderReports<'n, R
     /// yet. Nothing is lost but what is counted as missed. How many paths the last look couldn't look at is noted
     /// (`Complaints::counting`).
     pub fn finish(self) -> Result<Rest, Fault>
-        ensures ok { IfOk result (IsLeft self.entry.seen self.entry.awaited.queue.given) }
+        ensures ok { IfOk result (IsLeft self.entry) }
         ensures err { IfErr result (λ e. e ≡ Memory) }
     {
         let FolderReports { watch, waiting } = self;
@@ -186,6 +186,7 @@ fn watch_each<R: DebouncerRuntime + AllocGlobal, E: Write + Drop>(
 ) -> Result<(), Fault>
     ensures ok { OnOk result (AddsRoots live.old.reports.debouncer.seen folders.now mode
         live.new.reports.debouncer.seen) }
+    ensures made { live.new.reports.debouncer.made ≡ live.old.reports.debouncer.made }
     ensures queue { live.new.reports.queue ≡ live.old.reports.queue }
     ensures err { IfErr result (λ e. (e ≡ Memory) ⊎ (e ≡ NotWatched)) }
 {

@@ -22,6 +22,7 @@ pub(crate) fn rest_of(alloc: Global, last: LastReports) -> Result<Rest, Fault>
         book,
         missed,
         unsent,
+        last: _,
     } = last;
     push_waiting(alloc, &mut reports, &book)?;
     Ok(Rest {

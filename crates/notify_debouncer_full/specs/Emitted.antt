@@ -1,13 +1,16 @@
 -- What was emitted, as reports, and what a queue of them gave.
-use Rattle.std.specs.Prelude.{◌≡◌, ◌-◌, ◌^◌, ℕ, min, Bool, List, [], ◌∷◌, ◌++◌, map, Result, Ok, Err}
+use Rattle.std.specs.Prelude.{◌≡◌, ◌-◌, ◌^◌, ℕ, min, Bool, List, [], ◌∷◌, ◌++◌, map, Option, Result, Ok, Err}
 use Rattle.notify_paths.specs.Errors.{ErrorValue}
 use Rattle.notify_types.specs.Event.{Timed}
 use Rattle.notify_watch.specs.Handler.{Outcome}
+use Rattle.notify_watch.specs.declared.config.Config.{Config}
+use Rattle.debounce_model.specs.Cache.{no_numbers}
 use Rattle.debounce_model.specs.Command.{ReplyValue, ErrorsReply, BatchReply}
 use Rattle.debounce_book.specs.Book.{Kept}
 use Rattle.debounce_book.specs.Journal.{EntryValue}
 use Rattle.debounce_access.specs.Happened.{HappenedValue, History, Accepted}
-use Rattle.debounce_turns.specs.Ended.{IsEnded}
+use Rattle.debounce_access.specs.Stands.{Known}
+use Rattle.debounce_turns.specs.Ended.{FeedComesBack, IsEnded}
 use Rattle.report_queue.specs.Queue.{Calls, Giving, Sending, lost_in, put_in}
 
 -- what a report has, whichever its allocator is
@@ -34,6 +37,16 @@ reports_at h = []
 abbrev pub reports_of : History → List Report
 reports_of [] = []
 reports_of (h ∷ hs) = reports_at h ++ reports_of hs
+
+-- the events of a report: those of a batch
+abbrev pub batch_of : Report → List Timed
+batch_of (Ok batch) = batch
+batch_of (Err errors) = []
+
+-- .. of all these reports, in order
+abbrev pub events_in : List Report → List Timed
+events_in [] = []
+events_in (report ∷ reports) = batch_of report ++ events_in reports
 
 module _ {A : Type 0} where
   -- what the report has
@@ -69,9 +82,15 @@ module _ {A : Type 0} where
     pub unsent_is : unsent ≡ min (lost_in calls) (2 ^ 64 - 1)
     pub whole : unsent ≡ 0 → map plain (given ++ left) ≡ reports_of emitted
 
-  -- it is as at a debouncer's end, and what was emitted was given or is left
+  -- it is as at the end of a debouncer whose cache has no numbers, and what was emitted was given or is left
   abbrev pub EndsReports : {C : Type 0} → History → List EntryValue → List (Outcome A) → List (Outcome A) → ℕ
       → Kept C → ℕ → Type 0
   EndsReports seen parts given left unsent book count =
-      IsEnded (λ (rest : List (Outcome A) × ℕ) emitted. IsGiven given rest.0 rest.1 emitted) (left, unsent) seen
-      parts book count
+      IsEnded no_numbers (λ (rest : List (Outcome A) × ℕ) emitted. IsGiven given rest.0 rest.1 emitted)
+      (left, unsent) seen parts book count
+
+  -- .. and the feed of its watcher has come back, with what was found last, which is told of the same history
+  abbrev pub FinishesReports : {C Last : Type 0} → (Known → Config → Known → Last → Type 0) → Option (Known × Config)
+      → Option Last → History → List EntryValue → List (Outcome A) → List (Outcome A) → ℕ → Kept C → ℕ → Type 0
+  FinishesReports ends made last seen parts given left unsent book count =
+      (ended : EndsReports seen parts given left unsent book count) × FeedComesBack ends made last ended.log

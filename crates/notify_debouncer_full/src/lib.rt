@@ -38,7 +38,8 @@ pub use debounce_shell::by_hand::{
     ByHand, new_debouncer_by_hand, new_journaled_debouncer_by_hand, new_told_debouncer_by_hand,
 };
 pub use debounce_shell::debouncer::{
-    Debouncer, new_debouncer_opt, new_journaled_debouncer, new_told_debouncer,
+    Debouncer, Finished, LastOf, Running, TaskOf, new_debouncer_opt, new_journaled_debouncer,
+    new_told_debouncer,
 };
 pub use debounce_shell::send_to::{SendTo, Unsent};
 pub use debounce_threads::meet::{Meet, NoMeet};
@@ -64,7 +65,9 @@ pub use notify_types::kind::{
 pub use notify_types::time::{Moment, age};
 pub use notify_watch::config::{Config, WatcherKind};
 pub use notify_watch::handler::{DebounceEventHandler, DebounceEventResult, EventHandler};
-pub use notify_watch::watcher::{ListingWatcher, Task, Watcher, start_task};
+pub use notify_watch::watcher::{
+    Hands, ListingWatcher, Made, Task, Watcher, WatcherThread, start_task,
+};
 pub use queue_handler::QueueHandler;
 pub use recommended::{
     RecommendedCache, RecommendedDebouncer, RecommendedWatcher, new_debouncer,
@@ -72,7 +75,7 @@ pub use recommended::{
 };
 pub use report_queue::queue::{QueueRest, ReportQueue, report_queue};
 pub use report_queue::sender::ReportSender;
-pub use reports::{LastReports, QueueingDebouncer, RecommendedReports, Reports};
+pub use reports::{LastReports, QueueingDebouncer, RecommendedReports, Reports, ReportsBy};
 pub use runtime::{DebouncerAllocator, DebouncerRuntime};
 
 // The watcher that polls.
@@ -80,7 +83,7 @@ pub use folder_listing::compare::compare;
 pub use folder_listing::entry::{EntryKind, FileNumber, Found};
 pub use folder_listing::listing::Listing;
 pub use notify_poll::hints::Hints;
-pub use notify_poll::watcher::{ClosedCount, PollTask, PollWatcher};
+pub use notify_poll::watcher::{ClosedCount, LastFound, PollTask, PollWatcher, RoundTask};
 pub use poll_roots::polled::Polled;
 pub use poll_rounds::folders::Folders;
 pub use poll_rounds::list::list;

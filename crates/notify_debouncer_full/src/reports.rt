@@ -9,23 +9,24 @@ ghost use Rattle.debounce_model.specs.Tick.{IsOutlook};
 ghost use Rattle.debounce_book.specs.Journal.{IsLegal};
 ghost use Rattle.debounce_access.specs.Adds.{Adds};
 ghost use Rattle.debounce_access.specs.Happened.{accepted, entries_of};
-ghost use Rattle.debounce_access.specs.Stands.{IsStarted, RunsOn};
 ghost use Rattle.debounce_shell.specs.Start.{IsStartError, IsTooSlow, too_slow};
+ghost use Rattle.debounce_turns.specs.Running.{IsMadeWith, IsStarted, RunsOn};
 ghost use Rattle.debounce_turns.specs.Watched.{AsksFirst, ListsFirst};
-ghost use Rattle.notify_debouncer_full.specs.Emitted.{EndsReports, IsTied};
+ghost use Rattle.notify_debouncer_full.specs.Emitted.{FinishesReports, IsTied};
 
 use crate::queue_handler::QueueHandler;
 use crate::recommended::{RecommendedCache, RecommendedWatcher};
 use crate::runtime::{DebouncerAllocator, DebouncerRuntime};
 use debounce_book::book::Book;
-use debounce_shell::debouncer::{Debouncer, new_told_debouncer};
+use debounce_shell::debouncer::{Debouncer, Finished, LastOf, Running, TaskOf, new_told_debouncer};
 use debounce_turns::feed::Feed;
 use notify_paths::error::{Error, ErrorKind};
 use notify_paths::path::PathBuf;
+use notify_poll::watcher::LastFound;
 use notify_types::event::{DebouncedEvent, RecursiveMode};
 use notify_watch::config::Config;
 use notify_watch::handler::DebounceEventResult;
-use notify_watch::watcher::{ListingWatcher, Watcher};
+use notify_watch::watcher::{ListingWatcher, Task, Watcher};
 use report_queue::queue::{QueueRest, ReportQueue, report_queue};
 use std::alloc::Global;
 use std::time::Duration;
@@ -44,10 +45,18 @@ use std::time::Duration;
 /// what was emitted, each report once and in order: `finish` says so, unless some could not be put into the queue.
 ///
 /// Dropping it asks the debouncer to end, as a drop of a `Debouncer` does.
+pub type Reports<T, R, A = Global> = ReportsBy<T, TaskOf<T, RecommendedCache, R, A>, R, A>;
+
+/// [`Reports`] of a debouncer whose watcher's thread does the work `K`.
 #[derive(Drop)]
-pub struct Reports<T: Drop, R: DebouncerRuntime, A: DebouncerAllocator = Global> {
+pub struct ReportsBy<
+    T: Drop,
+    K: Task<Handler = Feed<RecommendedCache, R, A>>,
+    R: DebouncerRuntime,
+    A: DebouncerAllocator = Global,
+> {
     rt: R,
-    debouncer: QueueingDebouncer<T, R, A>,
+    debouncer: Running<T, K, RecommendedCache, R, A, QueueHandler<R, A>>,
     queue: ReportQueue<DebounceEventResult<A>, A>,
     // The handler puts into this queue, and had put in nothing before the debouncer was started.
     ghost tied: { IsTied debouncer.began queue },
@@ -65,9 +74,9 @@ pub type QueueingDebouncer<T, R, A = Global> = Debouncer<
 /// Reports over a [`RecommendedWatcher`].
 pub type RecommendedReports<R, A = Global> = Reports<RecommendedWatcher<R, A>, R, A>;
 
-/// What is left when reports end.
+/// What is left when reports end. `N` is what the watcher finds last.
 #[derive(Drop)]
-pub struct LastReports<A: DebouncerAllocator = Global> {
+pub struct LastReports<A: DebouncerAllocator = Global, N: Drop = LastFound<A>> {
     /// What was emitted and not asked for, in its order. No more comes.
     pub queue: Vec<DebounceEventResult<A>, A>,
     /// The debouncer's book. In it is what was never emitted: its `outlook` is what waits, in the order
@@ -78,6 +87,8 @@ pub struct LastReports<A: DebouncerAllocator = Global> {
     /// How many batches and lists of errors could not be put into the queue, since an allocation failed. It counts
     /// no further than 2^64 - 1.
     pub unsent: u64,
+    /// What the watcher found last; `None` if the debouncer was fed by hand.
+    pub last: Option<N>,
 }
 
 impl<
@@ -100,6 +111,7 @@ impl<
         requires takes { (feed : _) → T.takes feed }
         ensures rate { IsTooSlow timeout tick_rate → IsErrOf result too_slow }
         ensures opened { IfOk result (λ r. IsStarted r.debouncer (as_nanos timeout) false) }
+        ensures made { IfOk result (λ r. IsMadeWith config r.debouncer) }
         ensures given { IfOk result (λ r. r.queue.given ≡ []) }
         ensures err { IfErr result (IsStartError T.refuses timeout tick_rate) }
     {
@@ -112,7 +124,7 @@ impl<
         let handler = QueueHandler::new(rt, sender);
         let cache = RecommendedCache::new();
         let debouncer = new_told_debouncer(rt, alloc, timeout, tick_rate, handler, cache, config)?;
-        Ok(Reports {
+        Ok(ReportsBy {
             rt,
             debouncer,
             queue,
@@ -160,24 +172,32 @@ impl<
 
     /// Stops the watcher and the debouncer as `Debouncer::finish` does, waits until both have ended, and
     /// returns all that was not asked for: first what is in the queue, and then what was never
-    /// emitted. Nothing is lost but what was counted as missed or unsent.
-    pub fn finish(self) -> LastReports<A>
-        ensures ended { EndsReports self.debouncer.seen self.debouncer.parts self.queue.given
-            result.queue.items result.unsent result.book result.missed }
+    /// emitted. Nothing is lost but what was counted as missed or unsent. What the watcher found last is
+    /// returned too.
+    pub fn finish(self) -> LastReports<A, LastOf<T, RecommendedCache, R, A>>
+        ensures ended { FinishesReports T.Task.ends self.debouncer.made result.last
+            self.debouncer.seen self.debouncer.parts self.queue.given result.queue.items
+            result.unsent result.book result.missed }
         ensures legal { IfSome result.book.journal (λ es. IsLegal es result.book.core.state) }
     {
-        let Reports {
+        let ReportsBy {
             rt,
             debouncer,
             queue,
         } = self;
-        let (book, missed, handler) = debouncer.finish_left();
-        let QueueRest { reports, unsent } = queue.close(&rt, handler.into_sender());
+        let Finished {
+            book,
+            missed,
+            left,
+            last,
+        } = debouncer.finish_left();
+        let QueueRest { reports, unsent } = queue.close(&rt, left.into_sender());
         LastReports {
             queue: reports,
             book,
             missed,
             unsent,
+            last,
         }
     }
 }
@@ -206,7 +226,12 @@ impl<
     }
 }
 
-impl<T: Drop, R: DebouncerRuntime, A: DebouncerAllocator> Reports<T, R, A> {
+impl<
+    T: Drop,
+    K: Task<Handler = Feed<RecommendedCache, R, A>>,
+    R: DebouncerRuntime,
+    A: DebouncerAllocator,
+> ReportsBy<T, K, R, A> {
     /// Waits for the next batch or the next errors. `None` says that no more can come, since the
     /// debouncer's thread has ended.
     pub fn next(&mut self) -> Option<DebounceEventResult<A>>
@@ -237,13 +262,13 @@ impl<T: Drop, R: DebouncerRuntime, A: DebouncerAllocator> Reports<T, R, A> {
     pub fn apart(
         self,
     ) -> (
-        QueueingDebouncer<T, R, A>,
+        Running<T, K, RecommendedCache, R, A, QueueHandler<R, A>>,
         ReportQueue<DebounceEventResult<A>, A>,
     )
         ensures same { (result.0 ≡ self.debouncer) × (result.1 ≡ self.queue) }
         ensures tied { IsTied result.0.began result.1 }
     {
-        let Reports {
+        let ReportsBy {
             rt: _,
             debouncer,
             queue,
@@ -254,13 +279,13 @@ impl<T: Drop, R: DebouncerRuntime, A: DebouncerAllocator> Reports<T, R, A> {
     /// Puts a debouncer and its queue together.
     pub fn of(
         rt: R,
-        debouncer: QueueingDebouncer<T, R, A>,
+        debouncer: Running<T, K, RecommendedCache, R, A, QueueHandler<R, A>>,
         queue: ReportQueue<DebounceEventResult<A>, A>,
-    ) -> Reports<T, R, A>
+    ) -> ReportsBy<T, K, R, A>
         requires { IsTied debouncer.began queue }
         ensures { (result.debouncer ≡ debouncer) × (result.queue ≡ queue) }
     {
-        Reports {
+        ReportsBy {
             rt,
             debouncer,
             queue,
@@ -295,7 +320,7 @@ impl<T: Drop, R: DebouncerRuntime, A: DebouncerAllocator> Reports<T, R, A> {
     }
 
     /// Returns the debouncer, to ask it.
-    pub fn debouncer(&self) -> &QueueingDebouncer<T, R, A>
+    pub fn debouncer(&self) -> &Running<T, K, RecommendedCache, R, A, QueueHandler<R, A>>
         ensures { result.now ≡ self.now.debouncer }
     {
         &self.debouncer

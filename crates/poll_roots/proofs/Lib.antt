@@ -1,2 +1,3 @@
 pub mod PolledLemmas
 pub mod SaidLemmas
+pub mod ShownLemmas

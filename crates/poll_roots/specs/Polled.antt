@@ -49,6 +49,10 @@ WatchesNext old root new =
 abbrev pub ShowsFirst : Option ListingValue → PathValue × RecursiveMode → ListingValue → Type 0
 ShowsFirst told root first = IfSome told (λ tree. IsTree tree → first ≡ shown tree (root ∷ []))
 
+-- folders that tell their tree show this listing at the roots
+abbrev pub Shows : Option ListingValue → List (PathValue × RecursiveMode) → ListingValue → Type 0
+Shows told roots last = IfSome told (λ tree. IsTree tree → last ≡ shown tree roots)
+
 -- the root is watched, and this is what it shows of the last listing then, itself included
 abbrev pub Lists : Option ListingValue → PolledValue → PathValue × RecursiveMode → ListingValue → PolledValue
     → Type 0

@@ -3,5 +3,6 @@
 
 mod deep;
 pub mod polled;
+pub mod round_folders;
 mod said;
 pub mod watched;

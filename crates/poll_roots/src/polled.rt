@@ -11,7 +11,7 @@ ghost use Rattle.poll_rounds.specs.Closed.{LookKeeps, RoundKeeps};
 ghost use Rattle.poll_rounds.specs.Folders.{IsTree, shown};
 ghost use Rattle.poll_rounds.specs.Parts.{LooksEach};
 ghost use Rattle.poll_rounds.specs.Reports.{Reports, Tells};
-ghost use Rattle.poll_roots.specs.Polled.{IsThere, IsWatchRefusal, Lists, ShowsFirst, Watches, WatchesNext, is_watched, kept_by, other_roots, watch_not_found, with_root};
+ghost use Rattle.poll_roots.specs.Polled.{IsThere, IsWatchRefusal, Lists, Shows, ShowsFirst, Watches, WatchesNext, is_watched, kept_by, other_roots, watch_not_found, with_root};
 ghost use Rattle.poll_rounds.specs.Rounds.{HandsEach, HandsRefusal};
 
 use folder_listing::listing::Listing;
@@ -26,6 +26,7 @@ use poll_rounds::look::look_round;
 use poll_rounds::round::poll_round;
 use std::alloc::{Allocator, Global};
 use std::marker::Model;
+use std::mem;
 
 /// What a polling watcher keeps: the paths that it watches, and what it found there last.
 #[derive(Drop)]
@@ -70,6 +71,26 @@ impl<A: Allocator + Copy> Polled<A> {
         // This call shows the proof that it is one.
         let _entries = self.last.iter();
         &self.last
+    }
+
+    /// Gives the last listing in exchange for this one.
+    pub fn exchange_last(&mut self, last: &mut Listing<A>)
+        ensures taken { last.new ≡ self.old.last }
+        ensures left { self.new ≡ record self.old { last = last.old } }
+        ensures law { IsListing last.new }
+    {
+        mem::swap(&mut self.last, last);
+        // This call shows the proof that it is one.
+        let _entries = last.iter();
+    }
+
+    /// Returns all that this keeps, and watches nothing from now on.
+    pub fn take(&mut self) -> Polled<A>
+        ensures taken { result ≡ self.old }
+        ensures left { self.new ≡ record { roots = []; last = [] } }
+    {
+        let none = Polled::new(self.alloc);
+        mem::replace(self, none)
     }
 
     /// Watches a path from now on. What stands there is no event, so it goes to the last listing at
@@ -237,6 +258,8 @@ impl<A: Allocator + Copy> Polled<A> {
         ensures kept { result ≡ true →
             RoundKeeps (D.told folders.old) self.old.roots (D.closed folders.new) self.old.last
             self.new.last }
+        ensures shown { result ≡ true → D.closed folders.new ≡ [] →
+            Shows (D.told folders.old) self.old.roots self.new.last }
         ensures unchanged { result ≡ false → self.new.last ≡ self.old.last }
         ensures refused { result ≡ false →
             HandsRefusal H.handles (D.failed folders.old) (D.failed folders.new) handler.old
@@ -246,14 +269,17 @@ impl<A: Allocator + Copy> Polled<A> {
         ensures same { D.told folders.new ≡ D.told folders.old }
         ensures counted { D.failed folders.old ≤ D.failed folders.new }
     {
-        kept_round(
+        let went_well = kept_round(
             self.alloc,
             folders,
             self.roots.as_slice(),
             &mut self.last,
             trackers,
             handler,
-        )
+        );
+        // This call shows the proof that it is a listing.
+        let _entries = self.last.iter();
+        went_well
     }
 
     /// Looks at these paths alone, and below them, as [`kept_look`].

@@ -1,32 +1,30 @@
 //! What a polling watcher keeps under its lock.
-ghost use Rattle.std.specs.Prelude.{◌≡◌, ◌+◌, ◌-◌, ◌^◌, length, min, None, Some, false, true, IfErr};
+ghost use Rattle.std.specs.Prelude.{◌≡◌, ◌+◌, ◌-◌, ◌^◌, [], length, min, None, Some, false, true, IfErr, IsSome};
 ghost use Rattle.notify_paths.specs.Errors.{out_of_memory};
 ghost use Rattle.folder_listing.specs.Moves.{told_changes, trackers_after};
 ghost use Rattle.poll_rounds.specs.Closed.{IsKept};
 ghost use Rattle.poll_rounds.specs.Reports.{Tells};
 ghost use Rattle.poll_roots.specs.Deep.{too_deep};
+ghost use Rattle.poll_roots.specs.Polled.{Shows};
 ghost use Rattle.poll_roots.specs.Said.{SaysEach, TellsAndSays, unsaid};
 
 use crate::deep::count_too_deep;
 use crate::polled::Polled;
+use crate::round_folders::RoundFolders;
 use crate::said::say_each;
 use notify_paths::error::Error;
 use notify_paths::path::PathBuf;
 use notify_types::event::Event;
 use notify_watch::handler::EventHandler;
 use poll_rounds::closed::{Closed, NotesClosed};
-use real_folders::noting::NotingFolders;
-use real_folders::real::RealFolders;
 use std::alloc::Allocator;
-use std::fs::Files;
-use std::time::Clock;
 
 /// What stands under a polling watcher's lock.
 #[derive(Drop)]
 pub struct Watched<A: Allocator> {
     /// Its roots and their last listing.
     pub polled: Polled<A>,
-    /// Where links are followed. Folders have it while they are looked at, by [`RealFolders::follow`].
+    /// Where links are followed. Folders have it while they are looked at, by [`RoundFolders::follow_links`].
     pub followed: Vec<PathBuf<A>, A>,
     /// Where the last round failed, if it did, as far as there was memory for the path.
     pub failed_path: Option<PathBuf<A>>,
@@ -96,15 +94,16 @@ impl<A: Allocator + Copy> Watched<A> {
     /// Makes one round, and keeps where it failed, or how many names it left out, how many folders it didn't look into
     /// since they lie so deep, and which paths it couldn't look at.
     /// What was shown of these is kept, and each is said once, and again if the cause changed or it was open meanwhile.
-    pub fn round<
-        F: EventHandler<Result<Event<A>, Error<A>>>,
-        R: Files + Clock + Alloc + Clone + Drop,
-    >(&mut self, folders: &mut NotingFolders<RealFolders<R, A>, A>, handler: &mut F) -> bool
+    pub fn round<F: EventHandler<Result<Event<A>, Error<A>>>, D: RoundFolders<A>>(
+        &mut self,
+        folders: &mut D,
+        handler: &mut F,
+    ) -> bool
         requires { F.ready handler.old }
         ensures again { F.ready handler.new }
         ensures cleared { result ≡ true → self.new.failed_path ≡ None }
         ensures left_out { result ≡ true →
-            self.new.left_out ≡ folders.new.inner.left_out - folders.old.inner.left_out }
+            self.new.left_out ≡ D.left_out folders.new - D.left_out folders.old }
         ensures deep { result ≡ true → self.new.too_deep
             ≡ min (length (too_deep self.new.polled.roots self.new.polled.last)) (2 ^ 64 - 1) }
         ensures same { result ≡ false → (self.new.left_out ≡ self.old.left_out)
@@ -117,14 +116,20 @@ impl<A: Allocator + Copy> Watched<A> {
         ensures trackers { result ≡ true → self.new.trackers ≡ trackers_after self.old.trackers
             (length (told_changes self.old.trackers self.old.polled.last self.new.polled.last)) }
         ensures untold { result ≡ false → self.new.trackers ≡ self.old.trackers }
+        ensures roots { self.new.polled.roots ≡ self.old.polled.roots }
+        ensures shown { result ≡ true → self.new.closed.items ≡ [] →
+            Shows (D.told folders.old) self.new.polled.roots self.new.polled.last }
+        ensures tree { result ≡ true → Shows D.tree self.new.polled.roots self.new.polled.last }
+        ensures told { D.told folders.new ≡ D.told folders.old }
     {
-        let before = folders.inner().left_out();
-        folders.follow(&mut self.followed);
+        folders.tell();
+        let before = folders.names_left_out();
+        folders.follow_links(&mut self.followed);
         let went_well = self.polled.kept_round(folders, &mut self.trackers, handler);
-        folders.follow(&mut self.followed);
-        let failed_path = folders.take_failed_path();
+        folders.follow_links(&mut self.followed);
+        let failed_path = folders.take_failed();
         if went_well {
-            self.left_out = folders.inner().left_out().saturating_sub(before);
+            self.left_out = folders.names_left_out().saturating_sub(before);
             self.count_deep();
             self.say_closed(folders, handler);
         }
@@ -133,21 +138,25 @@ impl<A: Allocator + Copy> Watched<A> {
     }
 
     /// Says which paths the round couldn't look at, unless that was said, and keeps them.
-    fn say_closed<F: EventHandler<Result<Event<A>, Error<A>>>, R: Files + Clock + Drop>(
+    fn say_closed<F: EventHandler<Result<Event<A>, Error<A>>>, D: RoundFolders<A>>(
         &mut self,
-        folders: &mut NotingFolders<RealFolders<R, A>, A>,
+        folders: &mut D,
         handler: &mut F,
     )
         requires { F.ready handler.old }
         ensures again { F.ready handler.new }
-        ensures closed { self.new ≡ record self.old { closed = folders.old.inner.closed } }
+        ensures closed { self.new.closed.items ≡ D.closed folders.old }
+        ensures others { self.new ≡ record self.old { closed = self.new.closed } }
         ensures said { SaysEach F.handles
-            (unsaid self.old.closed.items folders.old.inner.closed.items) handler.old handler.new }
-        ensures same { folders.new.inner.left_out ≡ folders.old.inner.left_out }
+            (unsaid self.old.closed.items (D.closed folders.old)) handler.old handler.new }
+        ensures same { D.left_out folders.new ≡ D.left_out folders.old }
+        ensures told { D.told folders.new ≡ D.told folders.old }
+        ensures none { IsSome D.tree → self.new.closed.items ≡ [] }
     {
+        folders.tell();
         let alloc = *self.closed.allocator();
         say_each(alloc, self.closed.as_slice(), folders.closed(), handler);
-        folders.exchange_closed(&mut self.closed);
+        folders.give_closed(&mut self.closed);
     }
 
     /// Counts the folders of the last listing that aren't looked into, since they lie 64 levels below a root.
@@ -169,12 +178,9 @@ impl<A: Allocator + Copy> Watched<A> {
 
     /// Looks at these paths, and keeps what was shown of those at which that can't be done. Where a look fails, and what
     /// is kept, isn't noted here: a round follows it.
-    pub fn look_at<
-        F: EventHandler<Result<Event<A>, Error<A>>>,
-        R: Files + Clock + Alloc + Clone + Drop,
-    >(
+    pub fn look_at<F: EventHandler<Result<Event<A>, Error<A>>>, D: RoundFolders<A>>(
         &mut self,
-        folders: &mut NotingFolders<RealFolders<R, A>, A>,
+        folders: &mut D,
         handler: &mut F,
         paths: &[PathBuf<A>],
     ) -> bool
@@ -186,12 +192,12 @@ impl<A: Allocator + Copy> Watched<A> {
             (length (told_changes self.old.trackers self.old.polled.last self.new.polled.last)) }
         ensures untold { result ≡ false → self.new.trackers ≡ self.old.trackers }
     {
-        folders.follow(&mut self.followed);
+        folders.follow_links(&mut self.followed);
         let went_well = self
             .polled
             .kept_look(folders, &mut self.trackers, handler, paths);
-        folders.follow(&mut self.followed);
-        folders.take_failed_path();
+        folders.follow_links(&mut self.followed);
+        folders.take_failed();
         went_well
     }
 }

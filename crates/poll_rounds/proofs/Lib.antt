@@ -9,3 +9,4 @@ pub mod BesideLemmas
 pub mod ClosedLemmas
 pub mod NewsLemmas
 pub mod LaterLemmas
+pub mod ReportLemmas

@@ -1,5 +1,5 @@
 -- A program that takes batches: what it is called with, and what becomes of the events that it asks for again.
-use Rattle.std.specs.Prelude.{◌≡◌, ◌⊎◌, ◌++◌, ◌∷◌, [], List, Result, Ok, Err, Some, None, MatchResult, length, ◌==◌, false, if◌then◌else◌}
+use Rattle.std.specs.Prelude.{◌≡◌, ◌⊎◌, ◌++◌, ◌∷◌, [], Bool, List, Result, Ok, Err, Some, None, MatchResult, length, ◌==◌, false, if◌then◌else◌}
 use Rattle.std.specs.declared.alloc.Global.{Global}
 use Rattle.std.specs.declared.time.Duration.{Duration}
 use Rattle.std.specs.declared.vec.Vec.{Vec}
@@ -25,6 +25,10 @@ Begins P = P → Places → Answer → P → Type 0
 -- what a program answers to a batch, and leaves
 abbrev pub Takes : Type 0 → Type 1
 Takes P = P → Places → Vec Timed Global → Result Taken Fault → P → Type 0
+
+-- what a program answers to whether it wants what is there already
+abbrev pub Wants : Type 0 → Type 1
+Wants P = P → Bool → Type 0
 
 -- the events that are asked for again
 abbrev pub again_of : Taken → List Timed

@@ -69,7 +69,9 @@ impl<'n, P: TakesBatches, E: Write + Drop> BatchTaker<'n, P, E> {
     }
 
     /// Whether what is there already is in the first batches, as created.
-    pub fn wants_initial(&self) -> bool {
+    pub fn wants_initial(&self) -> bool
+        ensures { P.wants self.now.program result }
+    {
         self.program.wants_initial()
     }
 

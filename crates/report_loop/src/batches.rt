@@ -28,7 +28,7 @@ pub enum Taken {
 /// Its ghost members say what its beginning and a batch make of it, for whoever proves something of the program; by
 /// default nothing is said.
 pub trait TakesBatches: Drop {
-    ghost use Rattle.report_loop.specs.Batches.{Begins, Takes};
+    ghost use Rattle.report_loop.specs.Batches.{Begins, Takes, Wants};
 
     /// What its beginning makes of it.
     ghost begins: { Begins Self } = { λ _ _ _ _. Unit {0} };
@@ -36,10 +36,12 @@ pub trait TakesBatches: Drop {
     /// What a batch makes of it.
     ghost takes: { Takes Self } = { λ _ _ _ _ _. Unit {0} };
 
+    /// What it answers to whether it wants what is there already.
+    ghost wants: { Wants Self } = { λ _ _. Unit {0} };
+
     /// Whether what is there already is in the first batches, as created.
-    fn wants_initial(&self) -> bool {
-        false
-    }
+    fn wants_initial(&self) -> bool
+        ensures { wants self.now result };
 
     /// What it does first. The folder is watched: what changes from now on comes in batches. An error ends the
     /// program.

@@ -261,7 +261,7 @@ fn configure<T: Watcher<Feed<NoCache, R, A>, R, A>, R: Host, A: TestHeap>(
 }
 
 /// Prints how many items were missed, and how many turns were refused.
-fn counts<T: Drop, R: Host, A: TestHeap>(
+fn counts<T: Watcher<Feed<NoCache, R, A>, R, A>, R: Host, A: TestHeap>(
     scene: &mut Scene<R, A>,
     debouncer: &Running<T, R, A>,
 ) -> io::Result<()> {
@@ -270,7 +270,7 @@ fn counts<T: Drop, R: Host, A: TestHeap>(
 }
 
 /// Notes what waits.
-fn outlook<T: Drop, R: Host, A: TestHeap>(
+fn outlook<T: Watcher<Feed<NoCache, R, A>, R, A>, R: Host, A: TestHeap>(
     scene: &mut Scene<R, A>,
     debouncer: &mut Running<T, R, A>,
 ) -> io::Result<()> {
@@ -282,7 +282,7 @@ fn outlook<T: Drop, R: Host, A: TestHeap>(
 }
 
 /// Takes out the journal, and prints what is in it.
-fn take_journal<T: Drop, R: Host, A: TestHeap>(
+fn take_journal<T: Watcher<Feed<NoCache, R, A>, R, A>, R: Host, A: TestHeap>(
     scene: &mut Scene<R, A>,
     debouncer: &mut Running<T, R, A>,
     core: &mut Core<A>,

@@ -119,16 +119,6 @@ fn check_document<
     Ok(all_met)
 }
 
-/// The same, over the two watchers.
-fn check_scenes<R: Staged + Host, A: TestHeap, O: Write>(
-    rt: R,
-    top: &str,
-    document: &'static str,
-    out: &mut O,
-) -> io::Result<bool> {
-    check_document::<Puppet<R, A>, PollWatcher<R>, R, A, O>(rt, top, document, out)
-}
-
 /// The text of the document.
 fn document_of(rt: &(impl AllocGlobal + Files)) -> io::Result<&'static str> {
     let text = Box::new(rt.alloc(), fs::read_to_string(rt, "SCENES.md")?)?;
@@ -140,9 +130,12 @@ fn top_of(rt: &impl AllocGlobal, id: u32) -> Result<String, AllocError> {
     format!(in rt.alloc(); "/tmp/scenes_{id}")
 }
 
+/// The runtime of the scenes.
+type Played = OnStage<HostRuntime>;
+
 fn main(rt: HostRuntime) -> io::Result<ExitCode> {
     let top = top_of(&rt, process::id(rt.process()))?;
-    let met = check_scenes::<OnStage<HostRuntime>, Heap, _>(
+    let met = check_document::<Puppet<Played, Heap>, PollWatcher<Played>, Played, Heap, _>(
         OnStage::new(rt, "")?,
         top.as_str(),
         document_of(&rt)?,

@@ -146,7 +146,7 @@ const LIMIT: u64 = 100;
 const TURNS: u64 = 20_000;
 
 /// What is reported next. `None` says that nothing comes.
-fn next<T: Drop, R: Host, A: TestHeap>(
+fn next<T: Polls<R>, R: Host, A: TestHeap>(
     scene: &Scene<R, A>,
     reports: &mut Reports<T, R>,
 ) -> Option<DebounceEventResult> {
@@ -158,7 +158,7 @@ fn next<T: Drop, R: Host, A: TestHeap>(
 }
 
 /// What is reported within so many turns.
-fn next_in<T: Drop, R: Host, A: TestHeap>(
+fn next_in<T: Polls<R>, R: Host, A: TestHeap>(
     scene: &Scene<R, A>,
     reports: &mut Reports<T, R>,
     turns: u64,
@@ -174,7 +174,7 @@ fn next_in<T: Drop, R: Host, A: TestHeap>(
 }
 
 /// Prints whether nothing is reported for so many turns.
-fn tell_quiet<T: Drop, R: Host, A: TestHeap>(
+fn tell_quiet<T: Polls<R>, R: Host, A: TestHeap>(
     scene: &mut Scene<R, A>,
     reports: &mut Reports<T, R>,
     line: &str,
@@ -187,7 +187,7 @@ fn tell_quiet<T: Drop, R: Host, A: TestHeap>(
 }
 
 /// Prints what is reported next.
-fn tell_next<T: Drop, R: Host, A: TestHeap>(
+fn tell_next<T: Polls<R>, R: Host, A: TestHeap>(
     scene: &mut Scene<R, A>,
     reports: &mut Reports<T, R>,
     line: &str,
@@ -203,7 +203,7 @@ fn tell_next<T: Drop, R: Host, A: TestHeap>(
 }
 
 /// Prints whether a batch comes, after errors of rounds that were made before.
-fn tell_batch<T: Drop, R: Host, A: TestHeap>(
+fn tell_batch<T: Polls<R>, R: Host, A: TestHeap>(
     scene: &mut Scene<R, A>,
     reports: &mut Reports<T, R>,
     line: &str,
@@ -219,7 +219,7 @@ fn tell_batch<T: Drop, R: Host, A: TestHeap>(
 }
 
 /// Prints the last letters of the paths of the next events, in order: so many, or fewer if no more come.
-fn tell_letters<T: Drop, R: Host, A: TestHeap>(
+fn tell_letters<T: Polls<R>, R: Host, A: TestHeap>(
     scene: &mut Scene<R, A>,
     reports: &mut Reports<T, R>,
     line: &str,
@@ -284,9 +284,9 @@ fn finish<T: Polls<R>, R: Host, A: TestHeap>(
     told
 }
 
-fn tell_last<R: Host, A: TestHeap>(
+fn tell_last<N: Drop, R: Host, A: TestHeap>(
     scene: &mut Scene<R, A>,
-    last: &LastReports,
+    last: &LastReports<Global, N>,
     line: &str,
 ) -> io::Result<()> {
     scene.count("missed", last.missed)?;
@@ -301,7 +301,10 @@ fn tell_last<R: Host, A: TestHeap>(
 }
 
 /// The paths of a reader who began with nothing and was given all that is left.
-fn read_paths(rt: &impl AllocGlobal, last: &LastReports) -> io::Result<Vec<PathBuf>> {
+fn read_paths<N: Drop>(
+    rt: &impl AllocGlobal,
+    last: &LastReports<Global, N>,
+) -> io::Result<Vec<PathBuf>> {
     let mut paths = PathSet::new(rt.alloc());
     let read = read_all(last, &mut paths);
     let list = given(paths.to_list());
@@ -311,7 +314,7 @@ fn read_paths(rt: &impl AllocGlobal, last: &LastReports) -> io::Result<Vec<PathB
 }
 
 /// Gives a reader what is left.
-fn read_all(last: &LastReports, paths: &mut PathSet) -> io::Result<()> {
+fn read_all<N: Drop>(last: &LastReports<Global, N>, paths: &mut PathSet) -> io::Result<()> {
     for report in &last.queue {
         if let Ok(batch) = report {
             given(paths.play(batch.as_slice()))?;

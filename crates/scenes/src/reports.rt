@@ -57,7 +57,7 @@ fn watch<T: Watcher<Feed<NoCache, R, A>, R, A>, R: Host, A: TestHeap>(
 
 /// Prints how many reports could not be sent, how many items were missed, and how many turns were
 /// refused.
-fn counts<T: Drop, R: Host, A: TestHeap>(
+fn counts<T: Watcher<Feed<NoCache, R, A>, R, A>, R: Host, A: TestHeap>(
     scene: &mut Scene<R, A>,
     reports: &mut Reports<T, R, A>,
 ) -> io::Result<()> {

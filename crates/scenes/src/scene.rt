@@ -221,7 +221,7 @@ impl<R: Clock + Wait + AllocGlobal + Drop, A: TestHeap> Scene<R, A> {
             "sleep" => self.sleep(number(word)),
             "leap" => stage.clock.leap(nanos_of(word)),
             "clock" => self.begun = Instant::now(&self.rt)?,
-            "report" | "flow" | "lose" | "never_unwatch" | "in_thread" | "unmade" | "moments" => {}
+            "report" | "flow" | "lose" | "never_unwatch" | "unmade" | "moments" => {}
             _ => return Ok(false),
         }
         Ok(true)

@@ -1,8 +1,8 @@
 //! What a scene and its threads tell each other, and a runtime that the scene rules.
 use crate::clock::{StandingClock, sleep_a_turn};
 use crate::words::push_outcome;
-use notify_debouncer_full::DebounceEventResult;
-use std::alloc::{AllocError, Allocator};
+use notify_debouncer_full::{DebounceEventResult, Error, PathBuf};
+use std::alloc::{AllocError, Allocator, Global};
 use std::fmt::Debug;
 use std::fs::{Files, Metadata, OpenOptions};
 use std::io;
@@ -63,14 +63,16 @@ pub struct Stage {
     last_errors: AtomicU64,
     /// What the handler was called with.
     calls: Mutex<String>,
+    /// The path that was watched last.
+    watched: Mutex<String>,
 }
 
 impl Stage {
-    /// The stage of a scene with these lines, whose calls and pauses are written into the texts.
-    fn new(script: &'static str, calls: String, pauses: String) -> Stage {
+    /// The stage of a scene with these lines, in this memory.
+    fn new(script: &'static str, alloc: Global) -> Stage {
         Stage {
             script,
-            clock: StandingClock::new(pauses),
+            clock: StandingClock::new(String::new(alloc)),
             is_broken: AtomicBool::new(false),
             is_fast: AtomicBool::new(false),
             is_held: AtomicBool::new(false),
@@ -88,7 +90,8 @@ impl Stage {
             ended: AtomicBool::new(false),
             last_batches: AtomicU64::new(0),
             last_errors: AtomicU64::new(0),
-            calls: Mutex::new(calls),
+            calls: Mutex::new(String::new(alloc)),
+            watched: Mutex::new(String::new(alloc)),
         }
     }
 
@@ -128,6 +131,28 @@ impl Stage {
     pub fn was_first_called_with(&self, rt: &impl Wait, word: &str) -> bool {
         let calls = self.calls.lock(rt);
         calls.as_str().starts_with(word)
+    }
+
+    /// Asks the watcher's thread to report, for a path that is watched. Returns how often it will have done so
+    /// then.
+    pub fn ask(&self, rt: &impl Wait, path: &str) -> Result<u64, AllocError> {
+        {
+            let mut watched = self.watched.lock(rt);
+            watched.clear();
+            watched.push_str(path)?;
+        }
+        let before = self.asked.fetch_add(1, Ordering::SeqCst);
+        Ok(before.saturating_add(1))
+    }
+
+    /// Returns the path that was watched last, in this memory.
+    pub fn watched<A: Allocator + Copy>(
+        &self,
+        rt: &impl Wait,
+        alloc: A,
+    ) -> Result<PathBuf<A>, Error<A>> {
+        let watched = self.watched.lock(rt);
+        PathBuf::parse(alloc, watched.as_str())
     }
 
     /// Whether the handler was never called.
@@ -229,7 +254,7 @@ pub struct OnStage<R> {
 impl<R: AllocGlobal + Copy> OnStage<R> {
     /// The runtime on a new stage, of a scene with these lines.
     pub fn new(rt: R, script: &'static str) -> Result<OnStage<R>, AllocError> {
-        let stage = Stage::new(script, String::new(rt.alloc()), String::new(rt.alloc()));
+        let stage = Stage::new(script, rt.alloc());
         let stage = Box::leak(Box::new(rt.alloc(), stage)?);
         Ok(OnStage { rt, stage })
     }

@@ -1,16 +1,16 @@
 //! The watcher of the scenes, which does what its scene's lines say, and the handler.
+ghost use Rattle.notify_watch.specs.Handler.{IsCalledOn};
 ghost use Rattle.notify_watch.specs.declared.config.WatcherKind.TheVariants.{Other};
 
 use crate::clock::sleep_a_turn;
 use crate::stage::{Outcome, Stage, Staged, TURNS, wait_for, wait_for_flag};
 use notify_debouncer_full::{
-    Config, DebounceEventHandler, Error, ErrorKind, Event, EventHandler, EventKind, Feed,
-    ListingWatcher, NoCache, PathBuf, RecursiveMode, Task, Watcher, WatcherKind,
+    Config, DebounceEventHandler, Error, ErrorKind, Event, EventHandler, EventKind, ListingWatcher,
+    PathBuf, RecursiveMode, Task, Watcher, WatcherKind,
 };
 use refusing_allocator::{RefusingHeap, TestHeap};
 use std::alloc::Allocator;
 use std::fmt::Debug;
-use std::fs::Files;
 use std::sync::Wait;
 use std::sync::atomic::Ordering;
 use std::time::Clock;
@@ -52,9 +52,14 @@ impl<R: Clock + Wait + Drop + Send + 'static, A: Allocator + Debug> DebounceEven
     }
 }
 
-/// What a line's words name: `error`, or the kind of an event and its path. `.` is the path that is
-/// watched.
-fn item<A: RefusingHeap>(heap: A, words: &str, watched: &PathBuf<A>) -> Result<Event<A>, Error<A>> {
+/// What a line's words name: `error`, or the kind of an event and its path. `.` is the path that was
+/// watched last.
+fn item<R: Wait, A: RefusingHeap>(
+    rt: &R,
+    heap: A,
+    stage: &Stage,
+    words: &str,
+) -> Result<Event<A>, Error<A>> {
     let Some((kind, place)) = words.split_once(' ') else {
         return Err(Error::new(heap, ErrorKind::PathNotFound));
     };
@@ -62,7 +67,7 @@ fn item<A: RefusingHeap>(heap: A, words: &str, watched: &PathBuf<A>) -> Result<E
         return Err(Error::new(heap, ErrorKind::WatchNotFound));
     };
     let place = if place == "." {
-        watched.try_clone()?
+        stage.watched(rt, heap)?
     } else {
         PathBuf::parse(heap, place)?
     };
@@ -70,21 +75,40 @@ fn item<A: RefusingHeap>(heap: A, words: &str, watched: &PathBuf<A>) -> Result<E
 }
 
 /// Reports what the scene's lines with this first word name.
-fn report<F: EventHandler<Result<Event<A>, Error<A>>>, A: RefusingHeap>(
+fn report<F: EventHandler<Result<Event<A>, Error<A>>>, R: Wait, A: RefusingHeap>(
     handler: &mut F,
-    stage: &Stage,
+    rt: &R,
     heap: A,
+    stage: &Stage,
     word: &str,
-    watched: &PathBuf<A>,
 )
     requires ready { F.ready handler.old }
     ensures again { F.ready handler.new }
+    ensures called { IsCalledOn F.handles handler.old handler.new }
 {
     for line in stage.script.split('\n') {
         if let Some(words) = line.strip_prefix(word) {
-            report_item(handler, stage, heap, item(heap, words, watched));
+            report_item(handler, stage, heap, item(rt, heap, stage, words));
         }
     }
+}
+
+/// Reports what the scene's lines with this first word name, if that is asked for.
+fn report_if<F: EventHandler<Result<Event<A>, Error<A>>>, R: Staged + Wait, A: RefusingHeap>(
+    asked: bool,
+    handler: &mut F,
+    rt: &R,
+    heap: A,
+    word: &str,
+)
+    requires ready { F.ready handler.old }
+    ensures again { F.ready handler.new }
+    ensures called { IsCalledOn F.handles handler.old handler.new }
+{
+    if !asked {
+        return;
+    }
+    report(handler, rt, heap, rt.stage(), word);
 }
 
 /// Reports this, while a request for memory is refused, if the stage says so.
@@ -96,6 +120,7 @@ fn report_item<F: EventHandler<Result<Event<A>, Error<A>>>, A: RefusingHeap>(
 )
     requires ready { F.ready handler.old }
     ensures again { F.ready handler.new }
+    ensures handled { F.handles handler.old item handler.new }
 {
     let starved = stage.starved.load(Ordering::SeqCst);
     if starved == 0 {
@@ -107,57 +132,67 @@ fn report_item<F: EventHandler<Result<Event<A>, Error<A>>>, A: RefusingHeap>(
     heap.refuse(0);
 }
 
-/// A watcher that reports the lines `report` of its scene in each call of `watch`, in the caller's thread,
-/// or, if the scene has the line `in_thread`, in its own, for which the call waits. It doesn't find the
-/// path of a line `lose`, with the line `never_unwatch` it ends no watch, and with `unmade` it isn't made.
-pub struct Puppet<R: Staged + Wait + Drop, A: Allocator> {
+/// A watcher whose thread reports the lines `report` of its scene for each call of `watch`, which waits for
+/// that. It doesn't find the path of a line `lose`, with the line `never_unwatch` it ends no watch, and with
+/// `unmade` it isn't made.
+pub struct Puppet<R: Staged + Drop, A: Drop> {
     rt: R,
     heap: A,
-    feed: Option<Feed<NoCache, R, A>>,
     listed: u64,
 }
 
-impl<R: Staged + Wait + Drop, A: Allocator> Drop for Puppet<R, A> {
+impl<R: Staged + Drop, A: Drop> Drop for Puppet<R, A> {
     fn drop(self) {
         self.rt.stage().end();
         let Self {
             rt: _,
             heap: _,
-            feed: _,
             listed: _,
         } = self;
     }
 }
 
-/// The work of a puppet's thread. It ends at once if the puppet reports in its caller's.
+/// The work of a puppet's thread.
 #[derive(Drop)]
-pub struct PuppetTask<R: Staged + Wait + Drop, A: Allocator> {
+pub struct PuppetTask<F: Drop, R: Drop, A: Drop> {
     rt: R,
     heap: A,
-    feed: Option<Feed<NoCache, R, A>>,
-    place: PathBuf<A>,
+    handler: F,
 }
 
-impl<R: Staged + Files + Wait + Drop + Send + 'static, A: TestHeap> Task for PuppetTask<R, A> {
-    ghost can_run = { λ _. Unit {0} };
+impl<
+    F: EventHandler<Result<Event<A>, Error<A>>> + Send,
+    R: Staged + Wait + Drop + Send + 'static,
+    A: TestHeap,
+> Task for PuppetTask<F, R, A> {
+    ghost use Rattle.std.specs.Prelude.{◌≡◌};
+    ghost use Rattle.notify_watch.specs.Handler.{IsCalledOn};
 
-    fn run(&mut self) {
-        if let Some(feed) = &mut self.feed {
-            report_on(feed, &self.rt, self.heap, &self.place);
-        }
+    type Handler = F;
+
+    type Last = ();
+
+    ghost is_made = { λ task begun _. (task.handler ≡ begun) × F.ready begun };
+
+    ghost ends = { λ begun _ now _. IsCalledOn F.handles begun now };
+
+    fn run(self) -> (F, ()) {
+        let mut handler = self.handler;
+        report_on(&mut handler, &self.rt, self.heap);
+        (handler, ())
     }
 }
 
 /// Reports each time that the stage asks for it, and again and again while the stage says so, until the
 /// watcher is dropped.
-fn report_on<F: EventHandler<Result<Event<A>, Error<A>>>, R: Staged, A: RefusingHeap>(
+fn report_on<F: EventHandler<Result<Event<A>, Error<A>>>, R: Staged + Wait, A: RefusingHeap>(
     handler: &mut F,
     rt: &R,
     heap: A,
-    place: &PathBuf<A>,
 )
     requires ready { F.ready handler.old }
     ensures again { F.ready handler.new }
+    ensures called { IsCalledOn F.handles handler.old handler.new }
 {
     let stage = rt.stage();
     for _ in 0..10 * TURNS {
@@ -165,26 +200,22 @@ fn report_on<F: EventHandler<Result<Event<A>, Error<A>>>, R: Staged, A: Refusing
         if stage.dropped.load(Ordering::SeqCst) && !flows {
             return;
         }
-        let reported = stage.reported.load(Ordering::SeqCst);
-        if reported < stage.asked.load(Ordering::SeqCst) {
-            report(handler, stage, heap, "report ", place);
-            stage.reported.fetch_add(1, Ordering::SeqCst);
-        }
-        if flows {
-            report(handler, stage, heap, "flow ", place);
-        }
+        let asked = stage.reported.load(Ordering::SeqCst) < stage.asked.load(Ordering::SeqCst);
+        report_if(asked, handler, rt, heap, "report ");
+        stage.reported.fetch_add(u64::from(asked), Ordering::SeqCst);
+        report_if(flows, handler, rt, heap, "flow ");
         sleep_a_turn(rt);
     }
 }
 
-impl<R: Staged + Files + Wait + Copy + Drop + Send + 'static, A: TestHeap> Watcher<
-    Feed<NoCache, R, A>,
-    R,
-    A,
-> for Puppet<R, A> {
-    type Task = PuppetTask<R, A>;
+impl<
+    F: EventHandler<Result<Event<A>, Error<A>>> + Send,
+    R: Staged + Wait + Copy + Drop + Send + 'static,
+    A: TestHeap,
+> Watcher<F, R, A> for Puppet<R, A> {
+    type Task = PuppetTask<F, R, A>;
 
-    ghost takes = { λ _. Unit {0} };
+    ghost takes = { F.ready };
 
     ghost refuses = { λ _. Unit {0} };
 
@@ -199,31 +230,18 @@ impl<R: Staged + Files + Wait + Copy + Drop + Send + 'static, A: TestHeap> Watch
     fn new(
         rt: R,
         heap: A,
-        handler: Feed<NoCache, R, A>,
+        handler: F,
         _config: Config,
-    ) -> Result<(Puppet<R, A>, PuppetTask<R, A>), Error<A>> {
+    ) -> Result<(Puppet<R, A>, PuppetTask<F, R, A>), Error<A>> {
         if rt.stage().has("unmade") {
             return Err(Error::new(heap, ErrorKind::WatchNotFound));
         }
-        let place = PathBuf::parse(heap, "/")?;
-        let (mine, theirs) = if rt.stage().has("in_thread") {
-            (None, Some(handler))
-        } else {
-            (Some(handler), None)
-        };
         let puppet = Puppet {
             rt,
             heap,
-            feed: mine,
             listed: 0,
         };
-        let task = PuppetTask {
-            rt,
-            heap,
-            feed: theirs,
-            place,
-        };
-        Ok((puppet, task))
+        Ok((puppet, PuppetTask { rt, heap, handler }))
     }
 
     fn watch(&mut self, path: &PathBuf<A>, _mode: RecursiveMode) -> Result<(), Error<A>> {
@@ -231,13 +249,10 @@ impl<R: Staged + Files + Wait + Copy + Drop + Send + 'static, A: TestHeap> Watch
         if stage.is_lost(path.as_str()) {
             return Err(Error::new(self.heap, ErrorKind::PathNotFound));
         }
-        match &mut self.feed {
-            Some(feed) => report(feed, stage, self.heap, "report ", path),
-            None => {
-                let before = stage.asked.fetch_add(1, Ordering::SeqCst);
-                wait_for(&self.rt, &stage.reported, before.saturating_add(1));
-            }
-        }
+        let Ok(wanted) = stage.ask(&self.rt, path.as_str()) else {
+            return Err(Error::out_of_memory(self.heap));
+        };
+        wait_for(&self.rt, &stage.reported, wanted);
         Ok(())
     }
 
@@ -252,18 +267,16 @@ impl<R: Staged + Files + Wait + Copy + Drop + Send + 'static, A: TestHeap> Watch
         Ok(true)
     }
 
-    fn look_last(&mut self) {}
-
     fn kind() -> WatcherKind {
         WatcherKind::Other
     }
 }
 
-impl<R: Staged + Files + Wait + Copy + Drop + Send + 'static, A: TestHeap> ListingWatcher<
-    Feed<NoCache, R, A>,
-    R,
-    A,
-> for Puppet<R, A> {
+impl<
+    F: EventHandler<Result<Event<A>, Error<A>>> + Send,
+    R: Staged + Wait + Copy + Drop + Send + 'static,
+    A: TestHeap,
+> ListingWatcher<F, R, A> for Puppet<R, A> {
     type Listing = u64;
 
     ghost lists = { λ _ _ _ _ _. Unit {0} };

@@ -1,6 +1,7 @@
 -- A program that followed folders and ended by a fault. The functions of programs that watch cite these.
 use Rattle.std.proofs.Common.{◌≡◌, ◌⊎◌, ℕ, List, inl, inr, sym, ap, subst}
 use Rattle.std.specs.Prelude.{Result, Ok, Err, OnErr, OnOk, IfErr, MatchResult}
+use Rattle.watch_pace.specs.declared.pace.Pace.{Pace}
 use Rattle.watch_program.specs.declared.fault.Fault.{Fault}
 use Rattle.notify_paths.specs.Path.{PathValue}
 use Rattle.notify_types.specs.declared.event.RecursiveMode.{RecursiveMode}
@@ -14,13 +15,13 @@ fault_or other (Ok value) = other
 fault_or other (Err fault) = fault
 
 -- the folders couldn't be watched, and the program is as it was; or it followed them until the fault came
-pub ill_followed : {P A B : Type 0} (program : Program P) (timeout : ℕ) (paths : List PathValue)
-    (mode : RecursiveMode) (p p' : P) (fault : Fault) → FollowsFolder timeout paths mode program p (Err fault) p' →
-    (p' ≡ p → A) → (OfReports timeout paths mode (λ s. Follows folder_source program s p (Err fault) p') → B) →
+pub ill_followed : {P A B : Type 0} (program : Program P) (pace : Pace) (paths : List PathValue)
+    (mode : RecursiveMode) (p p' : P) (fault : Fault) → FollowsFolder pace paths mode program p (Err fault) p' →
+    (p' ≡ p → A) → (OfReports pace paths mode (λ s. Follows folder_source program s p (Err fault) p') → B) →
     (IsStartFault fault × A) ⊎ B
-ill_followed program timeout paths mode p p' fault (inl never) same follows =
+ill_followed program pace paths mode p p' fault (inl never) same follows =
     inl (subst IsStartFault (sym (ap (fault_or fault) never.2)) never.1, same never.3)
-ill_followed program timeout paths mode p p' fault (inr run) same follows = inr (follows run)
+ill_followed program pace paths mode p p' fault (inr run) same follows = inr (follows run)
 
 -- what follows from what a call that failed has done is the second of two cases
 pub on_err : {T E B C : Type 0} (A : E → Type 0) (result : Result T E) → (B → C) → OnErr result B →

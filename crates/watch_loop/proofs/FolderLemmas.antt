@@ -2,6 +2,7 @@
 use Rattle.std.proofs.Common.{◌≡◌, ◌∙◌, List, [], ◌∷◌, inl, inr, ap, refl, subst}
 use Rattle.std.specs.Prelude.{ℕ, Option, Result, Ok, Err, MatchResult, OnOk}
 use Rattle.std.specs.declared.time.Duration.{Duration}
+use Rattle.watch_pace.specs.declared.pace.Pace.{Pace}
 use Rattle.watch_program.specs.declared.fault.Fault.{Fault}
 use Rattle.report_loop.specs.declared.source.Given.{Given}
 use Rattle.report_loop.specs.declared.source.Rest.{Rest}
@@ -9,8 +10,8 @@ use Rattle.report_loop.specs.Loop.{Answer, DoesAll, Follows, Gives, Program, Ste
 use Rattle.report_loop.proofs.SourceLemmas.{all_said}
 use Rattle.notify_paths.specs.Path.{PathValue}
 use Rattle.notify_types.specs.declared.event.RecursiveMode.{RecursiveMode}
-use Rattle.debounce_access.specs.Happened.{History}
-use Rattle.folder_reports.specs.Start.{Followed}
+use Rattle.debounce_turns.specs.Running.{Shown}
+use Rattle.folder_reports.specs.Start.{Followed, followed}
 use Rattle.folder_reports.specs.Waits.{Awaited, GivesOne}
 use Rattle.watch_loop.specs.FollowsFolder.{FollowsFolder, OfReports, folder_source}
 
@@ -19,22 +20,13 @@ abbrev pub Says : Gives Awaited → Type 0
 Says gives = (s s' : Awaited) (pause : Option Duration) (given : Given) → gives s pause given s' →
     GivesOne s pause given s'
 
--- what is followed that has this history and this wait
-abbrev pub followed : History → Awaited → Followed
-followed seen awaited = record { seen = seen; awaited = awaited }
-
--- .. is that of which it is the history and the wait
-pub is_followed : (s : Followed) (seen : History) (awaited : Awaited) → seen ≡ s.seen → awaited ≡ s.awaited →
-    followed seen awaited ≡ s
-is_followed s seen awaited h k = ap (λ x. followed x awaited) h ∙ ap (λ x. followed s.seen x) k
-
 -- the program began, and was called until it answered a fault
-pub failed_on : {P : Type 0} (gives : Gives Awaited) (program : Program P) → Says gives → (whole : Followed) →
-    (seen : History) (s s' : Awaited) → followed seen s ≡ whole → (p p1 p' : P) (fault : Fault) →
+pub failed_on : {P T L : Type 0} (gives : Gives Awaited) (program : Program P) → Says gives → (whole : Followed) →
+    (debouncer : Shown T L) (s s' : Awaited) → followed debouncer s ≡ whole → (p p1 p' : P) (fault : Fault) →
     (answer : Result ℕ Fault) → program.begins p (Ok tt) p1 →
     ((steps : List Step) × DoesAll gives program steps s p1 (Err fault) s' p') → answer ≡ Err fault →
     Follows folder_source program whole p answer p'
-failed_on gives program says whole seen s s' same p p1 p' fault answer begun done is =
+failed_on gives program says whole debouncer s s' same p p1 p' fault answer begun done is =
     subst (λ x. Follows folder_source program x p answer p') same (
       Ok tt,
       p1,
@@ -42,22 +34,22 @@ failed_on gives program says whole seen s s' same p p1 p' fault answer begun don
       (
         done.0,
         Err fault,
-        followed seen s',
+        followed debouncer s',
         p',
-        all_said (followed seen) gives folder_source.gives program
-            (λ s s' pause given h. (refl, says s s' pause given h)) done.0 s s' p1 p' (Err fault) done.1,
+        all_said (followed debouncer) gives folder_source.gives program
+            (λ s s' pause given h. (refl, refl, says s s' pause given h)) done.0 s s' p1 p' (Err fault) done.1,
         (is, refl),
       ),
     )
 
 -- the program began, was called until the life was over, and took what was left
-pub went_on : {P : Type 0} (gives : Gives Awaited) (program : Program P) → Says gives → (whole : Followed) →
-    (seen : History) (s s' : Awaited) → followed seen s ≡ whole → (p p1 p2 p' : P) (rest : Result Rest Fault) →
-    (answer : Result ℕ Fault) → program.begins p (Ok tt) p1 →
+pub went_on : {P T L : Type 0} (gives : Gives Awaited) (program : Program P) → Says gives → (whole : Followed) →
+    (debouncer : Shown T L) (s s' : Awaited) → followed debouncer s ≡ whole → (p p1 p2 p' : P)
+    (rest : Result Rest Fault) (answer : Result ℕ Fault) → program.begins p (Ok tt) p1 →
     ((steps : List Step) × DoesAll gives program steps s p1 (Ok tt) s' p2) →
-    folder_source.ends (followed seen s') rest → TakesRest program rest p2 answer p' →
+    folder_source.ends (followed debouncer s') rest → TakesRest program rest p2 answer p' →
     Follows folder_source program whole p answer p'
-went_on gives program says whole seen s s' same p p1 p2 p' rest answer begun done ends takes =
+went_on gives program says whole debouncer s s' same p p1 p2 p' rest answer begun done ends takes =
     subst (λ x. Follows folder_source program x p answer p') same (
       Ok tt,
       p1,
@@ -65,21 +57,21 @@ went_on gives program says whole seen s s' same p p1 p2 p' rest answer begun don
       (
         done.0,
         Ok tt,
-        followed seen s',
+        followed debouncer s',
         p2,
-        all_said (followed seen) gives folder_source.gives program
-            (λ s s' pause given h. (refl, says s s' pause given h)) done.0 s s' p1 p2 (Ok tt) done.1,
+        all_said (followed debouncer) gives folder_source.gives program
+            (λ s s' pause given h. (refl, refl, says s s' pause given h)) done.0 s s' p1 p2 (Ok tt) done.1,
         (rest, ends, takes),
       ),
     )
 
 -- who followed a folder followed an equal one
-pub at_folder : {P : Type 0} (program : Program P) (timeout : ℕ) (mode : RecursiveMode) (path folder : PathValue) →
+pub at_folder : {P : Type 0} (program : Program P) (pace : Pace) (mode : RecursiveMode) (path folder : PathValue) →
     path ≡ folder → (p p' : P) (answer : Result ℕ Fault) →
-    FollowsFolder timeout (path ∷ []) mode program p answer p' →
-    FollowsFolder timeout (folder ∷ []) mode program p answer p'
-at_folder program timeout mode path folder is p p' answer h =
-    subst (λ x. FollowsFolder timeout (x ∷ []) mode program p answer p') is h
+    FollowsFolder pace (path ∷ []) mode program p answer p' →
+    FollowsFolder pace (folder ∷ []) mode program p answer p'
+at_folder program pace mode path folder is p p' answer h =
+    subst (λ x. FollowsFolder pace (x ∷ []) mode program p answer p') is h
 
 -- what follows a call, whatever it answered
 after_both : {T Q : Type 0} (first : Result T Fault) (More : T → Type 0) (Stops : Fault → Type 0) →
@@ -107,12 +99,12 @@ lock_kept gives program says s s' p p' answer done =
     done.0 s s' p p' answer done.1
 
 -- a run that went well is one of a program that followed the folders
-pub well_followed : {P : Type 0} (program : Program P) (timeout : ℕ) (paths : List PathValue) (mode : RecursiveMode) →
-    (p p' : P) (missed : ℕ) → FollowsFolder timeout paths mode program p (Ok missed) p' →
-    OfReports timeout paths mode (λ s. Follows folder_source program s p (Ok missed) p')
-well_followed program timeout paths mode p p' missed (inl never) =
+pub well_followed : {P : Type 0} (program : Program P) (pace : Pace) (paths : List PathValue) (mode : RecursiveMode) →
+    (p p' : P) (missed : ℕ) → FollowsFolder pace paths mode program p (Ok missed) p' →
+    OfReports pace paths mode (λ s. Follows folder_source program s p (Ok missed) p')
+well_followed program pace paths mode p p' missed (inl never) =
     absurd (subst (λ r. MatchResult r (λ _. Unit {0}) (λ _. ⊥)) never.2 tt)
-well_followed program timeout paths mode p p' missed (inr follows) = follows
+well_followed program pace paths mode p p' missed (inr follows) = follows
 
 -- what follows from what a call that went well has done
 pub on_ok : {T E A B : Type 0} (result : Result T E) → (A → B) → OnOk result A → OnOk result B

@@ -1,4 +1,5 @@
 pub mod FaultLemmas
 pub mod FolderLemmas
+pub mod PlayedLemmas
 pub mod WholeLemmas
 pub mod WordLemmas

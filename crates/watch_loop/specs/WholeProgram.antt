@@ -1,14 +1,16 @@
 -- A whole program that takes batches, from its words to its exit status.
-use Rattle.std.specs.Prelude.{◌≡◌, ◌⊎◌, ◌*◌, ◌^◌, None, ℕ, List, [], ◌∷◌, codes, unwrap_or, Result, Ok, Err, MatchResult}
+use Rattle.std.specs.Prelude.{◌≡◌, ◌⊎◌, ◌*◌, ◌^◌, Bool, true, false, None, Some, ℕ, List, [], ◌∷◌, codes, unwrap_or, Result, Ok, Err, MatchResult}
+use Rattle.std.specs.Duration.{as_nanos}
 use Rattle.clap.specs.declared.parser.matches.ArgMatches.{ArgMatches}
 use Rattle.clap.specs.Words.{first_value, found_of, one_text}
 use Rattle.notify_paths.specs.PathText.{parts_of}
 use Rattle.notify_types.specs.declared.event.RecursiveMode.TheVariants.{Recursive}
+use Rattle.watch_pace.specs.declared.pace.Pace.{Pace}
 use Rattle.watch_pace.specs.Words.{Gives}
 use Rattle.watch_program.specs.declared.fault.Fault.{Fault}
 use Rattle.watch_program.specs.declared.fault.Fault.TheVariants.{Incomplete, Memory, NotApart, NotThere}
 use Rattle.report_loop.specs.declared.batches.Places.{Places}
-use Rattle.report_loop.specs.Batches.{Begins, EndsBy, Keeps, Takes, of_batches}
+use Rattle.report_loop.specs.Batches.{Begins, EndsBy, Keeps, Takes, Wants, of_batches}
 use Rattle.report_loop.specs.Loop.{Answer}
 use Rattle.watch_loop.specs.FollowsFolder.{FollowsFolder}
 
@@ -40,12 +42,23 @@ IsTimeout matches timeout =
     (one_text (found_of matches) (codes "timeout") ≡ None → timeout ≡ 500 * 10 ^ 6)
     × ((n : ℕ) → Gives matches (codes "timeout") n → timeout ≡ n * 10 ^ 6)
 
--- the program followed the folder that the words name, with all below it, and then took once more what it had asked for
--- again; or a fault ended it before
-abbrev pub RunsOver : {P : Type 0} → Begins P → Takes P → ArgMatches → Keeps P → Answer → Keeps P → Type 0
-RunsOver {P} begins takes matches before answer after =
-    (timeout : ℕ) × (missed : Result ℕ Fault) × (last : Keeps P) × IsTimeout matches timeout
-    × FollowsFolder timeout ((named_places matches).folder ∷ []) Recursive (of_batches begins takes) before missed last
+-- the words say whether what is there already is reported first
+abbrev pub IsInitial : ArgMatches → Bool → Type 0
+IsInitial matches initial =
+    (one_text (found_of matches) (codes "initial") ≡ None → initial ≡ false)
+    × (one_text (found_of matches) (codes "initial") ≡ Some (codes "true") → initial ≡ true)
+
+-- the words say this pace: its timeout, and whether what is there already is reported first
+abbrev pub IsPace : ArgMatches → Pace → Type 0
+IsPace matches pace = IsTimeout matches (as_nanos pace.timeout) × IsInitial matches pace.initial
+
+-- the program followed the folder that the words name, with all below it, with their timeout, and with initial events
+-- if it wants them; and then took once more what it had asked for again; or a fault ended it before
+abbrev pub RunsOver : {P : Type 0} → Begins P → Takes P → Wants P → ArgMatches → Keeps P → Answer → Keeps P → Type 0
+RunsOver {P} begins takes wants matches before answer after =
+    (pace : Pace) × (missed : Result ℕ Fault) × (last : Keeps P) × IsTimeout matches (as_nanos pace.timeout)
+    × wants before.program pace.initial
+    × FollowsFolder pace ((named_places matches).folder ∷ []) Recursive (of_batches begins takes) before missed last
     × MatchResult missed (λ _. EndsBy takes last answer after) (λ fault. (answer ≡ Err fault) × (after ≡ last))
 
 -- how a program ends after a run: by its fault; if it went well, so too, or as one that couldn't do all, since there
@@ -56,8 +69,9 @@ EndsAfter run answer =
 
 -- how the program ends at these matches: the places are refused; or it followed the folder that the words name, was
 -- told the places that they name, had asked for nothing before, and ends as after that run
-abbrev pub RunsFolder : {P : Type 0} → Begins P → Takes P → P → ArgMatches → Answer → Type 0
-RunsFolder {P} begins takes program matches answer =
+abbrev pub RunsFolder : {P : Type 0} → Begins P → Takes P → Wants P → P → ArgMatches → Answer → Type 0
+RunsFolder {P} begins takes wants program matches answer =
     ((fault : Fault) × IsRefusal fault × (answer ≡ Err fault))
     ⊎ ((before : Keeps P) × (after : Keeps P) × (run : Answer) × (before.program ≡ program) × (before.waiting ≡ [])
-    × (before.places ≡ named_places matches) × RunsOver begins takes matches before run after × EndsAfter run answer)
+    × (before.places ≡ named_places matches) × RunsOver begins takes wants matches before run after
+    × EndsAfter run answer)

@@ -1,6 +1,5 @@
 //! A program that follows a folder.
 ghost use Rattle.std.specs.Prelude.{◌∷◌, []};
-ghost use Rattle.std.specs.Duration.{as_nanos};
 ghost use Rattle.notify_types.specs.declared.event.RecursiveMode.TheVariants.{NonRecursive};
 ghost use Rattle.report_loop.specs.Loop.{Follows};
 ghost use Rattle.watch_loop.specs.FollowsFolder.{FollowsFolder, folder_source};
@@ -24,7 +23,7 @@ pub fn follow_folder<R: DebouncerRuntime + AllocGlobal, P: TakesReports, E: Writ
     complaints: Complaints<'_, E>,
     program: &mut P,
 ) -> Result<u64, Fault>
-    ensures { FollowsFolder (as_nanos pace.entry.timeout) (folder.now ∷ []) mode
+    ensures { FollowsFolder pace.entry (folder.now ∷ []) mode
         (record { begins = P.begins; patience = P.waits; takes = P.takes; passes = P.passes })
         program.old result program.new }
 {
@@ -41,7 +40,7 @@ pub fn follow_file<R: DebouncerRuntime + AllocGlobal, P: TakesReports, E: Write 
     complaints: Complaints<'_, E>,
     program: &mut P,
 ) -> Result<u64, Fault>
-    ensures { FollowsFolder (as_nanos pace.entry.timeout) (folder.now ∷ []) NonRecursive
+    ensures { FollowsFolder pace.entry (folder.now ∷ []) NonRecursive
         (record { begins = P.begins; patience = P.waits; takes = P.takes; passes = P.passes })
         program.old result program.new }
 {
@@ -58,7 +57,7 @@ pub fn follow_folders<R: DebouncerRuntime + AllocGlobal, P: TakesReports, E: Wri
     complaints: Complaints<'_, E>,
     program: &mut P,
 ) -> Result<u64, Fault>
-    ensures { FollowsFolder (as_nanos pace.entry.timeout) folders.now mode
+    ensures { FollowsFolder pace.entry folders.now mode
         (record { begins = P.begins; patience = P.waits; takes = P.takes; passes = P.passes })
         program.old result program.new }
 {

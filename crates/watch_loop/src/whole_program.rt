@@ -1,6 +1,5 @@
 //! A whole program over a folder, from its words to its exit status.
 ghost use Rattle.std.specs.Prelude.{◌≡◌, ◌⊎◌, ◌++◌, ◌∷◌, [], ℕ, List, Result, codes, map, unwrap_or, IfErr, IfOk};
-ghost use Rattle.std.specs.Duration.{as_nanos};
 ghost use Rattle.std.specs.String.{string_bytes};
 ghost use Rattle.std.specs.declared.alloc.AllocError.{AllocError};
 ghost use Rattle.clap.specs.declared.builder.command.Command.{Command};
@@ -53,7 +52,7 @@ pub fn run_program<
     ensures run { ((result ≡ 2) ⊎ (result ≡ 4)) ⊎ ((words : List (List ℕ))
         × (command : Result Command AllocError)
         × IfOk command (λ c. ids_of c ≡ option_ids ++ codes "until-eof" ∷ [])
-        × EndsAt command words (RunsFolder P.begins P.takes program) result) }
+        × EndsAt command words (RunsFolder P.begins P.takes P.wants program) result) }
 {
     match words_of(&rt) {
         Ok(words) => {
@@ -75,7 +74,7 @@ pub fn run_program_of_two<
     ensures run { ((result ≡ 2) ⊎ (result ≡ 4)) ⊎ ((words : List (List ℕ))
         × (command : Result Command AllocError)
         × IfOk command (λ c. ids_of c ≡ option_ids ++ codes "second" ∷ codes "until-eof" ∷ [])
-        × EndsAt command words (RunsFolder P.begins P.takes program) result) }
+        × EndsAt command words (RunsFolder P.begins P.takes P.wants program) result) }
 {
     match words_of(&rt) {
         Ok(words) => {
@@ -134,7 +133,7 @@ fn run_line<
 ) -> u8
     ensures status { IsStatus result }
     ensures run { EndsAt line.entry (map string_bytes words.entry.now)
-        (RunsFolder P.begins P.takes program) result }
+        (RunsFolder P.begins P.takes P.wants program) result }
 {
     let matches = match matches_of(&rt, line, words) {
         Ok(matches) => matches,
@@ -166,7 +165,7 @@ fn run_at<R: DebouncerRuntime + AllocGlobal + Eprint, P: TakesBatches, E: Write 
     mut err: E,
 ) -> u8
     ensures status { IsStatus result }
-    ensures run { (answer : Answer) × RunsFolder P.begins P.takes program matches.now answer
+    ensures run { (answer : Answer) × RunsFolder P.begins P.takes P.wants program matches.now answer
         × (result ≡ end_status answer) }
 {
     match places_of_line(&rt, matches) {
@@ -234,7 +233,7 @@ fn watch<R: DebouncerRuntime + AllocGlobal + Eprint, P: TakesBatches, E: Write +
     closed: &ClosedPaths,
     taker: &mut BatchTaker<'_, P, E>,
 ) -> Result<(), Fault>
-    ensures { RunsOver P.begins P.takes matches.now taker.old result taker.new }
+    ensures { RunsOver P.begins P.takes P.wants matches.now taker.old result taker.new }
 {
     let pace = Pace {
         initial: taker.wants_initial(),
@@ -254,7 +253,7 @@ fn follow<R: DebouncerRuntime + AllocGlobal + Eprint, P: TakesBatches, E: Write 
     closed: &ClosedPaths,
     taker: &mut BatchTaker<'_, P, E>,
 ) -> Result<u64, Fault>
-    ensures { FollowsFolder (as_nanos pace.entry.timeout) (folder.now ∷ []) Recursive
+    ensures { FollowsFolder pace.entry (folder.now ∷ []) Recursive
         (of_batches P.begins P.takes) taker.old result taker.new }
 {
     let complaints = Complaints::new(name, StandardError { rt }).counting(closed);

@@ -1,5 +1,4 @@
 use Rattle.std.proofs.Common.{◌∙◌, ap, inl, refl, subst, rules}
-use Rattle.std.specs.Duration.{as_nanos}
 use Rattle.notify_types.specs.declared.event.RecursiveMode.TheVariants.{Recursive}
 use Rattle.journal_lines.specs.KeptView.{filter_rule}
 use Rattle.trigger_lines.proofs.PrintedLemmas.{bursts_begun, bursts_cut, bursts_followed, trigger_program}
@@ -17,17 +16,17 @@ returns-in_err-folders-clause-begun g c =
 pub returns-in_err-missed-clause-begun : goal.returns-in_err-missed-clause-begun
 returns-in_err-missed-clause-begun g c =
     let pace = c.pace_of-pace.ensures in
-    let timeout = as_nanos c.pace_of-pace.result.timeout in
+    let at = c.pace_of-pace.result in
     of_fault _ c.from_residual-in_err-missed.result c.in_err-missed.field-0.0 (search rules)
     (ill_followed (trigger_program (λ p. filter_rule p.filter) (λ p. p.folder.now) (λ p. p.trigger) (λ p. p.quiet)
-    (λ p. g.O.Write.contents p.out)) timeout _ Recursive c.args.bursts.now c.follow_folders.new.program
+    (λ p. g.O.Write.contents p.out)) at _ Recursive c.args.bursts.now c.follow_folders.new.program
     c.in_err-missed.field-0.0 c.in_err-missed.ensures (λ same. ap (λ p. g.O.Write.contents p.out) same)
     (λ run. (
-      timeout,
-      (pace.timeout, pace.timeout_given),
+      at,
+      ((pace.timeout, pace.timeout_given), (pace.changes, pace.initial)),
       (
         run.0,
-        subst (λ paths. IsOpened timeout paths Recursive run.0)
+        subst (λ paths. IsOpened at paths Recursive run.0)
             (c.as_slice.ensures.value ∙ c.in_ok-folders.ensures.ok) run.1,
         bursts_begun (λ p. filter_rule p.filter) (λ p. p.folder.now) (λ p. p.trigger)
             (λ p. p.quiet) (λ p. g.O.Write.contents p.out) folder_source run.0 c.args.bursts.now
@@ -38,16 +37,16 @@ returns-in_err-missed-clause-begun g c =
 pub returns-clause-printed : goal.returns-clause-printed
 returns-clause-printed g c =
     let pace = c.pace_of-pace.ensures in
-    let timeout = as_nanos c.pace_of-pace.result.timeout in
+    let at = c.pace_of-pace.result in
     let run = well_followed (trigger_program (λ p. filter_rule p.filter) (λ p. p.folder.now) (λ p. p.trigger)
-    (λ p. p.quiet) (λ p. g.O.Write.contents p.out)) timeout _ Recursive c.args.bursts.now c.follow_folders.new.program
+    (λ p. p.quiet) (λ p. g.O.Write.contents p.out)) at _ Recursive c.args.bursts.now c.follow_folders.new.program
     c.in_ok-missed.missed c.in_ok-missed.ensures in
     on_ok c.write.result (λ last. (
-      timeout,
-      (pace.timeout, pace.timeout_given),
+      at,
+      ((pace.timeout, pace.timeout_given), (pace.changes, pace.initial)),
       (
         run.0,
-        subst (λ paths. IsOpened timeout paths Recursive run.0)
+        subst (λ paths. IsOpened at paths Recursive run.0)
             (c.as_slice.ensures.value ∙ c.in_ok-folders.ensures.ok) run.1,
         bursts_followed folder_source run.0 (λ p. filter_rule p.filter) (λ p. p.folder.now)
             (λ p. p.trigger) (λ p. p.quiet) (λ p. g.O.Write.contents p.out) c.args.bursts.now
@@ -58,16 +57,16 @@ returns-clause-printed g c =
 pub returns-clause-begun : goal.returns-clause-begun
 returns-clause-begun g c =
     let pace = c.pace_of-pace.ensures in
-    let timeout = as_nanos c.pace_of-pace.result.timeout in
+    let at = c.pace_of-pace.result in
     let run = well_followed (trigger_program (λ p. filter_rule p.filter) (λ p. p.folder.now) (λ p. p.trigger)
-    (λ p. p.quiet) (λ p. g.O.Write.contents p.out)) timeout _ Recursive c.args.bursts.now c.follow_folders.new.program
+    (λ p. p.quiet) (λ p. g.O.Write.contents p.out)) at _ Recursive c.args.bursts.now c.follow_folders.new.program
     c.in_ok-missed.missed c.in_ok-missed.ensures in
     on_err _ c.write.result (λ front. (
-      timeout,
-      (pace.timeout, pace.timeout_given),
+      at,
+      ((pace.timeout, pace.timeout_given), (pace.changes, pace.initial)),
       (
         run.0,
-        subst (λ paths. IsOpened timeout paths Recursive run.0)
+        subst (λ paths. IsOpened at paths Recursive run.0)
             (c.as_slice.ensures.value ∙ c.in_ok-folders.ensures.ok) run.1,
         bursts_cut (λ p. filter_rule p.filter) (λ p. p.folder.now) (λ p. p.trigger) (λ p. p.quiet)
             (λ p. g.O.Write.contents p.out) folder_source run.0 c.args.bursts.now c.follow_folders.new.program

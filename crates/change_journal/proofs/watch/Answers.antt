@@ -1,5 +1,4 @@
 use Rattle.std.proofs.Common.{◌∙◌, inl, refl, subst, ap, rules}
-use Rattle.std.specs.Duration.{as_nanos}
 use Rattle.notify_types.specs.declared.event.RecursiveMode.TheVariants.{Recursive}
 use Rattle.journal_lines.proofs.PrintedLemmas.{journal_program, printer_begun, printer_followed}
 use Rattle.journal_lines.specs.KeptView.{filter_rule}
@@ -17,17 +16,17 @@ returns-in_err-folders-clause-begun g c =
 pub returns-in_err-missed-clause-begun : goal.returns-in_err-missed-clause-begun
 returns-in_err-missed-clause-begun g c =
     let pace = c.pace_of-pace.ensures in
-    let timeout = as_nanos c.pace_of-pace.result.timeout in
+    let at = c.pace_of-pace.result in
     of_fault _ c.from_residual-in_err-missed.result c.in_err-missed.field-0.0 (search rules)
     (ill_followed (journal_program (λ p. filter_rule p.filter) (λ p. p.journal) (λ p. g.O.Write.contents p.out))
-    timeout _ Recursive c.args.printer.now c.follow_folders.new.program c.in_err-missed.field-0.0
+    at _ Recursive c.args.printer.now c.follow_folders.new.program c.in_err-missed.field-0.0
     c.in_err-missed.ensures (λ same. ap (λ p. g.O.Write.contents p.out) same)
     (λ run. (
-      timeout,
-      (pace.timeout, pace.timeout_given),
+      at,
+      ((pace.timeout, pace.timeout_given), (pace.changes, pace.initial)),
       (
         run.0,
-        subst (λ paths. IsOpened timeout paths Recursive run.0)
+        subst (λ paths. IsOpened at paths Recursive run.0)
             (c.as_slice.ensures.value ∙ c.in_ok-folders.ensures.ok) run.1,
         printer_begun (λ p. filter_rule p.filter) (λ p. p.journal) (λ p. g.O.Write.contents p.out)
             folder_source run.0 c.args.printer.now c.follow_folders.new.program _ run.2,
@@ -37,15 +36,15 @@ returns-in_err-missed-clause-begun g c =
 pub returns-clause-written : goal.returns-clause-written
 returns-clause-written g c =
     let pace = c.pace_of-pace.ensures in
-    let timeout = as_nanos c.pace_of-pace.result.timeout in
+    let at = c.pace_of-pace.result in
     let run = well_followed (journal_program (λ p. filter_rule p.filter) (λ p. p.journal)
-    (λ p. g.O.Write.contents p.out)) timeout _ Recursive c.args.printer.now c.follow_folders.new.program
+    (λ p. g.O.Write.contents p.out)) at _ Recursive c.args.printer.now c.follow_folders.new.program
     c.in_ok-missed.missed c.in_ok-missed.ensures in (
-      timeout,
-      (pace.timeout, pace.timeout_given),
+      at,
+      ((pace.timeout, pace.timeout_given), (pace.changes, pace.initial)),
       (
         run.0,
-        subst (λ paths. IsOpened timeout paths Recursive run.0)
+        subst (λ paths. IsOpened at paths Recursive run.0)
             (c.as_slice.ensures.value ∙ c.in_ok-folders.ensures.ok) run.1,
         printer_followed folder_source run.0 (λ p. filter_rule p.filter) (λ p. p.journal)
             (λ p. g.O.Write.contents p.out) c.args.printer.now c.follow_folders.new.program c.in_ok-missed.missed run.2,

@@ -1,14 +1,17 @@
+use Rattle.std.proofs.Common.{refl}
 use Rattle.calls_by_hand.proofs.ToldCalls.{not_uncalled}
 use Rattle.calls_by_hand.proofs.told.finish_told.Goals as goal
 
 pub returns : goal.returns
 returns g c =
-    let ended = c.finish_left-book.ensures.ended in
+    let ended = c.finish_left-book.ensures.ended.ended in
     record {
       called = λ uncalled called. (
         ended.log,
         ended.goes_on,
         ended.leads,
         λ none. not_uncalled _ _ uncalled called (ended.told none),
+        ended.aged,
+        ended.unnumbered (λ cache path. refl),
       );
     }

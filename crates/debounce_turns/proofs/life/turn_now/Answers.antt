@@ -1,5 +1,10 @@
-use Rattle.debounce_turns.proofs.Hands.{turn_hands}
+use Rattle.debounce_turns.proofs.Ticks.{turn_now_hands}
 use Rattle.debounce_turns.proofs.life.turn_now.Goals as goal
 
 pub returns-clause-handed : goal.returns-clause-handed
-returns-clause-handed g c = turn_hands g.H.DebounceEventHandler.handles _ _ _ _ _ _ c.turn.ensures.turned
+returns-clause-handed g c =
+    (turn_now_hands g.H.DebounceEventHandler.handles _ _ _ _ _ _ _ c.in_ok-moment.ensures.ok c.turn.ensures.turned).0
+
+pub returns-clause-moment : goal.returns-clause-moment
+returns-clause-moment g c =
+    (turn_now_hands g.H.DebounceEventHandler.handles _ _ _ _ _ _ _ c.in_ok-moment.ensures.ok c.turn.ensures.turned).1

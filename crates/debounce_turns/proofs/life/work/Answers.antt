@@ -1,6 +1,15 @@
-use Rattle.std.proofs.Common.{◌∙◌}
-use Rattle.debounce_turns.proofs.Hands.{hands_more}
+use Rattle.std.proofs.Common.{◌∙◌, refl}
+use Rattle.debounce_turns.proofs.Hands.{handed_none, hands_more}
+use Rattle.debounce_turns.proofs.Ticks.{first_among, ticks_among}
 use Rattle.debounce_turns.proofs.life.work.Goals as goal
+
+pub loop-init : goal.loop-init
+loop-init g c = (
+  c.requires.ready,
+  refl,
+  handed_none g.H.DebounceEventHandler.handles c.args.handler c.args.gate c.requires.fresh,
+  first_among c.args.gate c.requires.fresh,
+)
 
 pub loop-preserved-then-is_err : goal.loop-preserved-then-is_err
 loop-preserved-then-is_err g c =
@@ -9,6 +18,7 @@ loop-preserved-then-is_err g c =
       went.handed.0 ∙ c.loop.invariant.1,
       hands_more g.H.DebounceEventHandler.handles c.args.handler
           c.loop.handler c.turn_now.new.handler c.loop.gate c.turn_now.new.gate c.loop.invariant.2 went.handed,
+      ticks_among c.loop.gate c.turn_now.new.gate c.loop.invariant.3 went.moment,
     )
 
 pub loop-preserved : goal.loop-preserved
@@ -18,4 +28,5 @@ loop-preserved g c =
       went.handed.0 ∙ c.loop.invariant.1,
       hands_more g.H.DebounceEventHandler.handles c.args.handler
           c.loop.handler c.turn_now.new.handler c.loop.gate c.turn_now.new.gate c.loop.invariant.2 went.handed,
+      ticks_among c.loop.gate c.turn_now.new.gate c.loop.invariant.3 went.moment,
     )

@@ -1,9 +1,11 @@
 use Rattle.std.proofs.Common.{◌≡◌}
 use Rattle.told_lock.specs.History.{picked}
-use Rattle.debounce_turns.specs.Handed.{Handed}
+use Rattle.debounce_turns.specs.Clock.{AreAmong}
+use Rattle.debounce_turns.specs.Handed.{Handed, ticks_by}
 use Rattle.debounce_access.specs.Happened.{is_emitting}
 use Rattle.debounce_turns.proofs.life.work.Given as goal
 
 abbrev pub invariant-loop : goal.invariant-loop
 invariant-loop g l = g.H.DebounceEventHandler.ready l.handler × (l.gate.lock ≡ l.fn.gate.lock)
     × Handed g.H.DebounceEventHandler.handles l.fn.handler (picked is_emitting l.gate.seen) l.handler
+    × AreAmong (ticks_by l.gate) l.gate.moments

@@ -1,4 +1,5 @@
-use Rattle.derived_laws.proofs.ReportLemmas.{begins, goes_on, reader_has_what_is_reported}
+use Rattle.poll_rounds.proofs.ReportLemmas.{begins, goes_on}
+use Rattle.derived_laws.proofs.ReportLemmas.{reader_has_what_is_reported}
 use Rattle.derived_laws.proofs.reports.law_of_reports.Goals as goal
 
 pub returns-clause-begins : goal.returns-clause-begins

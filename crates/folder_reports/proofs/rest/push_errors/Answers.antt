@@ -1,4 +1,4 @@
-use Rattle.std.proofs.Common.{[], ◌∷◌, refl, sym, ◌∙◌}
+use Rattle.std.proofs.Common.{[], ◌∷◌, sym, ◌∙◌}
 use Rattle.std.specs.Prelude.{Err}
 use Rattle.folder_reports.proofs.RestLemmas.{list_of}
 use Rattle.folder_reports.proofs.rest.push_errors.Goals as goal

@@ -1,5 +1,5 @@
-use Rattle.std.proofs.Common.{◌∙◌, ap, rules, sym}
-use Rattle.watch_loop.proofs.FolderLemmas.{failed_on, is_followed, lock_kept, went_on}
+use Rattle.std.proofs.Common.{◌∙◌, rules, sym}
+use Rattle.watch_loop.proofs.FolderLemmas.{failed_on, lock_kept, went_on}
 use Rattle.watch_loop.proofs.follow.follow.Goals as goal
 
 pub finish-requires-clause-tied : goal.finish-requires-clause-tied
@@ -18,8 +18,6 @@ finish-requires-clause-tied g c =
 
 pub returns-in_err-hand_on : goal.returns-in_err-hand_on
 returns-in_err-hand_on g c =
-    let same = c.say_left_out.ensures.same in
-    let apart = c.apart-source.ensures in
     failed_on _
     (record {
       begins = g.P.TakesReports.begins;
@@ -27,16 +25,13 @@ returns-in_err-hand_on g c =
       takes = g.P.TakesReports.takes;
       passes = g.P.TakesReports.passes;
     })
-    (λ s s' pause given h. h) c.args.reports c.apart-source.result.1.debouncer.seen c.apart-source.result.0
-    c.hand_on.new.source
-    (is_followed c.args.reports _ _ (apart.seen ∙ ap (λ s. s.seen) same) (apart.awaited ∙ ap (λ s. s.awaited) same))
+    (λ s s' pause given h. h) c.args.reports c.apart-source.result.1.debouncer c.apart-source.result.0
+    c.hand_on.new.source (c.apart-source.ensures.same ∙ c.say_left_out.ensures.same)
     c.args.program.now c.begin.new.self c.hand_on.new.program c.in_err-hand_on.field-0.0
     c.from_residual-in_err-hand_on.result c.in_ok-begin.ensures c.in_err-hand_on.ensures (search rules)
 
 pub returns : goal.returns
 returns g c =
-    let same = c.say_left_out.ensures.same in
-    let apart = c.apart-source.ensures in
     went_on _
     (record {
       begins = g.P.TakesReports.begins;
@@ -44,9 +39,8 @@ returns g c =
       takes = g.P.TakesReports.takes;
       passes = g.P.TakesReports.passes;
     })
-    (λ s s' pause given h. h) c.args.reports c.apart-source.result.1.debouncer.seen c.apart-source.result.0
-    c.hand_on.new.source
-    (is_followed c.args.reports _ _ (apart.seen ∙ ap (λ s. s.seen) same) (apart.awaited ∙ ap (λ s. s.awaited) same))
+    (λ s s' pause given h. h) c.args.reports c.apart-source.result.1.debouncer c.apart-source.result.0
+    c.hand_on.new.source (c.apart-source.ensures.same ∙ c.say_left_out.ensures.same)
     c.args.program.now c.begin.new.self c.hand_on.new.program c.take_rest.new.program c.finish.result
     c.take_rest.result c.in_ok-begin.ensures c.in_ok-hand_on.ensures (c.finish.ensures.err, c.finish.ensures.ok)
     c.take_rest.ensures

@@ -10,6 +10,7 @@ returns-then-is_err-clause-run g c =
 pub returns-clause-run : goal.returns-clause-run
 returns-clause-run g c =
     let run = c.run_at.ensures.run in
-    ran c.args.line _ (RunsFolder g.P.TakesBatches.begins g.P.TakesBatches.takes c.args.program)
+    ran c.args.line _
+    (RunsFolder g.P.TakesBatches.begins g.P.TakesBatches.takes g.P.TakesBatches.wants c.args.program)
     c.in-Ok.matches c.check_hints-checked.result run.0 c.run_at.result
     c.in-Ok.ensures.reading c.check_hints-checked.ensures c.if-is_err.ensures.value run.1 run.2

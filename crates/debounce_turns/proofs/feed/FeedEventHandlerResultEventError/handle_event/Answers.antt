@@ -1,5 +1,5 @@
 use Rattle.std.proofs.Common.{◌∙◌, sym}
-use Rattle.debounce_access.proofs.Gives.{item_missed, item_taken}
+use Rattle.debounce_access.proofs.Gives.{feeds_missed, feeds_taken}
 use Rattle.debounce_access.proofs.Steps.{done, refused}
 use Rattle.debounce_turns.proofs.feed.FeedEventHandlerResultEventError.handle_event.Goals as goal
 
@@ -7,11 +7,10 @@ pub returns-then-is_err-clause-handled : goal.returns-then-is_err-clause-handled
 returns-then-is_err-clause-handled g c =
     let none = refused _ c.feed.result (sym c.is_err.ensures.value ∙ c.if-is_err.true) c.feed.ensures.err in
     let lock = rw (← c.self.view_is) at c.feed.ensures.lock in
-    let begun = rw (← c.self.view_is) at none.0 in
-    let same = rw (← c.self.view_is) at none.1 in
-    (c.miss.ensures.lock ∙ lock, item_missed _ _ _ c.args.event begun same c.miss.ensures.missed)
+    let left = rw (← c.self.view_is) at none in
+    feeds_missed _ _ _ c.args.event lock left c.miss.ensures.same c.miss.ensures.missed
 
 pub returns-else-is_err-clause-handled : goal.returns-else-is_err-clause-handled
 returns-else-is_err-clause-handled g c =
-    let fed = done _ c.feed.result (sym c.is_err.ensures.value ∙ c.if-is_err.false) c.feed.ensures.ok in
-    (c.feed.ensures.lock, item_taken _ _ c.args.event fed)
+    feeds_taken _ _ c.args.event c.feed.ensures.lock
+    (done _ c.feed.result (sym c.is_err.ensures.value ∙ c.if-is_err.false) c.feed.ensures.ok)

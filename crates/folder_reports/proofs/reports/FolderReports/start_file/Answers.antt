@@ -1,7 +1,11 @@
-use Rattle.std.proofs.Common.{◌∙◌, ap}
+use Rattle.std.proofs.Common.{◌∙◌, ap, subst, sym}
+use Rattle.folder_reports.specs.Start.{BeganWith}
 use Rattle.folder_reports.proofs.StartLemmas.{opened_one}
 use Rattle.folder_reports.proofs.reports.FolderReports.start_file.Goals as goal
 
 pub returns-clause-ok : goal.returns-clause-ok
-returns-clause-ok g c = opened_one _ _ _ _ _ c.of.result c.in_ok-live.ensures.opened c.in_ok-watch.ensures.ok
+returns-clause-ok g c = opened_one _ _ _ _ _ c.of.result c.in_ok-live.ensures.opened
+    (subst (λ made. BeganWith c.args.pace.initial made)
+    (sym (c.of.ensures.made ∙ c.watch.ensures.made)) c.in_ok-live.ensures.began)
+    c.in_ok-watch.ensures.ok
     c.of.ensures.seen (c.of.ensures.given ∙ ap (λ q. q.given) c.watch.ensures.queue ∙ c.in_ok-live.ensures.given)
