@@ -32,10 +32,16 @@ use told_lock::lock::Lock;
 use told_lock::shown::Shown;
 
 /// A way to a book. Each call that names the runtime waits for the lock, and holds it meanwhile.
-#[derive(Drop)]
 pub struct Access<C: FileIdCache<A> + Drop, A: Allocator> {
     lock: BookLock<C, A>,
     pass: BookPass<C, A>,
+}
+
+// Not derived: a crate that drops it proves only this call, not the drop of all that is in it.
+impl<C: FileIdCache<A> + Drop, A: Allocator> Drop for Access<C, A> {
+    fn drop(self) {
+        let Self { lock: _, pass: _ } = self;
+    }
 }
 
 impl<C: FileIdCache<A> + Drop, A: Allocator> Model for Access<C, A> {

@@ -20,6 +20,7 @@ ghost use Rattle.debounce_turns.specs.Running.{IsMadeWith, IsStarted, RunsOn};
 ghost use Rattle.debounce_shell.specs.Start.{IsStartError, IsStopped, IsTooSlow, too_slow, tick_nanos};
 
 use crate::by_hand::ByHand;
+use crate::watcher_thread::{Made, WatcherThread, start_task};
 use crate::worker::{Worker, start_worker};
 use debounce_book::book::Book;
 use debounce_book::entry::Entry;
@@ -35,7 +36,7 @@ use notify_types::event::{DebouncedEvent, RecursiveMode};
 use notify_types::time::Moment;
 use notify_watch::config::{Config, WatcherKind};
 use notify_watch::handler::{DebounceEventHandler, DebounceEventResult};
-use notify_watch::watcher::{ListingWatcher, Made, Task, Watcher, WatcherThread, start_task};
+use notify_watch::watcher::{ListingWatcher, Task, Watcher};
 use std::alloc::{Allocator, Global};
 use std::fs::Files;
 use std::marker::Model;
@@ -73,7 +74,7 @@ pub struct Running<
 > {
     pub(crate) watcher: T,
     /// The watcher's thread, which owns the feed; none if the debouncer is fed by hand.
-    pub(crate) thread: Option<WatcherThread<K>>,
+    pub(crate) thread: Option<WatcherThread<K, A>>,
     pub(crate) shared: Shared<C, R, A>,
     pub(crate) worker: Worker<C, L, A>,
 }
@@ -109,17 +110,17 @@ impl<
 
     ghost view = { λ d. record {
       watcher = d.watcher;
-      made = option_map (λ t. (t.promise.made.handler.value, t.promise.made.config)) d.thread;
+      made = option_map (λ t. (t.made.handler.value, t.made.config)) d.thread;
       lock = d.shared.owner.lock;
       seen = d.shared.owner.seen;
       parts = entries_of d.shared.owner.out;
       is_whole = is_nil d.shared.owner.out;
-      began = d.worker.promise.began.value;
+      began = d.worker.began.value;
     } };
 
     ghost invariant = { λ d. (d.shared.owner.keeps ≡ true)
-        × (d.worker.promise.access.value.lock ≡ d.shared.owner.lock)
-        × IfSome d.thread (λ t. (t.promise.made.handler.value.lock ≡ d.shared.owner.lock)
+        × (d.worker.access.value.lock ≡ d.shared.owner.lock)
+        × IfSome d.thread (λ t. (t.made.handler.value.lock ≡ d.shared.owner.lock)
         × StaysOfLock K.ends) };
 }
 
@@ -337,8 +338,8 @@ pub(crate) fn start_fed<
     requires fresh { picked is_emitting shared.old.owner.seen ≡ [] }
     ensures same { StaysButRights shared.old.owner shared.new.owner }
     ensures ok { IfOk result (λ f.
-        (f.worker.promise.access.value.lock ≡ shared.old.owner.lock)
-        × (f.worker.promise.began.value ≡ began.value)) }
+        (f.worker.access.value.lock ≡ shared.old.owner.lock)
+        × (f.worker.began.value ≡ began.value)) }
     ensures feed { IfOk result (λ f. (f.feed.lock ≡ shared.old.owner.lock)
         × (f.feed.seen ≡ shared.old.owner.seen) × (f.feed.moments ≡ [])) }
     ensures err { IfErr result (λ e. (e ≡ out_of_memory) ⊎ IsIo e) }
@@ -361,16 +362,16 @@ fn start_watcher<
     alloc: A,
     feed: Feed<C, R, A>,
     config: Config,
-) -> Result<(T, WatcherThread<T::Task>), Error<A>>
+) -> Result<(T, WatcherThread<T::Task, A>), Error<A>>
     requires { T.takes feed }
-    ensures ok { IfOk result (λ r. (r.1.promise.made.handler.value ≡ feed)
-        × (r.1.promise.made.config ≡ config)) }
+    ensures ok { IfOk result (λ r. (r.1.made.handler.value ≡ feed)
+        × (r.1.made.config ≡ config)) }
     ensures stays { IfOk result (λ _. StaysOfLock T.Task.ends) }
-    ensures err { IfErr result (λ e. T.refuses e ⊎ (e ≡ not_started)) }
+    ensures err { IfErr result (λ e. T.refuses e ⊎ ((e ≡ out_of_memory) ⊎ (e ≡ not_started))) }
 {
     let made = Made::of(&feed, config);
     let (watcher, task) = T::new(rt, alloc, feed, config)?;
-    let thread = start_task(&rt, alloc, task, made)?;
+    let thread = start_task(rt, alloc, task, made)?;
     Ok((watcher, thread))
 }
 

@@ -21,4 +21,5 @@
 pub mod by_hand;
 pub mod debouncer;
 pub mod send_to;
+pub mod watcher_thread;
 mod worker;

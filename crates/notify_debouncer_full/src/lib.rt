@@ -42,6 +42,7 @@ pub use debounce_shell::debouncer::{
     new_told_debouncer,
 };
 pub use debounce_shell::send_to::{SendTo, Unsent};
+pub use debounce_shell::watcher_thread::{Hands, Made, WatcherThread, start_task};
 pub use debounce_threads::meet::{Meet, NoMeet};
 pub use debounce_threads::run::run_threads;
 pub use debounce_turns::clock::now;
@@ -65,9 +66,7 @@ pub use notify_types::kind::{
 pub use notify_types::time::{Moment, age};
 pub use notify_watch::config::{Config, WatcherKind};
 pub use notify_watch::handler::{DebounceEventHandler, DebounceEventResult, EventHandler};
-pub use notify_watch::watcher::{
-    Hands, ListingWatcher, Made, Task, Watcher, WatcherThread, start_task,
-};
+pub use notify_watch::watcher::{ListingWatcher, Task, Watcher};
 pub use queue_handler::QueueHandler;
 pub use recommended::{
     RecommendedCache, RecommendedDebouncer, RecommendedWatcher, new_debouncer,

@@ -16,7 +16,6 @@ use told_lock::lock::Lock;
 use told_lock::shown::Shown;
 
 /// The end of a queue at which its reports come out. Clauses see what it has given, and whether more may come.
-#[derive(Drop)]
 pub struct ReportQueue<T: Drop, A: Allocator = Global> {
     lock: Arc<Lock<Queued<T, A>, Put<T>, A>, A>,
     pass: Pass<Queued<T, A>, Put<T>>,
@@ -24,6 +23,18 @@ pub struct ReportQueue<T: Drop, A: Allocator = Global> {
     bell: Receiver<(), A>,
     /// Whether more may come: no wait has found yet that the sender is gone.
     is_open: bool,
+}
+
+// Not derived: a crate that drops a queue proves only this call, not the drop of all that is in it.
+impl<T: Drop, A: Allocator> Drop for ReportQueue<T, A> {
+    fn drop(self) {
+        let Self {
+            lock: _,
+            pass: _,
+            bell: _,
+            is_open: _,
+        } = self;
+    }
 }
 
 impl<T: Drop, A: Allocator> Model for ReportQueue<T, A> {

@@ -8,3 +8,5 @@ pub mod hand;
 pub mod lock;
 mod rule;
 pub mod shown;
+pub mod slot;
+pub mod slot_thread;

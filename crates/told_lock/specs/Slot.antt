@@ -1,0 +1,24 @@
+-- A slot, and the history of what was put into it.
+use Rattle.std.specs.Prelude.{◌≡◌, Bool, true, false, List, ◌++◌, Option}
+use Rattle.std.specs.Option.{option_to_list}
+use Rattle.atomic_table.specs.Seated.{TableId}
+use Rattle.told_lock.specs.Rights.{Right, Emits, Feeds}
+
+module _ {T : Type 0} where
+  -- one right is the filler's, which alone puts a value in; of the other nothing is told
+  abbrev pub told_as : Right → T → Bool
+  told_as Emits value = true
+  told_as Feeds value = false
+
+  -- what was put in came out, or lies in the slot
+  abbrev pub IsHeld : Option T → List T → List T → Type 0
+  IsHeld held out log = out ++ option_to_list held ≡ log
+
+  -- what lies in the slot now was put in
+  abbrev pub PutsIn : Option T → List T → List T → List T → List T → Type 0
+  PutsIn held before out after now = (after ≡ before ++ option_to_list held) × (now ≡ out)
+
+-- that a slot was filled: which one, and with what
+pub record Filling (T : Type 0) : Type 0 where
+  pub slot : TableId
+  pub value : T
