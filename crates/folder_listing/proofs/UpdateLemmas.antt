@@ -5,7 +5,7 @@ use Rattle.std.specs.Option.{option_map}
 use Rattle.std.specs.List.{AllByRecursion}
 use Rattle.std.specs.List.Sorted.{IsStrictlySortedBy}
 use Rattle.std.specs.Map.{keys_of, remove_entry, set_value}
-use Rattle.std.specs.BTreeMap.{is_at}
+use Rattle.std.specs.BTreeMap.{insert_entry, is_at}
 use Rattle.std.proofs.lemmas.Map.{keys-set_value}
 use Rattle.notify_paths.specs.Path.{PathValue, path_cmp}
 use Rattle.notify_paths.specs.PathLaws.{path_cmp_total}
@@ -289,3 +289,10 @@ differ-next us es ms new p u found is d = (
         addition_step.finds ms (p, u) q true d.0 e
         ∙ same u (entry_at ms q) (sym (ap is_added (ap (update_at us) (at-same q p e) ∙ found)) ∙ h)
     by q false e h = addition_step.finds ms (p, u) q false d.0 e
+
+-- what adds nothing leaves the entries
+pub adds-nothing : (es : ListingValue) (p : PathValue) (u : Update) → ((f : Found) → u ≡ Added f → ⊥) →
+    added_at es (p, u) ≡ es
+adds-nothing es p Gone not-added = refl
+adds-nothing es p (Changed f) not-added = refl
+adds-nothing es p (Added f) not-added = absurd (not-added f refl)

@@ -28,15 +28,9 @@ use std::ops::Bound;
 
 /// The folders and files of one moment. Each folder above an entry is an entry too, and no path is
 /// empty.
+#[derive(Drop)]
 pub struct Listing<A: Allocator = Global> {
     pub(crate) entries: BTreeMap<PathBuf<A>, Found, A>,
-}
-
-// Not derived: a crate that drops a listing proves only this call, not the drop of all that is in it.
-impl<A: Allocator> Drop for Listing<A> {
-    fn drop(self) {
-        let Self { entries: _ } = self;
-    }
 }
 
 impl<A: Allocator> Model for Listing<A> {
@@ -98,8 +92,7 @@ impl<A: Allocator + Copy> Listing<A> {
         ensures ok { IfOk result (λ listing. IsMerged self.now other listing) }
         ensures err { IfErr result (λ e. e ≡ out_of_memory) }
     {
-        let Listing { entries } = other;
-        match put_over(entries, &self.entries) {
+        match put_over(other.entries, &self.entries) {
             Ok(entries) => Ok(Listing { entries }),
             Err(_) => Err(Error::out_of_memory(alloc)),
         }

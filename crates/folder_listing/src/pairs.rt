@@ -4,7 +4,7 @@ ghost use Rattle.std.specs.BTreeMap.Range.{entries_between};
 ghost use Rattle.std.specs.Option.{option_copied};
 ghost use Rattle.std.specs.declared.ops.Bound.TheVariants.{Included, Unbounded};
 ghost use Rattle.notify_paths.specs.Path.{path_cmp};
-ghost use Rattle.folder_listing.specs.Pairs.{paired, change_at, change_of, is_under, goes, no_parts, updated_pairs, walk};
+ghost use Rattle.folder_listing.specs.Pairs.{paired, change_of, is_under, goes, no_parts, updated_pairs, walk};
 ghost use Rattle.folder_listing.specs.Updates.{found_after};
 
 use crate::entry::{EntryKind, Found};
@@ -39,24 +39,6 @@ impl Change {
     }
 }
 
-/// What happened to what stands before and after, below a path that went or not.
-pub(crate) fn change_at(under: bool, before: Option<Found>, after: Option<Found>) -> Change
-    ensures { result ≡ change_at under before after }
-{
-    match (before, after) {
-        (None, None) => Change::Same,
-        (None, Some(after)) => Change::Created(after.kind),
-        (Some(_), None) if under => Change::Same,
-        (Some(before), None) => Change::Removed(before.kind),
-        (Some(_), Some(after)) if under => Change::Created(after.kind),
-        (Some(before), Some(after)) if !before.kind.is_same(after.kind) => {
-            Change::Replaced(before.kind, after.kind)
-        }
-        (Some(before), Some(after)) if !before.is_same_state(after) => Change::Rewritten,
-        (Some(_), Some(_)) => Change::Same,
-    }
-}
-
 /// A path, and what stands there before and after.
 #[derive(Drop)]
 pub(crate) struct Pair<'a, A: Allocator> {
@@ -84,7 +66,19 @@ impl<'a, A: Allocator> Pair<'a, A> {
     pub(crate) fn change(&self, top: Option<&PathBuf<A>>) -> Change
         ensures { result ≡ change_of (option_copied top.entry) self.now }
     {
-        change_at(is_under(top, self.path), self.before, self.after)
+        let under = is_under(top, self.path);
+        match (self.before, self.after) {
+            (None, None) => Change::Same,
+            (None, Some(after)) => Change::Created(after.kind),
+            (Some(_), None) if under => Change::Same,
+            (Some(before), None) => Change::Removed(before.kind),
+            (Some(_), Some(after)) if under => Change::Created(after.kind),
+            (Some(before), Some(after)) if !before.kind.is_same(after.kind) => {
+                Change::Replaced(before.kind, after.kind)
+            }
+            (Some(before), Some(after)) if !before.is_same_state(after) => Change::Rewritten,
+            (Some(_), Some(_)) => Change::Same,
+        }
     }
 }
 

@@ -37,22 +37,6 @@ pub type Updates<A> = BTreeMap<PathBuf<A>, Update, A>;
 /// What stands at some paths.
 type Entries<A> = BTreeMap<PathBuf<A>, Found, A>;
 
-/// Puts in what the update adds, if it adds something.
-fn add<A: Allocator + Copy>(
-    entries: &mut Entries<A>,
-    path: &PathBuf<A>,
-    update: Update,
-) -> Result<(), AllocError>
-    ensures ok { OnOk result (entries.new.entries
-        ≡ added_at entries.old.entries (path.now, update)) }
-    ensures unchanged { OnErr result (entries.new.entries ≡ entries.old.entries) }
-{
-    if let Update::Added(found) = update {
-        entries.insert(path.clone()?, found)?;
-    }
-    Ok(())
-}
-
 /// Takes out what the update adds, if it is there.
 fn drop_added<A: Allocator>(entries: &mut Entries<A>, path: &PathBuf<A>, update: Update)
     ensures { entries.new.entries ≡ dropped_at entries.old.entries (path.now, update) }
@@ -93,7 +77,9 @@ fn add_each<A: Allocator + Copy>(
     let _count = entries.len();
     let mut rest = updates.iter();
     while let Some((path, update)) = rest.next() {
-        add(entries, path, *update)?;
+        if let Update::Added(found) = *update {
+            entries.insert(path.clone()?, found)?;
+        }
     }
     Ok(())
 }
@@ -118,27 +104,6 @@ fn change_each<A: Allocator>(entries: &mut Entries<A>, updates: &Updates<A>)
     }
 }
 
-/// Puts in all that is added, or leaves all as it was.
-fn add_all<A: Allocator + Copy>(
-    entries: &mut Entries<A>,
-    updates: &Updates<A>,
-) -> Result<(), AllocError>
-    requires listing { IsListing entries.old.entries }
-    requires update { IsUpdate entries.old.entries updates.now.entries }
-    ensures ok { OnOk result (entries.new.entries
-        ≡ after_each added_at entries.old.entries updates.now.entries) }
-    ensures unchanged { OnErr result (entries.new.entries ≡ entries.old.entries) }
-{
-    match add_each(entries, updates) {
-        Ok(()) => Ok(()),
-        Err(refused) => {
-            // A tree can't be asked for room beforehand, so what it has got is taken out again.
-            drop_each_added(entries, updates);
-            Err(refused)
-        }
-    }
-}
-
 /// Updates the entries in place. If an allocation fails, nothing has changed.
 pub(crate) fn update_entries<A: Allocator + Copy>(
     entries: &mut Entries<A>,
@@ -151,7 +116,11 @@ pub(crate) fn update_entries<A: Allocator + Copy>(
     ensures unchanged { OnErr result (entries.new.entries ≡ entries.old.entries) }
 {
     // What can be refused comes first: only a path that is added takes memory.
-    add_all(entries, updates)?;
+    if let Err(refused) = add_each(entries, updates) {
+        // A tree can't be asked for room beforehand, so what it has got is taken out again.
+        drop_each_added(entries, updates);
+        return Err(refused);
+    }
     change_each(entries, updates);
     Ok(())
 }

@@ -1,6 +1,6 @@
 -- What a round keeps of the last listing, since some paths couldn't be looked at, makes a listing with the rest.
 use Rattle.std.proofs.Common.{◌≡◌, Bool, true, false, not, ◌&&◌, ◌||◌, [], ◌∷◌, ◌++◌, cond, filter, refl, ap, sym, subst, ◌∙◌, Option, None, true≢false}
-use Rattle.std.specs.Prelude.{IfSome, List, OnOk, Result, Ok, Err, is_some, if◌then◌else◌}
+use Rattle.std.specs.Prelude.{IfOk, IfSome, IsOkAnd, List, Result, Ok, Err, is_some, if◌then◌else◌}
 use Rattle.std.specs.List.{AllByRecursion}
 use Rattle.std.specs.Map.{keys_of}
 use Rattle.std.specs.BTreeMap.{is_at}
@@ -22,8 +22,9 @@ use Rattle.folder_listing.proofs.PrefixLemmas.{prefix-trans}
 use Rattle.folder_listing.proofs.UpdateLemmas.{Ascends, updated-finds, updated-sorted}
 use Rattle.folder_listing.proofs.WalkLemmas.{has_entry-some}
 use Rattle.notify_types.specs.declared.event.RecursiveMode.{RecursiveMode}
-use Rattle.poll_rounds.specs.Closed.{ClosedValue, IsKept, RoundKeeps, is_kept, keeps}
+use Rattle.poll_rounds.specs.Closed.{ClosedValue, IsKept, LookKeeps, RoundKeeps, is_kept, keeps}
 use Rattle.poll_rounds.specs.Folders.{IsTree, shown}
+use Rattle.poll_rounds.specs.Parts.{LooksEach}
 
 -- what holds of each entry's path that is there
 each_entry : (P : PathValue → Type 0) (all es : ListingValue) → ((q : PathValue) → has_entry all q ≡ true → P q) →
@@ -228,11 +229,38 @@ module _ (closed : ClosedValue) (last : ListingValue) (us new : UpdatesValue) (l
       by q true = refl
       by q false = up.fits q
 
+-- if nothing is closed, all that was found is told
+none-kept : (last : ListingValue) (us : UpdatesValue) → filter (λ u. not (is_kept [] last u.0)) us ≡ us
+none-kept last [] = refl
+none-kept last (u ∷ us) = ap (λ xs. u ∷ xs) (none-kept last us)
+
+pub whole : (closed : ClosedValue) (last : ListingValue) (us new : UpdatesValue) →
+    new ≡ filter (λ u. not (is_kept closed last u.0)) us → closed ≡ [] → new ≡ us
+whole closed last us new fewer none =
+    fewer ∙ (ap (λ cs. filter (λ u. not (is_kept cs last u.0)) us) none ∙ none-kept last us)
+
 -- a round that found what the folders show keeps what is closed
-pub round-keeps : {T E : Type 0} (r : Result T E) (told : Option ListingValue)
-    (roots : List (PathValue × RecursiveMode)) (closed noted : ClosedValue) (last found new : ListingValue) →
-    noted ≡ closed → IfSome told (λ tree. IsTree tree → found ≡ shown tree roots) →
-    OnOk r (IsKept noted last found new) → OnOk r (RoundKeeps told roots closed last new)
-round-keeps (Ok x) told roots closed noted last found new same shows k =
-    (found, shows, subst (λ cs. IsKept cs last found new) same k)
-round-keeps (Err e) told roots closed noted last found new same shows k = tt
+pub round-keeps : {U E : Type 0} (entries : U → UpdatesValue) (walk : Result U E) (told told_then : Option ListingValue)
+    (roots : List (PathValue × RecursiveMode)) (closed noted : ClosedValue) (last new : ListingValue) →
+    noted ≡ closed → told_then ≡ told →
+    IfSome told_then (λ tree. IsTree tree → IfOk walk (λ u. updated last (entries u) ≡ shown tree roots)) →
+    IsOkAnd walk (λ u. IsKept noted last (updated last (entries u)) new) → RoundKeeps told roots closed last new
+round-keeps entries (Ok u) told told_then roots closed noted last new same alike shows k = (
+  updated last (entries u),
+  subst (λ o. IfSome o (λ tree. IsTree tree → updated last (entries u) ≡ shown tree roots)) alike shows,
+  subst (λ cs. IsKept cs last (updated last (entries u)) new) same k,
+)
+round-keeps entries (Err e) told told_then roots closed noted last new same alike shows k = absurd k
+
+-- .. and so does a look
+pub look-keeps : {U E : Type 0} (entries : U → UpdatesValue) (walk : Result U E) (told told_then : Option ListingValue)
+    (roots : List (PathValue × RecursiveMode)) (paths : List PathValue) (closed noted : ClosedValue)
+    (last new : ListingValue) → noted ≡ closed → told_then ≡ told →
+    IfOk walk (λ u. LooksEach told_then roots paths last (updated last (entries u))) →
+    IsOkAnd walk (λ u. IsKept noted last (updated last (entries u)) new) → LookKeeps told roots paths closed last new
+look-keeps entries (Ok u) told told_then roots paths closed noted last new same alike looks k = (
+  updated last (entries u),
+  subst (λ o. LooksEach o roots paths last (updated last (entries u))) alike looks,
+  subst (λ cs. IsKept cs last (updated last (entries u)) new) same k,
+)
+look-keeps entries (Err e) told told_then roots paths closed noted last new same alike looks k = absurd k

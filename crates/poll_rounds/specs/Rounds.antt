@@ -1,7 +1,6 @@
 -- What a round of polling reports to its handler.
-use Rattle.std.specs.Prelude.{◌≡◌, ℕ, Bool, true, false, List, [], ◌∷◌, Result, Ok, Err, MatchResult}
-use Rattle.std.specs.declared.vec.Vec.{Vec}
-use Rattle.notify_paths.specs.Errors.{ErrorValue}
+use Rattle.std.specs.Prelude.{◌≡◌, ◌⊎◌, ℕ, List, [], ◌∷◌, Result, Ok, Err, IsErrOf}
+use Rattle.notify_paths.specs.Errors.{ErrorValue, out_of_memory}
 use Rattle.poll_rounds.specs.Folders.{IsRefusal}
 
 -- the events are reported, each by one call, in order
@@ -15,10 +14,7 @@ abbrev pub HandsRefusal : {H X : Type 0} → (H → Result X ErrorValue → H �
 HandsRefusal handles failed failed_now before after =
     (e : ErrorValue) × IsRefusal e failed failed_now × handles before (Err e) after
 
--- what a walk came to is reported: its events, in order, or its one error; the answer is whether it was no error
-abbrev pub HandsOutcome : {H X A : Type 0} → (H → Result X ErrorValue → H → Type 0) → Result (Vec X A) ErrorValue → Bool
-    → H → H → Type 0
-HandsOutcome handles outcome went_well before after =
-    MatchResult outcome
-    (λ events. (went_well ≡ true) × HandsEach handles events.items before after)
-    (λ e. (went_well ≡ false) × handles before (Err e) after)
+-- one error is reported, by one call: that of the walk, or what it found can't be told for want of memory
+abbrev pub HandsError : {H X U : Type 0} → (H → Result X ErrorValue → H → Type 0) → Result U ErrorValue → H → H → Type 0
+HandsError handles found before after =
+    (e : ErrorValue) × ((e ≡ out_of_memory) ⊎ IsErrOf found e) × handles before (Err e) after

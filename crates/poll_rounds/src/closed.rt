@@ -1,18 +1,17 @@
 //! Rounds and looks that keep what can't be looked at.
-ghost use Rattle.std.specs.Prelude.{◌≡◌, ◌≤◌, [], length, true, false, IfErr, IfOk, OnErr, OnOk};
+ghost use Rattle.std.specs.Prelude.{◌≡◌, ◌≤◌, ◌⊎◌, [], length, true, false, IfErr, IfOk, IsErrOf, IsOkAnd, OnErr, OnOk};
 ghost use Rattle.notify_paths.specs.Errors.{out_of_memory};
 ghost use Rattle.folder_listing.specs.Moves.{told_changes, trackers_after};
 ghost use Rattle.folder_listing.specs.Updates.{IsUpdate, updated};
 ghost use Rattle.poll_rounds.specs.Closed.{ClosedValue, IsKept, LookKeeps, RoundKeeps, is_kept, keeps};
-ghost use Rattle.poll_rounds.specs.Folders.{IsRefusal};
-ghost use Rattle.poll_rounds.specs.Rounds.{HandsEach, HandsOutcome, HandsRefusal};
+ghost use Rattle.poll_rounds.specs.Rounds.{HandsEach, HandsRefusal};
 
 use crate::folders::Folders;
 use crate::list::list_beside;
 use crate::look::list_near;
 use crate::round::pass_on;
 use folder_listing::listing::Listing;
-use folder_listing::moves::{compare_moves, trackers_after};
+use folder_listing::moves::compare_moves;
 use folder_listing::updates::Updates;
 use notify_paths::error::Error;
 use notify_paths::path::PathBuf;
@@ -66,6 +65,7 @@ fn keep<A: Allocator + Copy>(closed: &[Closed<A>], last: &Listing<A>, updates: &
     requires { IsUpdate last.now updates.old.entries }
     ensures kept { IsKept closed.now last.now (updated last.now updates.old.entries)
         (updated last.now updates.new.entries) }
+    ensures whole { closed.now ≡ [] → updates.new.entries ≡ updates.old.entries }
     ensures update { IsUpdate last.now updates.new.entries }
 {
     // This call shows the proof that the listing is one.
@@ -73,88 +73,29 @@ fn keep<A: Allocator + Copy>(closed: &[Closed<A>], last: &Listing<A>, updates: &
     updates.retain(|path, _update| !is_kept(closed, last, path));
 }
 
-/// Carries the updates out, but for what is kept, and returns the events that tell of it, with trackers of moves from
-/// this one on, if there is one. After an error nothing has changed.
-fn settle<A: Allocator + Copy>(
+/// Carries out what a walk found, but for what is kept, and returns the events that tell of it, with trackers of moves
+/// from this one on, if there is one. If the walk was refused, that is the answer. After an error nothing has changed.
+pub(crate) fn settle<A: Allocator + Copy>(
     alloc: A,
     closed: &[Closed<A>],
+    found: Result<Updates<A>, Error<A>>,
     trackers: Option<u64>,
     last: &mut Listing<A>,
-    mut updates: Updates<A>,
 ) -> Result<Vec<Event<A>, A>, Error<A>>
-    requires { IsUpdate last.old updates.entries }
-    ensures kept { OnOk result
-        (IsKept closed.now last.old (updated last.old updates.entries) last.new) }
+    requires { IfOk found (λ updates. IsUpdate last.old updates.entries) }
+    ensures kept { OnOk result (IsOkAnd found (λ updates.
+        IsKept closed.now last.old (updated last.old updates.entries) last.new)) }
+    ensures whole { closed.now ≡ [] → OnOk result (IsOkAnd found (λ updates.
+        last.new ≡ updated last.old updates.entries)) }
     ensures ok { IfOk result (λ events. events.items ≡ told_changes trackers last.old last.new) }
     ensures unchanged { OnErr result (last.new ≡ last.old) }
-    ensures err { IfErr result (λ e. e ≡ out_of_memory) }
+    ensures err { IfErr result (λ e. (e ≡ out_of_memory) ⊎ IsErrOf found e) }
 {
+    let mut updates = found?;
     keep(closed, last, &mut updates);
     let events = compare_moves(alloc, last, &updates, trackers)?;
     last.update(alloc, &updates)?;
     Ok(events)
-}
-
-/// Brings the last listing of the roots up to date, but for what is kept.
-fn renew_kept<A: Allocator + Copy, D: NotesClosed<A>>(
-    alloc: A,
-    folders: &mut D,
-    roots: &[(PathBuf<A>, RecursiveMode)],
-    last: &mut Listing<A>,
-    trackers: Option<u64>,
-) -> Result<Vec<Event<A>, A>, Error<A>>
-    ensures kept { OnOk result (RoundKeeps (D.told folders.old) roots.now (D.closed folders.new)
-        last.old last.new) }
-    ensures ok { IfOk result (λ events. events.items ≡ told_changes trackers last.old last.new) }
-    ensures unchanged { OnErr result (last.new ≡ last.old) }
-    ensures err { IfErr result (λ e. IsRefusal e (D.failed folders.old) (D.failed folders.new)) }
-    ensures same { D.told folders.new ≡ D.told folders.old }
-    ensures counted { D.failed folders.old ≤ D.failed folders.new }
-{
-    folders.forget_closed();
-    let updates = list_beside(alloc, folders, roots, last)?;
-    settle(alloc, folders.closed(), trackers, last, updates)
-}
-
-/// Brings the last listing up to date at the paths and below them, but for what is kept.
-fn renew_near_kept<A: Allocator + Copy, D: NotesClosed<A>>(
-    alloc: A,
-    folders: &mut D,
-    roots: &[(PathBuf<A>, RecursiveMode)],
-    last: &mut Listing<A>,
-    paths: &[PathBuf<A>],
-    trackers: Option<u64>,
-) -> Result<Vec<Event<A>, A>, Error<A>>
-    ensures kept { OnOk result (LookKeeps (D.told folders.old) roots.now paths.now
-        (D.closed folders.new) last.old last.new) }
-    ensures ok { IfOk result (λ events. events.items ≡ told_changes trackers last.old last.new) }
-    ensures unchanged { OnErr result (last.new ≡ last.old) }
-    ensures err { IfErr result (λ e. IsRefusal e (D.failed folders.old) (D.failed folders.new)) }
-    ensures same { D.told folders.new ≡ D.told folders.old }
-    ensures counted { D.failed folders.old ≤ D.failed folders.new }
-{
-    folders.forget_closed();
-    let updates = list_near(alloc, folders, roots, last, paths)?;
-    settle(alloc, folders.closed(), trackers, last, updates)
-}
-
-/// Reports what a walk came to as [`pass_on`], and keeps the first tracker that none of the events can have.
-fn pass_told<A: Allocator, H: EventHandler<Result<Event<A>, Error<A>>>>(
-    told: Result<Vec<Event<A>, A>, Error<A>>,
-    trackers: &mut Option<u64>,
-    handler: &mut H,
-) -> bool
-    requires { H.ready handler.old }
-    ensures again { H.ready handler.new }
-    ensures handed { HandsOutcome H.handles told result handler.old handler.new }
-    ensures trackers { IfOk told (λ events.
-        trackers.new ≡ trackers_after trackers.old (length events.items)) }
-    ensures untold { OnErr told (trackers.new ≡ trackers.old) }
-{
-    if let Ok(events) = &told {
-        *trackers = trackers_after(*trackers, events.len());
-    }
-    pass_on(told, handler)
 }
 
 /// One round as [`poll_round`](crate::round::poll_round), but what the last listing has at a path that can't be looked
@@ -191,8 +132,9 @@ pub fn kept_round<
     ensures same { D.told folders.new ≡ D.told folders.old }
     ensures counted { D.failed folders.old ≤ D.failed folders.new }
 {
-    let told = renew_kept(alloc, folders, roots, last, *trackers);
-    pass_told(told, trackers, handler)
+    folders.forget_closed();
+    let found = list_beside(alloc, folders, roots, last);
+    pass_on(alloc, folders.closed(), found, trackers, last, handler)
 }
 
 /// One look as [`look_round`](crate::look::look_round), which keeps as [`kept_round`] does.
@@ -225,6 +167,7 @@ pub fn kept_look<
     ensures same { D.told folders.new ≡ D.told folders.old }
     ensures counted { D.failed folders.old ≤ D.failed folders.new }
 {
-    let told = renew_near_kept(alloc, folders, roots, last, paths, *trackers);
-    pass_told(told, trackers, handler)
+    folders.forget_closed();
+    let found = list_near(alloc, folders, roots, last, paths);
+    pass_on(alloc, folders.closed(), found, trackers, last, handler)
 }

@@ -11,7 +11,6 @@ use crate::beside::Beside;
 use crate::folders::Folders;
 use crate::part::{list_anew, top_of};
 use crate::round::pass_on;
-use folder_listing::compare::compare_updates;
 use folder_listing::listing::Listing;
 use folder_listing::updates::Updates;
 use notify_paths::error::Error;
@@ -83,50 +82,6 @@ pub(crate) fn list_near<A: Allocator + Copy, D: Folders<A>>(
     beside.into_updates(alloc)
 }
 
-/// What becomes of the last listing, and the events that tell of it.
-fn look_near<A: Allocator + Copy, D: Folders<A>>(
-    alloc: A,
-    folders: &mut D,
-    roots: &[(PathBuf<A>, RecursiveMode)],
-    last: &Listing<A>,
-    paths: &[PathBuf<A>],
-) -> Result<(Updates<A>, Vec<Event<A>, A>), Error<A>>
-    ensures shown { IfOk result (λ pair. LooksEach (D.told folders.old) roots.now paths.now last.now
-        (updated last.now pair.0.entries)) }
-    ensures ok { IfOk result (λ pair. pair.1.items
-        ≡ changes last.now (updated last.now pair.0.entries)) }
-    ensures update { IfOk result (λ pair. IsUpdate last.now pair.0.entries) }
-    ensures err { IfErr result (λ e. IsRefusal e (D.failed folders.old) (D.failed folders.new)) }
-    ensures same { D.told folders.new ≡ D.told folders.old }
-    ensures counted { D.failed folders.old ≤ D.failed folders.new }
-{
-    let updates = list_near(alloc, folders, roots, last, paths)?;
-    let events = compare_updates(alloc, last, &updates)?;
-    Ok((updates, events))
-}
-
-/// Brings the last listing up to date, in place, at the paths and below them, and returns the events that
-/// tell of it. After an error nothing has changed.
-fn renew_near<A: Allocator + Copy, D: Folders<A>>(
-    alloc: A,
-    folders: &mut D,
-    roots: &[(PathBuf<A>, RecursiveMode)],
-    last: &mut Listing<A>,
-    paths: &[PathBuf<A>],
-) -> Result<Vec<Event<A>, A>, Error<A>>
-    ensures shown { OnOk result
-        (LooksEach (D.told folders.old) roots.now paths.now last.old last.new) }
-    ensures ok { IfOk result (λ events. events.items ≡ changes last.old last.new) }
-    ensures unchanged { OnErr result (last.new ≡ last.old) }
-    ensures err { IfErr result (λ e. IsRefusal e (D.failed folders.old) (D.failed folders.new)) }
-    ensures same { D.told folders.new ≡ D.told folders.old }
-    ensures counted { D.failed folders.old ≤ D.failed folders.new }
-{
-    let (updates, events) = look_near(alloc, folders, roots, last, paths)?;
-    last.update(alloc, &updates)?;
-    Ok(events)
-}
-
 /// Lists anew what the roots show at each of the paths and below it; or at and below the first path above it
 /// that the last listing doesn't have as a folder, so that a folder is reported before what lies in it. If a
 /// root lies strictly below that, all roots are listed. Reports what changed since the last listing, and keeps
@@ -153,6 +108,7 @@ pub fn look_round<A: Allocator + Copy, D: Folders<A>, H: EventHandler<Result<Eve
     ensures same { D.told folders.new ≡ D.told folders.old }
     ensures counted { D.failed folders.old ≤ D.failed folders.new }
 {
-    let told = renew_near(alloc, folders, roots, last, paths);
-    pass_on(told, handler)
+    let found = list_near(alloc, folders, roots, last, paths);
+    let closed = Vec::new(alloc);
+    pass_on(alloc, closed.as_slice(), found, &mut None, last, handler)
 }

@@ -1,14 +1,17 @@
 //! One round of polling.
-ghost use Rattle.std.specs.Prelude.{◌≡◌, ◌≤◌, true, false, IfErr, IfOk, IfSome, OnErr, OnOk};
-ghost use Rattle.poll_rounds.specs.Folders.{IsRefusal, IsTree, shown};
+ghost use Rattle.std.specs.Prelude.{◌≡◌, ◌≤◌, [], true, false, length, IfOk, IfSome, IsOkAnd};
+ghost use Rattle.poll_rounds.specs.Closed.{IsKept};
+ghost use Rattle.poll_rounds.specs.Folders.{IsTree, shown};
 ghost use Rattle.folder_listing.specs.Changes.{changes};
+ghost use Rattle.folder_listing.specs.Moves.{told_changes, trackers_after};
 ghost use Rattle.folder_listing.specs.Updates.{IsUpdate, updated};
-ghost use Rattle.poll_rounds.specs.Rounds.{HandsEach, HandsOutcome, HandsRefusal};
+ghost use Rattle.poll_rounds.specs.Rounds.{HandsEach, HandsError, HandsRefusal};
 
+use crate::closed::{Closed, settle};
 use crate::folders::Folders;
 use crate::list::list_beside;
-use folder_listing::compare::compare_updates;
 use folder_listing::listing::Listing;
+use folder_listing::moves::trackers_after;
 use folder_listing::updates::Updates;
 use notify_paths::error::Error;
 use notify_paths::path::PathBuf;
@@ -30,17 +33,35 @@ pub fn hand_each<A: Allocator, H: EventHandler<Result<Event<A>, Error<A>>>>(
     }
 }
 
-/// Reports what a walk over folders came to: each event, in order, or its one error. Returns whether it was no error.
-pub(crate) fn pass_on<A: Allocator, H: EventHandler<Result<Event<A>, Error<A>>>>(
-    told: Result<Vec<Event<A>, A>, Error<A>>,
+/// Carries out what a walk over folders found, but for what is kept since these paths are closed, and reports what
+/// changed: each event, in order, with trackers of moves from this one on, if there is one. If the walk was refused, or
+/// the rest is, it reports that one error, and the last listing and the tracker stay. Returns whether it was no error.
+pub(crate) fn pass_on<A: Allocator + Copy, H: EventHandler<Result<Event<A>, Error<A>>>>(
+    alloc: A,
+    closed: &[Closed<A>],
+    found: Result<Updates<A>, Error<A>>,
+    trackers: &mut Option<u64>,
+    last: &mut Listing<A>,
     handler: &mut H,
 ) -> bool
-    requires { H.ready handler.old }
+    requires ready { H.ready handler.old }
+    requires update { IfOk found (λ updates. IsUpdate last.old updates.entries) }
     ensures again { H.ready handler.new }
-    ensures handed { HandsOutcome H.handles told result handler.old handler.new }
+    ensures given { result ≡ true →
+        HandsEach H.handles (told_changes trackers.old last.old last.new) handler.old handler.new }
+    ensures kept { result ≡ true → IsOkAnd found (λ updates.
+        IsKept closed.now last.old (updated last.old updates.entries) last.new) }
+    ensures whole { closed.now ≡ [] → result ≡ true → IsOkAnd found (λ updates.
+        last.new ≡ updated last.old updates.entries) }
+    ensures trackers { result ≡ true → trackers.new ≡ trackers_after trackers.old
+        (length (told_changes trackers.old last.old last.new)) }
+    ensures untold { result ≡ false → trackers.new ≡ trackers.old }
+    ensures unchanged { result ≡ false → last.new ≡ last.old }
+    ensures refused { result ≡ false → HandsError H.handles found handler.old handler.new }
 {
-    match told {
+    match settle(alloc, closed, found, *trackers, last) {
         Ok(events) => {
+            *trackers = trackers_after(*trackers, events.len());
             hand_each(events, handler);
             true
         }
@@ -49,48 +70,6 @@ pub(crate) fn pass_on<A: Allocator, H: EventHandler<Result<Event<A>, Error<A>>>>
             false
         }
     }
-}
-
-/// What becomes of the last listing of the roots, and the events that tell of it.
-fn list_again<A: Allocator + Copy, D: Folders<A>>(
-    alloc: A,
-    folders: &mut D,
-    roots: &[(PathBuf<A>, RecursiveMode)],
-    last: &Listing<A>,
-) -> Result<(Updates<A>, Vec<Event<A>, A>), Error<A>>
-    ensures shown { IfSome (D.told folders.old) (λ tree. IsTree tree →
-        IfOk result (λ pair. updated last.now pair.0.entries ≡ shown tree roots.now)) }
-    ensures ok { IfOk result (λ pair. pair.1.items
-        ≡ changes last.now (updated last.now pair.0.entries)) }
-    ensures update { IfOk result (λ pair. IsUpdate last.now pair.0.entries) }
-    ensures err { IfErr result (λ e. IsRefusal e (D.failed folders.old) (D.failed folders.new)) }
-    ensures same { D.told folders.new ≡ D.told folders.old }
-    ensures counted { D.failed folders.old ≤ D.failed folders.new }
-{
-    let updates = list_beside(alloc, folders, roots, last)?;
-    let events = compare_updates(alloc, last, &updates)?;
-    Ok((updates, events))
-}
-
-/// Brings the last listing of the roots up to date, in place, and returns the events that tell of it. After
-/// an error nothing has changed.
-fn renew<A: Allocator + Copy, D: Folders<A>>(
-    alloc: A,
-    folders: &mut D,
-    roots: &[(PathBuf<A>, RecursiveMode)],
-    last: &mut Listing<A>,
-) -> Result<Vec<Event<A>, A>, Error<A>>
-    ensures shown { IfSome (D.told folders.old) (λ tree. IsTree tree →
-        OnOk result (last.new ≡ shown tree roots.now)) }
-    ensures ok { IfOk result (λ events. events.items ≡ changes last.old last.new) }
-    ensures unchanged { OnErr result (last.new ≡ last.old) }
-    ensures err { IfErr result (λ e. IsRefusal e (D.failed folders.old) (D.failed folders.new)) }
-    ensures same { D.told folders.new ≡ D.told folders.old }
-    ensures counted { D.failed folders.old ≤ D.failed folders.new }
-{
-    let (updates, events) = list_again(alloc, folders, roots, last)?;
-    last.update(alloc, &updates)?;
-    Ok(events)
 }
 
 /// Lists the roots, reports what changed since the last listing, and keeps the new one. If listing or
@@ -117,6 +96,7 @@ pub fn poll_round<A: Allocator + Copy, D: Folders<A>, H: EventHandler<Result<Eve
     ensures same { D.told folders.new ≡ D.told folders.old }
     ensures counted { D.failed folders.old ≤ D.failed folders.new }
 {
-    let told = renew(alloc, folders, roots, last);
-    pass_on(told, handler)
+    let found = list_beside(alloc, folders, roots, last);
+    let closed = Vec::new(alloc);
+    pass_on(alloc, closed.as_slice(), found, &mut None, last, handler)
 }
