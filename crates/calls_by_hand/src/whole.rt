@@ -19,7 +19,6 @@ use notify_types::event::RecursiveMode;
 use notify_watch::config::Config;
 use notify_watch::handler::DebounceEventResult;
 use path_sets::PathSet;
-use poll_roots::polled::Polled;
 use std::alloc::Allocator;
 use std::time::Duration;
 
@@ -31,10 +30,8 @@ pub type FixedReports<K, R, A> = Reports<FixedWatcher<K, R, A>, R, A>;
 pub struct ReadWhole<A: DebouncerAllocator> {
     /// Its paths, once it has played all.
     pub paths: PathSet<A>,
-    /// The roots, and what the watcher found last.
-    pub found: Polled<A>,
-    /// Whether the watcher's last round went well.
-    pub went_well: bool,
+    /// What the watcher found last: the roots, their listing, and whether its last round went well.
+    pub found: LastFound<A>,
     /// How many events and errors of the watcher were missed.
     pub missed: u64,
     /// How many reports could not be put into the queue.
@@ -59,7 +56,8 @@ pub fn read_tree<
     patience: Duration,
 ) -> Result<ReadWhole<A>, Error<A>>
     ensures ok { IfOk result (λ all.
-        ReadsTree K.tree all.found.roots all.went_well all.missed all.unsent all.paths) }
+        ReadsTree K.tree all.found.polled.roots all.found.went_well all.missed all.unsent
+        all.paths) }
     ensures err { IfErr result IsReadError }
 {
     let mut reports = watch_fixed::<K, R, A>(rt, alloc, timeout, path, mode)?;
@@ -130,7 +128,8 @@ fn finish_read<K: FixedTree<A> + Drop + Send + 'static, R: DebouncerRuntime, A: 
     requires made { BeganWithNothing reports.debouncer.made }
     requires played { paths ≡ read_on [] reports.queue.given }
     ensures ok { IfOk result (λ all.
-        ReadsTree K.tree all.found.roots all.went_well all.missed all.unsent all.paths) }
+        ReadsTree K.tree all.found.polled.roots all.found.went_well all.missed all.unsent
+        all.paths) }
     ensures err { IfErr result (λ e. e ≡ out_of_memory) }
 {
     law_of_one_feeder();
@@ -142,11 +141,10 @@ fn finish_read<K: FixedTree<A> + Drop + Send + 'static, R: DebouncerRuntime, A: 
         last,
     } = reports.finish();
     let paths = read_rest(paths, queue.as_slice(), &book)?;
-    let LastFound { polled, went_well } = last.unwrap();
+    let found = last.unwrap();
     Ok(ReadWhole {
         paths,
-        found: polled,
-        went_well,
+        found,
         missed,
         unsent,
     })

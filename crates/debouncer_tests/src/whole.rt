@@ -59,12 +59,12 @@ fn read_garden<R: DebouncerRuntime + Abort + AllocGlobal>(rt: R) {
     );
     let ReadWhole {
         paths,
-        found: _,
-        went_well,
+        found,
         missed,
         unsent,
     } = read.expect(&rt, "memory and threads");
-    assert_eq!(rt; (went_well, missed, unsent), (true, 0, 0));
+    assert_eq!(rt; (found.went_well, missed, unsent), (true, 0, 0));
+    drop(found);
     let paths = paths.to_list().expect(&rt, "memory");
     match paths.as_slice() {
         [garden, bed, rose] => {

@@ -4,7 +4,7 @@ use crate::books::{Core, tell_book, tell_entries, tell_journal};
 use crate::by_hand::play_by_hand;
 use crate::folder::play_file_line;
 use crate::mirror::watch_as_mirror;
-use crate::polling::{Polls, play_polling};
+use crate::polling::play_polling;
 use crate::recommended::{play_closure, play_recommended};
 use crate::reports::play_reports;
 use crate::scene::{Host, LINES, Scene, next_line, number, split};
@@ -27,40 +27,36 @@ pub fn path<A: TestHeap>(heap: A, text: &str) -> io::Result<PathBuf<A>> {
 }
 
 /// Plays the scene's lines.
-pub fn play<T: ListingWatcher<Feed<NoCache, R, A>, R, A>, P: Polls<R>, R: Host, A: TestHeap>(
+pub fn play<T: ListingWatcher<Feed<NoCache, R, A>, R, A>, R: Host, A: TestHeap>(
     scene: &mut Scene<R, A>,
 ) -> io::Result<()>
     requires takes { (feed : _) → T.takes feed }
-    requires polls { (feed : _) → P.takes feed }
 {
     let mut rest = scene.stage.script;
     for _ in 0..LINES {
         let Some(line) = next_line(&mut rest) else {
             break;
         };
-        play_next::<T, P, R, A>(scene, line, &mut rest)?;
+        play_next::<T, R, A>(scene, line, &mut rest)?;
     }
     Ok(())
 }
 
 /// Plays a line, and those up to the one that ends what it starts.
-fn play_next<T: ListingWatcher<Feed<NoCache, R, A>, R, A>, P: Polls<R>, R: Host, A: TestHeap>(
+fn play_next<T: ListingWatcher<Feed<NoCache, R, A>, R, A>, R: Host, A: TestHeap>(
     scene: &mut Scene<R, A>,
     line: &str,
     rest: &mut &'static str,
 ) -> io::Result<()>
     requires takes { (feed : _) → T.takes feed }
-    requires polls { (feed : _) → P.takes feed }
 {
     match split(line) {
         ("start" | "start_journaled", _) => play_started::<T, R, A>(scene, line, rest),
         ("start_reports", _) => play_reports::<T, R, A>(scene, line, rest),
-        ("poll" | "poll_from_nothing" | "poll_by_lengths", _) => play_polling::<P, R, A>(
-            scene, line, rest,
-        ),
+        ("poll" | "poll_from_nothing" | "poll_by_lengths", _) => play_polling(scene, line, rest),
         ("by_hand", _) => play_by_hand(scene, line),
         ("recommended", _) => play_recommended(scene, line),
-        ("closure", _) => play_closure::<P, R, A>(scene, line),
+        ("closure", _) => play_closure(scene, line),
         ("mirror", words) => watch_as_mirror::<T, R, A>(scene, line, words, false),
         ("mirror_full", words) => watch_as_mirror::<T, R, A>(scene, line, words, true),
         _ => play_file_line(scene, line),

@@ -7,7 +7,8 @@
 //! prints `ok` for each scene, or what differs, and then ends with status 1; so it does, and says why, if the
 //! document can't be read, a call fails that has to succeed, memory is out or the output fails.
 //!
-//! All but `main` is over any watchers, runtime and memory, since what is known of them makes a proof dearer.
+//! All but `main` is over any runtime and memory, and nearly all over any watcher: what is known of them makes a
+//! proof dearer.
 #![tactic(auto)]
 
 mod acts;
@@ -28,8 +29,7 @@ mod words;
 use acts::play;
 use document::Section;
 use folder::{make_folder, remove_folder};
-use notify_debouncer_full::{Feed, ListingWatcher, NoCache, PollWatcher};
-use polling::Polls;
+use notify_debouncer_full::{Feed, ListingWatcher, NoCache};
 use refusing_allocator::{Heap, TestHeap};
 use scene::{Host, Scene};
 use stage::{OnStage, Staged};
@@ -41,18 +41,17 @@ use std::{fs, io, process};
 use watcher::Puppet;
 
 /// Plays a scene once, in its nth run, and returns what it printed.
-fn play_once<
-    T: ListingWatcher<Feed<NoCache, R, A>, R, A>,
-    P: Polls<R>,
-    R: Staged + Host,
-    A: TestHeap,
->(rt: R, top: &str, script: &'static str, run: u64) -> io::Result<String>
+fn play_once<T: ListingWatcher<Feed<NoCache, R, A>, R, A>, R: Staged + Host, A: TestHeap>(
+    rt: R,
+    top: &str,
+    script: &'static str,
+    run: u64,
+) -> io::Result<String>
     requires takes { (feed : _) → T.takes feed }
-    requires polls { (feed : _) → P.takes feed }
 {
     let rt = rt.anew(script)?;
     let mut scene: Scene<R, A> = Scene::new(rt, rt.stage(), run, top)?;
-    play::<T, P, R, A>(&mut scene)?;
+    play::<T, R, A>(&mut scene)?;
     Ok(scene.into_text())
 }
 
@@ -62,16 +61,14 @@ const RUNS: u64 = 400;
 /// Plays the scene of a section until it has printed its last text, or prints what isn't among them.
 fn play_section<
     T: ListingWatcher<Feed<NoCache, R, A>, R, A>,
-    P: Polls<R>,
     R: Staged + Host,
     A: TestHeap,
     O: Write,
 >(rt: R, top: &str, section: &mut Section, out: &mut O) -> io::Result<()>
     requires takes { (feed : _) → T.takes feed }
-    requires polls { (feed : _) → P.takes feed }
 {
     for run in 1..RUNS {
-        let printed = play_once::<T, P, R, A>(rt, top, section.script, run)?;
+        let printed = play_once::<T, R, A>(rt, top, section.script, run)?;
         if !section.goes_on(run, printed.as_str(), out)? {
             break;
         }
@@ -83,19 +80,17 @@ fn play_section<
 /// it should, and answers it.
 fn check_section<
     T: ListingWatcher<Feed<NoCache, R, A>, R, A>,
-    P: Polls<R>,
     R: Staged + Host,
     A: TestHeap,
     O: Write,
 >(rt: R, top: &str, text: &'static str, out: &mut O) -> io::Result<bool>
     requires takes { (feed : _) → T.takes feed }
-    requires polls { (feed : _) → P.takes feed }
 {
     let Some(mut section) = Section::read(rt.alloc(), text)? else {
         return Ok(true);
     };
     make_folder(&rt, top)?;
-    play_section::<T, P, R, A, O>(rt, top, &mut section, out)?;
+    play_section::<T, R, A, O>(rt, top, &mut section, out)?;
     remove_folder(&rt, top)?;
     section.tell(out)
 }
@@ -103,20 +98,28 @@ fn check_section<
 /// Checks the scenes of a document in turn, and answers whether each prints what it should.
 fn check_document<
     T: ListingWatcher<Feed<NoCache, R, A>, R, A>,
-    P: Polls<R>,
     R: Staged + Host,
     A: TestHeap,
     O: Write,
 >(rt: R, top: &str, document: &'static str, out: &mut O) -> io::Result<bool>
     requires takes { (feed : _) → T.takes feed }
-    requires polls { (feed : _) → P.takes feed }
 {
     let mut all_met = true;
     for text in document.split("\n## ") {
-        let met = check_section::<T, P, R, A, O>(rt, top, text, out)?;
+        let met = check_section::<T, R, A, O>(rt, top, text, out)?;
         all_met = all_met && met;
     }
     Ok(all_met)
+}
+
+/// Checks the scenes of a document over the watcher that does what a scene's lines say.
+fn check_scenes<R: Staged + Host, A: TestHeap, O: Write>(
+    rt: R,
+    top: &str,
+    document: &'static str,
+    out: &mut O,
+) -> io::Result<bool> {
+    check_document::<Puppet<R, A>, R, A, O>(rt, top, document, out)
 }
 
 /// The text of the document.
@@ -130,12 +133,9 @@ fn top_of(rt: &impl AllocGlobal, id: u32) -> Result<String, AllocError> {
     format!(in rt.alloc(); "/tmp/scenes_{id}")
 }
 
-/// The runtime of the scenes.
-type Played = OnStage<HostRuntime>;
-
 fn main(rt: HostRuntime) -> io::Result<ExitCode> {
     let top = top_of(&rt, process::id(rt.process()))?;
-    let met = check_document::<Puppet<Played, Heap>, PollWatcher<Played>, Played, Heap, _>(
+    let met = check_scenes::<OnStage<HostRuntime>, Heap, _>(
         OnStage::new(rt, "")?,
         top.as_str(),
         document_of(&rt)?,

@@ -33,9 +33,18 @@ impl<R: Host> Polls<R> for PollWatcher<R, Global> {
     }
 }
 
+/// Starts reports over the watcher that polls, and plays the lines up to the one that ends them.
+pub fn play_polling<R: Host, A: TestHeap>(
+    scene: &mut Scene<R, A>,
+    line: &str,
+    rest: &mut &'static str,
+) -> io::Result<()> {
+    play_polled::<PollWatcher<R>, R, A>(scene, line, rest)
+}
+
 /// Starts reports, which look as often as the line says, and plays the lines up to the one that ends
 /// them.
-pub fn play_polling<T: Polls<R>, R: Host, A: TestHeap>(
+fn play_polled<T: Polls<R>, R: Host, A: TestHeap>(
     scene: &mut Scene<R, A>,
     line: &str,
     rest: &mut &'static str,

@@ -7,7 +7,7 @@ use crate::stage::wait_for;
 use crate::words::given;
 use crossbeam_channel::{Receiver, Sender, unbounded};
 use notify_debouncer_full::{
-    Config, DebounceEventResult, NoCache, RecommendedDebouncer, RecursiveMode, SendTo,
+    Config, DebounceEventResult, NoCache, PollWatcher, RecommendedDebouncer, RecursiveMode, SendTo,
     new_debouncer, new_debouncer_opt, new_debouncer_with_config,
 };
 use refusing_allocator::TestHeap;
@@ -109,10 +109,15 @@ fn tell_report<R: Host, A: TestHeap>(
     Ok(())
 }
 
+/// Watches the scene's folder by a debouncer over the watcher that polls, whose handler is a closure.
+pub fn play_closure<R: Host, A: TestHeap>(scene: &mut Scene<R, A>, line: &str) -> io::Result<()> {
+    play_sending::<PollWatcher<R>, R, A>(scene, line)
+}
+
 /// Watches the scene's folder by a debouncer whose handler is a closure that sends what comes, and counts
 /// what it can't send. Prints whether a batch comes, and then, since nobody receives any more, whether
 /// one is counted.
-pub fn play_closure<T: Polls<R>, R: Host, A: TestHeap>(
+fn play_sending<T: Polls<R>, R: Host, A: TestHeap>(
     scene: &mut Scene<R, A>,
     line: &str,
 ) -> io::Result<()>
