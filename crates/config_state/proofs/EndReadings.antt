@@ -12,7 +12,7 @@ use Rattle.debounce_model.specs.Kept.{has_first, has_rename, is_among, is_waitin
 use Rattle.debounce_model.specs.Play.{accepted}
 use Rattle.debounce_model.specs.Queues.{Queues, events_at}
 use Rattle.debounce_model.specs.State.{State}
-use Rattle.debounce_model.specs.Tick.{IsOutlook, due_of, places}
+use Rattle.debounce_model.specs.Tick.{IsOutlook, due_of, state_places}
 use Rattle.debounce_laws.proofs.BatchTests.{any-batch}
 use Rattle.debounce_laws.proofs.KeptLemmas.{accepted-cons}
 use Rattle.debounce_laws.proofs.KeptQueues.{found-rests}
@@ -65,7 +65,7 @@ waits_in_outlook : (file : PathValue) (kind : EventKind) (s : State) (outlook : 
     → AreAllTold s.queues → IsOutlook s outlook → is_waiting file kind s ≡ true
     → is_among file kind outlook ≡ true
 waits_in_outlook file kind s outlook told o waits =
-    sym (any-batch stands (places (λ x. true) s) outlook o)
+    sym (any-batch stands (state_places (λ x. true) s) outlook o)
     ∙ list_any-append stands (due_of (λ x. true) s.rescan_slot) (place_list (λ x. true) s.queues)
     ∙ rw (waits_in_places file kind s.queues told waits) (or_true (list_any stands (due_of (λ x. true) s.rescan_slot)))
   where

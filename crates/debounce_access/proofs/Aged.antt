@@ -10,7 +10,7 @@ use Rattle.debounce_model.specs.Due.{last_of_kind, expired_beginning, place_list
 use Rattle.debounce_model.specs.Order.{InBatchOrder, placed}
 use Rattle.debounce_model.specs.Queues.{Queues}
 use Rattle.debounce_model.specs.State.{State, empty_state, raised}
-use Rattle.debounce_model.specs.Tick.{IsBatch, due_of, is_expired_in, places}
+use Rattle.debounce_model.specs.Tick.{IsBatch, due_of, is_expired_in, state_places}
 use Rattle.debounce_model.proofs.OrderLemmas.{events-placed}
 use Rattle.debounce_laws.proofs.DueLists.{each_weaken}
 use Rattle.debounce_laws.proofs.FoundedBatches.{each-append, each-last_of_kind}
@@ -64,7 +64,7 @@ batch_is_aged s now batch is =
     let due = is_expired_in s now in
     each_weaken (IsDue due) (λ x. s.timeout ≤ raised s now - x.time)
     (λ x yes. leb-true s.timeout (raised s now - x.time) yes) batch
-    (each_batch due (places due s) batch is
+    (each_batch due (state_places due s) batch is
     (each-append (IsDue due) (due_of due s.rescan_slot) _ (each_held due s.rescan_slot) (each_placed due s.queues)))
 
 -- the greatest moment so far is the state's

@@ -4,7 +4,7 @@ use Rattle.debounce_model.specs.Command.{CommandValue, EventCommand, ErrorComman
 use Rattle.debounce_model.specs.Roots.{with_root, without_roots}
 use Rattle.debounce_model.specs.State.{State, empty_state, with_error, without_errors}
 use Rattle.debounce_model.specs.Table.{event_step}
-use Rattle.debounce_model.specs.Tick.{IsBatch, tick_step}
+use Rattle.debounce_model.specs.Tick.{IsBatch, ticked_state}
 
 -- an accepted command with its reply, and the number of the script that it came from
 pub record EntryValue : Type 0 where
@@ -20,7 +20,7 @@ Accepts s (ErrorCommand error) NotedReply t = t ≡ with_error s error
 Accepts s (RootCommand path mode) RootedReply t = t ≡ record s { roots = with_root s.roots path mode }
 Accepts s (UnrootCommand path) UnrootedReply t = t ≡ record s { roots = without_roots s.roots path }
 Accepts s ErrorsCommand (ErrorsReply errors) t = (errors ≡ s.errors) × (t ≡ without_errors s)
-Accepts s (TickCommand now) (BatchReply batch) t = IsBatch s now batch × (t ≡ tick_step s now batch)
+Accepts s (TickCommand now) (BatchReply batch) t = IsBatch s now batch × (t ≡ ticked_state s now batch)
 Accepts s command reply t = ⊥
 
 -- from s on, the commands of the journal are accepted with their replies, and the last one leaves t

@@ -3,16 +3,16 @@ use Rattle.std.specs.Prelude.{ℕ, List}
 use Rattle.notify_paths.specs.Errors.{ErrorValue}
 use Rattle.debounce_model.specs.Cache.{Roots}
 use Rattle.debounce_model.specs.State.{State}
-use Rattle.debounce_table.specs.declared.table.Waiting.{Waiting}
+use Rattle.debounce_table.specs.declared.table.Pending.{Pending}
 
 module _ {Z : Type 0} where
   -- the state that these are the parts of
-  abbrev pub state_of : Waiting Z → Roots → List ErrorValue → ℕ → ℕ → ℕ → ℕ → State
-  state_of waiting roots errors timeout latest taken given = record {
-    queues = waiting.queues;
+  abbrev pub state_of : Pending Z → Roots → List ErrorValue → ℕ → ℕ → ℕ → ℕ → State
+  state_of pending roots errors timeout latest taken given = record {
+    queues = pending.queues;
     roots = roots;
-    rename_slot = waiting.rename_slot;
-    rescan_slot = waiting.rescan_slot;
+    rename_slot = pending.rename_slot;
+    rescan_slot = pending.rescan_slot;
     errors = errors;
     timeout = timeout;
     latest = latest;

@@ -27,7 +27,7 @@ use Rattle.debounce_model.specs.Queues.{Queues}
 use Rattle.debounce_model.specs.Run.{Run}
 use Rattle.debounce_model.specs.State.{Core, State, held, waiting}
 use Rattle.debounce_model.specs.Table.{case_of, taken_as, event_step, raised_event}
-use Rattle.debounce_model.specs.Tick.{due_of, is_expired_in, places, IsBatch, tick_step}
+use Rattle.debounce_model.specs.Tick.{due_of, is_expired_in, state_places, IsBatch, ticked_state}
 use Rattle.debounce_model.specs.WellFormed.{kept_by, IsFirst, IsKeyed, AreQueues, IsWellFormed}
 use Rattle.debounce_model.proofs.OrderLemmas.{events-placed}
 use Rattle.debounce_model.proofs.StateLemmas.{well_formed_event, well_formed-tick}
@@ -191,7 +191,7 @@ module _ (path : PathValue) (kind : EventKind) where
       let due = is_expired_in s now in
       let slot = none_counted (due_of due s.rescan_slot) (slot_uncounted due s.rescan_slot flagged) in
       rw (
-        batch_counted (places due s) batch b,
+        batch_counted (state_places due s) batch b,
         sum_by-append (λ x. cond (counts x) 1 0) (due_of due s.rescan_slot) (place_list due s.queues),
       ) (omega (arith, slot, placed_counted due s.queues w.queues w.ordered))
 
@@ -242,7 +242,7 @@ event_counted s event now exists answer w =
 
 -- what a tick emits and what waits on are no more than what waited
 tick_bounded : (s : State) (now : ℕ) (batch : List Timed) → IsWellFormed s → IsBatch s now batch →
-    waiting (tick_step s now batch) + length batch ≤ waiting s
+    waiting (ticked_state s now batch) + length batch ≤ waiting s
 tick_bounded s now batch w b =
     omega (arith, (well_formed-tick (recounted s (waiting s) 0) now batch (well_formed-recounted s w) b).bounded)
 

@@ -11,7 +11,7 @@ use Rattle.debounce_model.specs.Founded.{AcceptedEvent, IsFounded, IsFoundedUnfl
 use Rattle.debounce_model.specs.Order.{InBatchOrder, placed}
 use Rattle.debounce_model.specs.Queues.{Queues}
 use Rattle.debounce_model.specs.State.{State}
-use Rattle.debounce_model.specs.Tick.{due_of, rest_of, places}
+use Rattle.debounce_model.specs.Tick.{due_of, rest_of, state_places}
 use Rattle.debounce_laws.proofs.FoundedQueues.{AreRenamed}
 use Rattle.debounce_model.proofs.OrderLemmas.{events-placed}
 use Rattle.debounce_laws.proofs.RenamedQueues.{IsRenamedTo}
@@ -105,10 +105,10 @@ module _ (history : List AcceptedEvent) where
 
   -- .. so is what a batch does
   pub founded_batch : (due : Timed → Bool) (s : State) (batch : List Timed) →
-      InBatchOrder (places due s) batch → IsFlagged s.rescan_slot → AreRenamed history s.queues →
+      InBatchOrder (state_places due s) batch → IsFlagged s.rescan_slot → AreRenamed history s.queues →
       AllByRecursion (IsFoundedUnflagged history) batch
   founded_batch due s batch o f a =
-      each-batch (IsFoundedUnflagged history) (places due s) batch o
+      each-batch (IsFoundedUnflagged history) (state_places due s) batch o
       (each-append (IsFoundedUnflagged history) (due_of due s.rescan_slot) (place_list due s.queues)
       (flagged_due history due s.rescan_slot f)
       (founded_unflagged (place_list due s.queues) (founded_places due s.queues a)))

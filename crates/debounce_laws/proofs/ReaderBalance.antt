@@ -12,7 +12,7 @@ use Rattle.debounce_model.specs.Order.{InBatchOrder}
 use Rattle.debounce_model.specs.Play.{Paths, has_path, play, events_of}
 use Rattle.debounce_model.specs.Queues.{Queues, events_at}
 use Rattle.debounce_model.specs.State.{State, raised}
-use Rattle.debounce_model.specs.Tick.{is_expired, is_expired_in, due_of, rest_of, IsBatch, IsOutlook, tick_step}
+use Rattle.debounce_model.specs.Tick.{is_expired, is_expired_in, due_of, rest_of, IsBatch, IsOutlook, ticked_state}
 use Rattle.debounce_laws.proofs.BatchReads.{batch_here}
 use Rattle.debounce_laws.proofs.DueLists.{FirstOnly}
 use Rattle.debounce_model.proofs.Entries.{sorted-changed}
@@ -91,7 +91,7 @@ expired_before timeout now x y up h = let old : timeout ≤ now - y.time = leb-t
 -- a tick keeps the balance
 pub balanced_tick : (s : State) (now : ℕ) (batch : List Timed) (reader raw : Paths) →
     IsBalancedIn s reader raw → IsBatch s now batch →
-    IsBalancedIn (tick_step s now batch) (play reader (events_of batch)) raw
+    IsBalancedIn (ticked_state s now batch) (play reader (events_of batch)) raw
 balanced_tick s now batch reader raw b o =
     rests_balanced s.queues s.rescan_slot s.latest reader raw b (is_expired_in s now) batch
     (subst (λ slot. InBatchOrder (due_of (is_expired_in s now) slot

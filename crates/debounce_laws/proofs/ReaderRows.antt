@@ -13,7 +13,7 @@ use Rattle.debounce_model.specs.PathsLaw.{read_paths}
 use Rattle.debounce_model.specs.Play.{accepted, raw_paths}
 use Rattle.debounce_model.specs.State.{State, empty_state}
 use Rattle.debounce_model.specs.Table.{event_step}
-use Rattle.debounce_model.specs.Tick.{tick_step, places, is_expired_in}
+use Rattle.debounce_model.specs.Tick.{ticked_state, state_places, is_expired_in}
 
 -- a folder
 abbrev d : PathValue
@@ -34,7 +34,7 @@ begun = event_step (event_step (empty_state 50) (event (Create create.Folder) d)
 
 -- a tick at 50 hands out the folder
 abbrev ticked : State
-ticked = tick_step begun 50 (places (is_expired_in begun 50) begun)
+ticked = ticked_state begun 50 (state_places (is_expired_in begun 50) begun)
 
 -- then the folder is removed at 40, which is taken at 50
 abbrev removed : State
@@ -49,7 +49,7 @@ first_commands more =
 -- .. the replies
 abbrev first_replies : List ReplyValue → List ReplyValue
 first_replies more =
-    TakenReply None ∷ TakenReply None ∷ BatchReply (places (is_expired_in begun 50) begun) ∷ more
+    TakenReply None ∷ TakenReply None ∷ BatchReply (state_places (is_expired_in begun 50) begun) ∷ more
 
 -- the stream is honest from no paths
 honest : are_honest [] (accepted (first_commands (EventCommand (event (Remove remove.Any) d) 40 false ∷ []))
@@ -57,7 +57,7 @@ honest : are_honest [] (accepted (first_commands (EventCommand (event (Remove re
 honest = refl
 
 -- after the tick the file waits
-file_waits : places (λ y. true) ticked ≡ record { event = event (Create create.File) x; time = 5 } ∷ []
+file_waits : state_places (λ y. true) ticked ≡ record { event = event (Create create.File) x; time = 5 } ∷ []
 file_waits = refl
 
 -- .. and both paths are raw
@@ -65,15 +65,15 @@ both_raw : raw_paths [] (first_commands []) (first_replies []) ≡ d ∷ x ∷ [
 both_raw = refl
 
 -- .. and the reader has both
-both_read : read_paths [] (first_replies []) (places (λ y. true) ticked) ≡ d ∷ x ∷ []
+both_read : read_paths [] (first_replies []) (state_places (λ y. true) ticked) ≡ d ∷ x ∷ []
 both_read = refl
 
 -- after the removal it waits alone, at the raised moment
-removal_waits : places (λ y. true) removed ≡ record { event = event (Remove remove.Any) d; time = 50 } ∷ []
+removal_waits : state_places (λ y. true) removed ≡ record { event = event (Remove remove.Any) d; time = 50 } ∷ []
 removal_waits = refl
 
 -- .. and the reader has neither
-none_read : read_paths [] (first_replies (TakenReply None ∷ [])) (places (λ y. true) removed) ≡ []
+none_read : read_paths [] (first_replies (TakenReply None ∷ [])) (state_places (λ y. true) removed) ≡ []
 none_read = refl
 
 -- a second creation of the folder is not honest

@@ -18,7 +18,7 @@ use Rattle.debounce_model.specs.Run.{Step, Run}
 use Rattle.debounce_model.specs.Soon.{IsEachYoung, is_emitted_by, is_emitted_at, is_event_soon, is_soon}
 use Rattle.debounce_model.specs.State.{Core, State, raised, waiting}
 use Rattle.debounce_model.specs.Table.{case_of, taken_as, event_step, raised_event}
-use Rattle.debounce_model.specs.Tick.{is_due, is_expired, is_expired_in, is_slot_due, rest_of, IsBatch, tick_step}
+use Rattle.debounce_model.specs.Tick.{is_due, is_expired, is_expired_in, is_slot_due, rest_of, IsBatch, ticked_state}
 use Rattle.debounce_laws.proofs.DueLists.{Rising, each_weaken, each_push, each_late, rising_push, rising_late, marks_gone}
 use Rattle.debounce_laws.proofs.EachQueue.{Each, each-push, each-removal, each-rests, each-rested, each-at, each-none}
 use Rattle.debounce_laws.proofs.KeptQueues.{found-push, found-removal, found-cuts}
@@ -60,7 +60,7 @@ same_moment : (latest now : ℕ) → max (max latest now) now ≡ max latest now
 same_moment latest now = omega arith
 
 -- after a tick nothing is due at its moment
-pub nothing_due : (s : State) (now : ℕ) (batch : List Timed) → is_due (tick_step s now batch) now ≡ false
+pub nothing_due : (s : State) (now : ℕ) (batch : List Timed) → is_due (ticked_state s now batch) now ≡ false
 nothing_due s now batch =
     subst (λ m. (is_slot_due (is_expired s.timeout m) (rest_of due s.rescan_slot)
     || is_any_due (is_expired s.timeout m) (rests due s.queues)) ≡ false) (sym (same_moment s.latest now))
@@ -260,7 +260,7 @@ module _ (path : PathValue) (kind : EventKind) (came moment : ℕ) where
   -- a tick emits what stands for the change, or it is no tick of the moment or later, and leaves it
   tick_emits : (s : State) (now : ℕ) (batch : List Timed) → IsBatch s now batch → AreOrderly s.latest s.queues →
       came + s.timeout ≤ moment → list_any stands_by (events_at s.queues path) ≡ true →
-      (rest : Bool) → (list_any stands_by (events_at (tick_step s now batch).queues path) ≡ true → rest ≡ true) →
+      (rest : Bool) → (list_any stands_by (events_at (ticked_state s now batch).queues path) ≡ true → rest ≡ true) →
       (is_among path kind batch || (not (nat_le moment (max s.latest now)) && rest)) ≡ true
   tick_emits s now batch b o old h rest more =
       by (is_among path kind batch) refl (nat_le moment (max s.latest now)) refl
@@ -310,7 +310,7 @@ module _ (path : PathValue) (kind : EventKind) (came moment : ℕ) where
       (rw (timeout_stays (case_of event exists) s (raised_event s event now) answer) old))
   carried s t (TickCommand now ∷ cs) (BatchReply batch ∷ ys) (m, step, more) o calm old h =
       tick_emits s now batch step.0 o old h (is_emitted_by moment path kind (max s.latest now) cs ys)
-      (λ g. carried (tick_step s now batch) t cs ys (subst (λ (k : State). StateRun k cs ys t) step.1 more)
+      (λ g. carried (ticked_state s now batch) t cs ys (subst (λ (k : State). StateRun k cs ys t) step.1 more)
       (orderly_rests (raised s now) (is_expired_in s now) s.queues
       (orderly_later s.latest (raised s now) (omega arith) s.queues o)) calm old g)
   carried s t (EventCommand event now exists ∷ cs) (RefusedReply error ∷ ys) (m, step, more) o calm old h =
@@ -378,7 +378,7 @@ soon s t (EventCommand event now exists ∷ cs) (TakenReply answer ∷ ys) (m, s
     (timeout_stays (case_of event exists) s (raised_event s event now) answer)
     (soon next t cs ys run (orderly_event s event now exists answer parts.0 o) parts.1))
 soon s t (TickCommand now ∷ cs) (BatchReply batch ∷ ys) (m, step, more) o calm =
-    soon (tick_step s now batch) t cs ys (subst (λ (k : State). StateRun k cs ys t) step.1 more)
+    soon (ticked_state s now batch) t cs ys (subst (λ (k : State). StateRun k cs ys t) step.1 more)
     (orderly_rests (raised s now) (is_expired_in s now) s.queues
     (orderly_later s.latest (raised s now) (omega arith) s.queues o)) calm
 soon s t (EventCommand event now exists ∷ cs) (RefusedReply error ∷ ys) (m, step, more) o calm =
@@ -442,7 +442,7 @@ orderly_run s t (EventCommand event now exists ∷ cs) (TakenReply answer ∷ ys
     (subst (λ (k : State). StateRun k cs ys t) step more) (orderly_event s event now exists answer parts.0 o)
     parts.1
 orderly_run s t (TickCommand now ∷ cs) (BatchReply batch ∷ ys) (m, step, more) o calm =
-    orderly_run (tick_step s now batch) t cs ys (subst (λ (k : State). StateRun k cs ys t) step.1 more)
+    orderly_run (ticked_state s now batch) t cs ys (subst (λ (k : State). StateRun k cs ys t) step.1 more)
     (orderly_rests (raised s now) (is_expired_in s now) s.queues
     (orderly_later s.latest (raised s now) (omega arith) s.queues o)) calm
 orderly_run s t (EventCommand event now exists ∷ cs) (RefusedReply error ∷ ys) (m, step, more) o calm =
@@ -468,7 +468,7 @@ orderly_run s t (c ∷ cs) (y ∷ ys) (m, step, more) o calm = absurd step
 -- after a run without an accepted rename, and a tick, each event that waits is young
 state_leaves_young : (s m : State) (commands : List CommandValue) (replies : List ReplyValue) →
     waiting s ≡ 0 → has_rename commands replies ≡ false → StateRun s commands replies m → (now : ℕ)
-    (batch : List Timed) → IsEachYoung (tick_step m now batch)
+    (batch : List Timed) → IsEachYoung (ticked_state m now batch)
 state_leaves_young s m commands replies h calm run now batch =
     each-rested (λ p q. AllByRecursion (λ x. due x ≡ false) q) due m.queues
     (each_weaken (λ e. IsOrderly m.latest e.0 e.1) (λ e. AllByRecursion (λ x. due x ≡ false) (rest_after due e.1))

@@ -11,7 +11,7 @@ use Rattle.notify_types.specs.declared.kind.RenameMode.TheVariants as rename
 use Rattle.debounce_model.specs.Queues.{Queues}
 use Rattle.debounce_model.specs.State.{State, empty_state}
 use Rattle.debounce_model.specs.Table.{event_step}
-use Rattle.debounce_model.specs.Tick.{tick_step, places, is_expired_in}
+use Rattle.debounce_model.specs.Tick.{ticked_state, state_places, is_expired_in}
 
 -- a path of one name
 abbrev at1 : List ℕ → PathValue
@@ -128,22 +128,22 @@ any a n = ev (Create create.Any) (at1 a ∷ []) no_attributes n
 -- a tick at 100, an event at 20, a tick at 60, and an ignored event at 150
 abbrev after_early_events : State
 after_early_events =
-    taken (tick_step (taken (tick_step (empty_state 50) 100 []) (any (codes "a") 20 ∷ [])) 60 [])
+    taken (ticked_state (taken (ticked_state (empty_state 50) 100 []) (any (codes "a") 20 ∷ [])) 60 [])
     (other (codes "q") 150 ∷ [])
 
 -- an event and a tick that come early are taken at the latest moment: an ignored event raised it
-raised_by_an_ignored_event : places (is_expired_in after_early_events 70) after_early_events
+raised_by_an_ignored_event : state_places (is_expired_in after_early_events 70) after_early_events
     ≡ any (codes "a") 100 ∷ []
 raised_by_an_ignored_event = refl
 
 -- .. at 60 nothing is due, since the first tick came at 100
-early_tick_hands_out_nothing : places
-    (is_expired_in (taken (tick_step (empty_state 50) 100 []) (any (codes "a") 20 ∷ [])) 60)
-    (taken (tick_step (empty_state 50) 100 []) (any (codes "a") 20 ∷ [])) ≡ []
+early_tick_hands_out_nothing : state_places
+    (is_expired_in (taken (ticked_state (empty_state 50) 100 []) (any (codes "a") 20 ∷ [])) 60)
+    (taken (ticked_state (empty_state 50) 100 []) (any (codes "a") 20 ∷ [])) ≡ []
 early_tick_hands_out_nothing = refl
 
 -- .. a tick at 70 leaves the latest moment
-tick_keeps_the_latest : (tick_step after_early_events 70 (any (codes "a") 100 ∷ [])).latest ≡ 150
+tick_keeps_the_latest : (ticked_state after_early_events 70 (any (codes "a") 100 ∷ [])).latest ≡ 150
 tick_keeps_the_latest = refl
 
 -- an ignored event at 30, and an event at 10
@@ -151,10 +151,10 @@ abbrev after_an_ignored_event : State
 after_an_ignored_event = taken (empty_state 50) (other (codes "q") 30 ∷ any (codes "a") 10 ∷ [])
 
 -- an event that comes early waits from the raised moment on
-waits_from_the_raised_moment : places (is_expired_in after_an_ignored_event 79) after_an_ignored_event ≡ []
+waits_from_the_raised_moment : state_places (is_expired_in after_an_ignored_event 79) after_an_ignored_event ≡ []
 waits_from_the_raised_moment = refl
 
 -- .. and no longer than that
-waits_from_the_raised_moment_due : places (is_expired_in after_an_ignored_event 80) after_an_ignored_event
+waits_from_the_raised_moment_due : state_places (is_expired_in after_an_ignored_event 80) after_an_ignored_event
     ≡ any (codes "a") 30 ∷ []
 waits_from_the_raised_moment_due = refl

@@ -20,7 +20,7 @@ use Rattle.debounce_model.specs.Rename.{is_both}
 use Rattle.debounce_model.specs.RenameSlot.{first_half}
 use Rattle.debounce_model.specs.State.{State, held}
 use Rattle.debounce_model.specs.Table.{case_of, FitsCase, renamed_to, raised_event, taken_as, taken_step, event_step}
-use Rattle.debounce_model.specs.Tick.{due_of, rest_of, places, is_slot_due, is_expired_in, tick_step, IsBatch}
+use Rattle.debounce_model.specs.Tick.{due_of, rest_of, state_places, is_slot_due, is_expired_in, ticked_state, IsBatch}
 use Rattle.debounce_model.specs.WellFormed.{IsFirst, IsKeyed, IsNonempty, HasNoBoth, IsBothInFront, AreQueues, IsWellFormed}
 use Rattle.debounce_model.proofs.Entries.{sorted-changed}
 use Rattle.debounce_model.proofs.GoodQueues.{IsBothFirst, IsBothBehind, AreGood, good-more, good-push, good-removal}
@@ -235,7 +235,7 @@ held-cut due (Some x) = by (due x)
 
 -- a tick keeps the laws of a state
 pub well_formed-tick : (s : State) (now : ℕ) (batch : List Timed) → IsWellFormed s → IsBatch s now batch →
-    IsWellFormed (tick_step s now batch)
+    IsWellFormed (ticked_state s now batch)
 well_formed-tick s now batch w b = record {
   queues = kept-rests (is_expired_in s now) s.queues w.queues;
   ordered = sorted-changed path_cmp_total (rest_after (is_expired_in s now))
@@ -247,7 +247,7 @@ well_formed-tick s now batch w b = record {
     held-cut (is_expired_in s now) s.rescan_slot,
     length-append (due_of (is_expired_in s now) s.rescan_slot)
         (place_list (is_expired_in s now) s.queues),
-    length-in_order (places (is_expired_in s now) s) batch b,
+    length-in_order (state_places (is_expired_in s now) s) batch b,
   );
 }
 
@@ -259,12 +259,12 @@ quiet_slot due (Some x) h = (rw h refl, rw h refl)
 
 -- where nothing is due, nothing is handed out and everything waits on
 pub quiet_state : (due : Timed → Bool) (s : State) → AreQueues s.queues →
-    (is_slot_due due s.rescan_slot || is_any_due due s.queues) ≡ false → (places due s ≡ [])
+    (is_slot_due due s.rescan_slot || is_any_due due s.queues) ≡ false → (state_places due s ≡ [])
     × (rests due s.queues ≡ s.queues) × (rest_of due s.rescan_slot ≡ s.rescan_slot)
 quiet_state due s a h = by (is_slot_due due s.rescan_slot) refl h
   where
     by : (b : Bool) → is_slot_due due s.rescan_slot ≡ b → (b || is_any_due due s.queues) ≡ false →
-        (places due s ≡ []) × (rests due s.queues ≡ s.queues) × (rest_of due s.rescan_slot ≡ s.rescan_slot)
+        (state_places due s ≡ []) × (rests due s.queues ≡ s.queues) × (rest_of due s.rescan_slot ≡ s.rescan_slot)
     by true e h = absurd (true≢false h)
     by false e h =
         let slot = quiet_slot due s.rescan_slot e in

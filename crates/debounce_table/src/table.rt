@@ -19,19 +19,19 @@ use std::alloc::{AllocError, Allocator};
 /// What waits: the queues, the first half of a rename that is kept for the second, and the last event
 /// that said that others were lost.
 #[derive(Drop)]
-pub struct Waiting<A: Allocator> {
+pub struct Pending<A: Allocator> {
     pub queues: IndexedQueues<A>,
     pub rename_slot: Option<RenameSlot<A>>,
     pub rescan_slot: Option<DebouncedEvent<A>>,
 }
 
-impl<A: Allocator + Copy> Waiting<A> {
-    pub fn new(alloc: A) -> Waiting<A>
+impl<A: Allocator + Copy> Pending<A> {
+    pub fn new(alloc: A) -> Pending<A>
         ensures queues { result.queues ≡ [] }
         ensures rename_slot { result.rename_slot ≡ None }
         ensures rescan_slot { result.rescan_slot ≡ None }
     {
-        Waiting {
+        Pending {
             queues: IndexedQueues::new(alloc),
             rename_slot: None,
             rescan_slot: None,

@@ -5,13 +5,13 @@ ghost use Rattle.debounce_model.specs.Queues.{without_queue, without_below};
 ghost use Rattle.event_queues.specs.Fronts.{IsIndexed};
 
 use crate::front::Front;
-use crate::index::Index;
+use crate::index::IndexedMap;
 use notify_paths::path::PathBuf;
 use paths_below::{copy_first_below, count_below, drop_below as drop_keys_below};
 use std::alloc::Allocator;
 use std::mem::replace;
 
-impl<A: Allocator + Copy> Index<A> {
+impl<A: Allocator + Copy> IndexedMap<A> {
     /// Takes out what waits at the path. It takes no memory.
     pub(crate) fn take_out(&mut self, path: &PathBuf<A>)
         requires { IsIndexed self.old.fronts self.old.map.entries }

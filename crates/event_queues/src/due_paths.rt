@@ -9,7 +9,7 @@ ghost use Rattle.event_queues.specs.Steps.{AreDuePaths, AreLater, ArePathsDue, A
 
 use crate::due::Due;
 use crate::fronts::{Fronts, pop_due};
-use crate::index::Index;
+use crate::index::IndexedMap;
 use crate::queues::QueueMap;
 use crate::settle::{Pairs, add_pair, insert_pairs};
 use notify_paths::path::PathBuf;
@@ -38,26 +38,6 @@ impl<A: Allocator> Model for DuePaths<A> {
     ghost view = { λ a. record { paths = a.paths; later = a.later.items } };
 }
 
-/// Adds references to what is due at the path, and the pair of what stays there.
-fn lend_at<'a, A: Allocator + Copy>(
-    places: &mut Vec<&'a DebouncedEvent<A>, A>,
-    later: &mut Pairs<A>,
-    map: &'a QueueMap<A>,
-    path: &PathBuf<A>,
-    due: Due,
-) -> Result<(), AllocError>
-    ensures places { OnOk result (borrowed places.new.items ≡ borrowed places.old.items
-        ++ emitted_of due (queue_at map.now.entries path.now)) }
-    ensures later { OnOk result (later.new.items ≡ later.old.items
-        ++ pair_of (front_after due (queue_at map.now.entries path.now)) path.now) }
-{
-    let Some(queue) = map.get(path) else {
-        return Ok(());
-    };
-    add_pair(later, queue.time_after(due), path)?;
-    queue.lend_due(due, places)
-}
-
 /// Adds references to what is due at these paths, in their order, and returns the later fronts: the
 /// pairs of what stays there.
 pub(crate) fn lend_each<'a, A: Allocator + Copy>(
@@ -76,7 +56,11 @@ pub(crate) fn lend_each<'a, A: Allocator + Copy>(
     let _paths = paths.len();
     let mut later = Vec::new(*places.allocator());
     for path in paths {
-        lend_at(places, &mut later, map, path, due)?;
+        let Some(queue) = map.get(path) else {
+            continue;
+        };
+        add_pair(&mut later, queue.time_after(due), path)?;
+        queue.lend_due(due, places)?;
     }
     Ok(later)
 }
@@ -139,7 +123,7 @@ fn drop_due<A: Allocator>(fronts: &mut Fronts<A>, due: Due)
     while let Some(_front) = pop_due(fronts, due) {}
 }
 
-impl<A: Allocator + Copy> Index<A> {
+impl<A: Allocator + Copy> IndexedMap<A> {
     /// The paths of the pairs that are due.
     pub(crate) fn due_paths(&self, due: Due) -> Result<Paths<A>, AllocError>
         ensures { IfOk result (λ paths. AreDuePaths due self.now.fronts paths) }

@@ -12,7 +12,7 @@ use std::collections::{BTreeMap, BTreeSet};
 /// The queues of all paths, and an index of their fronts. It has no law, since one of the two changes
 /// before the other: each method says what it asks of them, and what it leaves.
 #[derive(Drop)]
-pub(crate) struct Index<A: Allocator> {
+pub(crate) struct IndexedMap<A: Allocator> {
     pub(crate) map: QueueMap<A>,
     pub(crate) fronts: Fronts<A>,
     /// Has room for a copy of each key, so that a removal needs no memory. What it holds says nothing.
@@ -20,13 +20,13 @@ pub(crate) struct Index<A: Allocator> {
     pub(crate) alloc: A,
 }
 
-impl<A: Allocator + Copy> Index<A> {
+impl<A: Allocator + Copy> IndexedMap<A> {
     /// Returns no queues, with their index.
-    pub(crate) fn new(alloc: A) -> Index<A>
+    pub(crate) fn new(alloc: A) -> IndexedMap<A>
         ensures map { result.map.entries ≡ [] }
         ensures indexed { IsIndexed result.fronts result.map.entries }
     {
-        Index {
+        IndexedMap {
             map: BTreeMap::new(alloc),
             fronts: BTreeSet::new(alloc),
             spare: PathBuf::empty(alloc),

@@ -5,13 +5,13 @@ ghost use Rattle.debounce_model.specs.Memory.{skips_it};
 ghost use Rattle.debounce_model.specs.Queues.{push};
 ghost use Rattle.event_queues.specs.Fronts.{IsIndexed};
 
-use crate::index::Index;
+use crate::index::IndexedMap;
 use crate::queue::Queue;
 use debounce_model::case::first_path;
 use notify_types::event::DebouncedEvent;
 use std::alloc::{AllocError, Allocator};
 
-impl<A: Allocator + Copy> Index<A> {
+impl<A: Allocator + Copy> IndexedMap<A> {
     /// Puts the event after the others of its first path, unless their queue skips it; a path that has no
     /// queue gets one. It leaves room in `spare` for the path.
     pub(crate) fn push(&mut self, event: DebouncedEvent<A>) -> Result<(), AllocError>

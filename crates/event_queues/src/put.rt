@@ -6,7 +6,7 @@ ghost use Rattle.event_queues.specs.Fronts.{IsIndexed, has, is_time, front_time}
 ghost use Rattle.event_queues.specs.Steps.{HasOnly};
 
 use crate::front::Front;
-use crate::index::Index;
+use crate::index::IndexedMap;
 use crate::queue::Queue;
 use crate::queues::QueueMap;
 use notify_paths::path::PathBuf;
@@ -14,7 +14,7 @@ use notify_types::time::Moment;
 use std::alloc::{AllocError, Allocator};
 use std::mem::replace;
 
-impl<A: Allocator + Copy> Index<A> {
+impl<A: Allocator + Copy> IndexedMap<A> {
     /// Takes the front of the queue that was replaced at the path in `spare` out of the index, unless the
     /// new front is of the same time.
     fn drop_old_front(&mut self, old: &Queue<A>, time: Moment)

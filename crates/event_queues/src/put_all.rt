@@ -6,7 +6,7 @@ ghost use Rattle.event_queues.specs.Fronts.{IsIndexed};
 ghost use Rattle.event_queues.specs.Steps.{AreFilled, DifferAt, IsKept, IsWith, put_pairs, put_pairs_at};
 
 use crate::front::Front;
-use crate::index::Index;
+use crate::index::IndexedMap;
 use crate::queue::Queue;
 use crate::queues::{Placed, QueueMap};
 use crate::room::set_all;
@@ -39,7 +39,7 @@ pub(crate) fn take_only<A: Allocator>(queues: &mut Placed<A>) -> Option<(PathBuf
     queues.pop()
 }
 
-impl<A: Allocator + Copy> Index<A> {
+impl<A: Allocator + Copy> IndexedMap<A> {
     /// The fronts at the paths of these queues, before they are put there and after.
     fn fronts_at(&self, queues: &[(PathBuf<A>, Queue<A>)]) -> Result<Pairs<A>, AllocError>
         ensures { IfOk result (λ pairs. pairs.items ≡ put_pairs self.now.map.entries queues.now) }

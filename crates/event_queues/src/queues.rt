@@ -15,7 +15,7 @@ ghost use Rattle.event_queues.specs.Steps.{AreFilled};
 use crate::due::Due;
 use crate::due_paths::{DuePaths, lend_each};
 use crate::fronts::{is_newest_due, is_oldest_due};
-use crate::index::Index;
+use crate::index::IndexedMap;
 use crate::put_all::take_only;
 use crate::queue::Queue;
 use crate::whole::{is_all_due, lend_all_places};
@@ -35,7 +35,7 @@ pub type Placed<A> = Vec<(PathBuf<A>, Queue<A>), A>;
 /// The queues of all paths, none of them empty, and an index of them by the times of their fronts, which
 /// a tick goes by.
 pub struct IndexedQueues<A: Allocator = Global> {
-    index: Index<A>,
+    index: IndexedMap<A>,
 }
 
 // Not derived: a crate that drops queues proves only this call, not the drop of all that is in it.
@@ -63,7 +63,7 @@ impl<A: Allocator + Copy> IndexedQueues<A> {
         ensures { result ≡ [] }
     {
         IndexedQueues {
-            index: Index::new(alloc),
+            index: IndexedMap::new(alloc),
         }
     }
 

@@ -7,7 +7,7 @@ ghost use Rattle.debounce_model.specs.Moved.{with_queues};
 ghost use Rattle.event_queues.specs.Steps.{AreFilled};
 
 use crate::change::{Change, change_values};
-use crate::index::Index;
+use crate::index::IndexedMap;
 use crate::put::set;
 use crate::queue::Queue;
 use crate::queues::{Placed, QueueMap};
@@ -35,7 +35,7 @@ fn drop_empty<A: Allocator>(map: &mut QueueMap<A>)
     change_values(map, &KeepWaiting);
 }
 
-impl<A: Allocator + Copy> Index<A> {
+impl<A: Allocator + Copy> IndexedMap<A> {
     /// Puts an empty queue at the path, if it has none, and leaves room in `spare` for the path.
     fn reserve(&mut self, path: &PathBuf<A>) -> Result<(), AllocError>
         ensures ok { OnOk result (self.new.map.entries ≡ reserved self.old.map.entries path.now) }

@@ -7,7 +7,7 @@ ghost use Rattle.event_queues.specs.Steps.{AreFilled, DifferAt, IsKept, IsSame, 
 
 use crate::front::Front;
 use crate::fronts::{Fronts, front_of, is_front};
-use crate::index::Index;
+use crate::index::IndexedMap;
 use crate::queues::QueueMap;
 use notify_paths::path::PathBuf;
 use notify_types::time::Moment;
@@ -92,7 +92,7 @@ pub(crate) fn insert_copies<A: Allocator + Copy>(
     Ok(())
 }
 
-impl<A: Allocator + Copy> Index<A> {
+impl<A: Allocator + Copy> IndexedMap<A> {
     /// Takes the pair out of the index, unless it is a front.
     fn settle_one(&mut self, pair: &Front<A>)
         ensures fronts { IsSettledPair self.old.map.entries pair.now

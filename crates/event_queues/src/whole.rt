@@ -8,7 +8,7 @@ ghost use Rattle.debounce_model.proofs.DueCounts.{count_of};
 ghost use Rattle.event_queues.specs.Fronts.{IsIndexed};
 
 use crate::due::Due;
-use crate::index::Index;
+use crate::index::IndexedMap;
 use crate::queues::QueueMap;
 use notify_types::event::DebouncedEvent;
 use std::alloc::{AllocError, Allocator};
@@ -73,7 +73,7 @@ fn give_places<A: Allocator>(
     count
 }
 
-impl<A: Allocator + Copy> Index<A> {
+impl<A: Allocator + Copy> IndexedMap<A> {
     /// Moves what is due to the end of `out`, which has room for it, in the order of the paths, and leaves
     /// no queue. All that waits is due. Returns how many queues there were. It needs no memory.
     pub(crate) fn take_all(&mut self, due: Due, out: &mut Vec<DebouncedEvent<A>, A>) -> usize

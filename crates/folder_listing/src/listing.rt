@@ -16,7 +16,7 @@ ghost use Rattle.folder_listing.specs.Updates.{IsUpdate, updated};
 
 use crate::entry::{EntryKind, FileNumber, Found};
 use crate::near::is_seen;
-use crate::updates::{Updates, update_entries};
+use crate::updates::{Updates, add_each, change_each, drop_each_added};
 use notify_paths::error::Error;
 use notify_paths::path::PathBuf;
 use notify_types::event::RecursiveMode;
@@ -174,7 +174,14 @@ impl<A: Allocator + Copy> Listing<A> {
         ensures unchanged { OnErr result (self.new ≡ self.old) }
         ensures err { IfErr result (λ e. e ≡ out_of_memory) }
     {
-        update_entries(&mut self.entries, updates).map_err(|_| Error::out_of_memory(alloc))
+        // What can be refused comes first: only a path that is added takes memory.
+        if add_each(&mut self.entries, updates).is_err() {
+            // A tree can't be asked for room beforehand, so what it has got is taken out again.
+            drop_each_added(&mut self.entries, updates);
+            return Err(Error::out_of_memory(alloc));
+        }
+        change_each(&mut self.entries, updates);
+        Ok(())
     }
 }
 

@@ -1,7 +1,6 @@
 //! Updates of a listing.
 ghost use Rattle.std.specs.Prelude.{◌≡◌, OnErr, OnOk};
-ghost use Rattle.folder_listing.specs.Updates.{DifferInAdded, IsUpdate, added_at, after_each, changed_at, dropped_at, found_after, updated};
-ghost use Rattle.folder_listing.specs.Listing.{IsListing};
+ghost use Rattle.folder_listing.specs.Updates.{DifferInAdded, added_at, after_each, changed_at, dropped_at, found_after};
 
 use crate::entry::Found;
 use notify_paths::path::PathBuf;
@@ -64,7 +63,7 @@ fn change<A: Allocator>(entries: &mut Entries<A>, path: &PathBuf<A>, update: Upd
 }
 
 /// Puts in all that is added. After an error a part of it may be there.
-fn add_each<A: Allocator + Copy>(
+pub(crate) fn add_each<A: Allocator + Copy>(
     entries: &mut Entries<A>,
     updates: &Updates<A>,
 ) -> Result<(), AllocError>
@@ -85,7 +84,7 @@ fn add_each<A: Allocator + Copy>(
 }
 
 /// Takes out all that is added.
-fn drop_each_added<A: Allocator>(entries: &mut Entries<A>, updates: &Updates<A>)
+pub(crate) fn drop_each_added<A: Allocator>(entries: &mut Entries<A>, updates: &Updates<A>)
     ensures { entries.new.entries ≡ after_each dropped_at entries.old.entries updates.now.entries }
 {
     let mut rest = updates.iter();
@@ -95,32 +94,11 @@ fn drop_each_added<A: Allocator>(entries: &mut Entries<A>, updates: &Updates<A>)
 }
 
 /// Changes or takes out all that isn't added.
-fn change_each<A: Allocator>(entries: &mut Entries<A>, updates: &Updates<A>)
+pub(crate) fn change_each<A: Allocator>(entries: &mut Entries<A>, updates: &Updates<A>)
     ensures { entries.new.entries ≡ after_each changed_at entries.old.entries updates.now.entries }
 {
     let mut rest = updates.iter();
     while let Some((path, update)) = rest.next() {
         change(entries, path, *update);
     }
-}
-
-/// Updates the entries in place. If an allocation fails, nothing has changed.
-pub(crate) fn update_entries<A: Allocator + Copy>(
-    entries: &mut Entries<A>,
-    updates: &Updates<A>,
-) -> Result<(), AllocError>
-    requires listing { IsListing entries.old.entries }
-    requires update { IsUpdate entries.old.entries updates.now.entries }
-    ensures ok { OnOk result (entries.new.entries
-        ≡ updated entries.old.entries updates.now.entries) }
-    ensures unchanged { OnErr result (entries.new.entries ≡ entries.old.entries) }
-{
-    // What can be refused comes first: only a path that is added takes memory.
-    if let Err(refused) = add_each(entries, updates) {
-        // A tree can't be asked for room beforehand, so what it has got is taken out again.
-        drop_each_added(entries, updates);
-        return Err(refused);
-    }
-    change_each(entries, updates);
-    Ok(())
 }

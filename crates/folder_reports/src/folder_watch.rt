@@ -6,7 +6,7 @@ ghost use Rattle.notify_debouncer_full.specs.Emitted.{IsTied};
 ghost use Rattle.watch_program.specs.declared.fault.Fault.TheVariants.{Memory};
 
 use crate::rest::rest_of;
-use crate::waiting::Waiting;
+use crate::waiting::ReportWait;
 use notify_debouncer_full::{
     ClosedCount, DebouncerRuntime, QueueingDebouncer, RecommendedWatcher, Reports,
 };
@@ -72,7 +72,7 @@ impl<'n, R: DebouncerRuntime + AllocGlobal, E: Write + Drop> FolderWatch<'n, R, 
     }
 
     /// Ends the folder's reports, as `FolderReports::finish`.
-    pub fn finish(mut self, waiting: Waiting<R>) -> Result<Rest, Fault>
+    pub fn finish(mut self, waiting: ReportWait<R>) -> Result<Rest, Fault>
         requires tied { IsTied self.debouncer.began waiting.queue }
         ensures ok { IfOk result (IsLeft (followed self.entry.debouncer waiting)) }
         ensures err { IfErr result (λ e. e ≡ Memory) }

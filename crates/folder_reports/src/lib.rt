@@ -18,4 +18,4 @@ mod waiting;
 
 pub use folder_watch::FolderWatch;
 pub use reports::FolderReports;
-pub use waiting::Waiting;
+pub use waiting::ReportWait;

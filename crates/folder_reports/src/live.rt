@@ -10,7 +10,7 @@ ghost use Rattle.watch_program.specs.declared.fault.Fault.TheVariants.{CannotWat
 use crate::folder_watch::Watching;
 use crate::hint_reader::{start_hints, start_skipping};
 use crate::input_end::InputEnd;
-use crate::waiting::Waiting;
+use crate::waiting::ReportWait;
 use notify_debouncer_full::{
     Config, DebouncerRuntime, PathBuf, RecommendedReports, RecursiveMode, Reports,
 };
@@ -127,7 +127,7 @@ impl<R: DebouncerRuntime + AllocGlobal> Live<R> {
     }
 
     /// Returns the debouncer, and the wait for its reports.
-    pub(crate) fn apart(self) -> (Watching<R>, Waiting<R>)
+    pub(crate) fn apart(self) -> (Watching<R>, ReportWait<R>)
         ensures tied { IsTied result.0.began result.1.queue }
         ensures made { result.0.made ≡ self.reports.debouncer.made }
         ensures seen { result.0.seen ≡ self.reports.debouncer.seen }
@@ -140,7 +140,7 @@ impl<R: DebouncerRuntime + AllocGlobal> Live<R> {
             input,
         } = self;
         let (debouncer, queue) = reports.apart();
-        (debouncer, Waiting::new(rt, queue, end, input))
+        (debouncer, ReportWait::new(rt, queue, end, input))
     }
 }
 

@@ -10,7 +10,7 @@ ghost use Rattle.watch_program.specs.declared.fault.Fault.TheVariants.{CannotWat
 use crate::folder_watch::FolderWatch;
 use crate::hint_reader::check_hints;
 use crate::live::Live;
-use crate::waiting::Waiting;
+use crate::waiting::ReportWait;
 use notify_debouncer_full::{DebounceEventResult, DebouncerRuntime, PathBuf, RecursiveMode};
 use report_loop::Rest;
 use std::io::Write;
@@ -23,7 +23,7 @@ use watch_program::{Complaints, Fault, Pace};
 #[derive(Drop)]
 pub struct FolderReports<'n, R: DebouncerRuntime, E: Drop> {
     watch: FolderWatch<'n, R, E>,
-    waiting: Waiting<R>,
+    waiting: ReportWait<R>,
     ghost tied: { IsTied watch.debouncer.began waiting.queue },
 }
 
@@ -157,7 +157,7 @@ impl<'n, R: DebouncerRuntime + AllocGlobal, E: Write + Drop> FolderReports<'n, R
     }
 
     /// Returns what waits for these reports, as `report_loop::hand_on` takes it, and what is watched, which ends with it.
-    pub fn apart(self) -> (Waiting<R>, FolderWatch<'n, R, E>)
+    pub fn apart(self) -> (ReportWait<R>, FolderWatch<'n, R, E>)
         ensures tied { IsTied result.1.debouncer.began result.0.queue }
         ensures same { followed result.1.debouncer result.0 ≡ self.entry }
     {

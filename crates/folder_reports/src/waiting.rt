@@ -19,14 +19,14 @@ use std::time::{Clock, Duration, Instant};
 /// It asks for no more than a wait needs: in a method of a trait, a call that may wait has a proof only over
 /// bounds of the kit's own.
 #[derive(Drop)]
-pub struct Waiting<R: Wait + Clock + Drop> {
+pub struct ReportWait<R: Wait + Clock + Drop> {
     rt: R,
     queue: ReportQueue<DebounceEventResult>,
     end: Option<Instant>,
     input: InputEnd,
 }
 
-impl<R: Wait + Clock + Drop> Model for Waiting<R> {
+impl<R: Wait + Clock + Drop> Model for ReportWait<R> {
     ghost use Rattle.std.specs.Prelude.{is_some, ◌||◌};
     ghost use Rattle.folder_reports.specs.Waits.{Awaited};
 
@@ -38,18 +38,18 @@ impl<R: Wait + Clock + Drop> Model for Waiting<R> {
     } };
 }
 
-impl<R: Wait + Clock + Copy + Drop> Waiting<R> {
+impl<R: Wait + Clock + Copy + Drop> ReportWait<R> {
     /// Waits for what comes by the queue until the end, if there is one, and while the input goes on.
     pub(crate) fn new(
         rt: R,
         queue: ReportQueue<DebounceEventResult>,
         end: Option<Instant>,
         input: InputEnd,
-    ) -> Waiting<R>
+    ) -> ReportWait<R>
         ensures queue { result.queue ≡ queue }
         ensures end { result.has_end ≡ (is_some end || is_some input.ended) }
     {
-        Waiting {
+        ReportWait {
             rt,
             queue,
             end,
@@ -153,7 +153,7 @@ impl<R: Wait + Clock + Copy + Drop> Waiting<R> {
     }
 }
 
-impl<R: Wait + Clock + Copy + Drop> GivesReports for Waiting<R> {
+impl<R: Wait + Clock + Copy + Drop> GivesReports for ReportWait<R> {
     ghost use Rattle.folder_reports.specs.Waits.{GivesOne};
 
     ghost gives = { λ before pause given after. GivesOne before pause given after };

@@ -13,7 +13,7 @@ use crate::came::Came;
 use crate::kept::Kept;
 use crate::looks::Looks;
 use crate::seen::{FolderAndCopy, Seen};
-use crate::waiting::Waiting;
+use crate::waiting::OwedPaths;
 use crate::words::Words;
 use batch_moves::Moves;
 use batch_plan::action::{Action, Standing};
@@ -86,7 +86,7 @@ pub struct Mirror<C: Drop, O: Drop, E: Drop> {
     pub kept: Kept<C>,
     /// The moves of the last batch that told any.
     pub(crate) earlier: Option<Moves>,
-    pub waiting: Waiting,
+    pub waiting: OwedPaths,
     /// After how long what waits is tried again.
     pause: Duration,
     /// Something has failed since what waits was last tried again.
@@ -109,7 +109,7 @@ impl<C: FolderAndCopy, O: Write + Drop, E: Write + Drop> Mirror<C, O, E> {
             leave,
             kept: Kept::new(alloc, copy),
             earlier: None,
-            waiting: Waiting::new(alloc),
+            waiting: OwedPaths::new(alloc),
             pause: Duration::from_millis(PAUSE),
             has_failed: false,
             is_gone: false,

@@ -15,12 +15,12 @@ use std::ops::Bound;
 
 /// The paths at which a copy may not have what was reported: whether each is wanted.
 #[derive(Drop)]
-pub struct Waiting {
+pub struct OwedPaths {
     alloc: Global,
     paths: BTreeMap<PathBuf, bool>,
 }
 
-impl Model for Waiting {
+impl Model for OwedPaths {
     ghost use Rattle.mirror_state.specs.After.{WaitingValue};
 
     ghost Value = { WaitingValue };
@@ -28,10 +28,10 @@ impl Model for Waiting {
     ghost view = { λ a. a.paths.entries };
 }
 
-impl Waiting {
+impl OwedPaths {
     /// Returns that of a copy for which nothing waits.
-    pub(crate) fn new(alloc: Global) -> Waiting {
-        Waiting {
+    pub(crate) fn new(alloc: Global) -> OwedPaths {
+        OwedPaths {
             alloc,
             paths: BTreeMap::new(alloc),
         }

@@ -8,7 +8,7 @@ use Rattle.debounce_core.proofs.state.State.take.Goals as goal
 pub invariant_of-self-2 : goal.invariant_of-self-2
 invariant_of-self-2 g c =
     let a = c.self.inside in
-    let s = state_of a.waiting a.roots.items a.errors.items a.timeout a.latest a.taken a.given in
+    let s = state_of a.pending a.roots.items a.errors.items a.timeout a.latest a.taken a.given in
     let done = c.in_ok-take.ensures.ok s in
     well_formed_after c.args.case _ _ c.args.event c.args.answer c.requires.fits c.self.invariant
     (ap (λ (t : State). t.queues) done) (ap (λ (t : State). t.rescan_slot) done) (ap (λ (t : State). t.given) done)
@@ -17,7 +17,7 @@ invariant_of-self-2 g c =
 pub returns-clause-ok : goal.returns-clause-ok
 returns-clause-ok g c =
     let a = c.self.inside in
-    let s = state_of a.waiting a.roots.items a.errors.items a.timeout a.latest a.taken a.given in
+    let s = state_of a.pending a.roots.items a.errors.items a.timeout a.latest a.taken a.given in
     let done = c.in_ok-take.ensures.ok s in
     rw (← c.self.view_is, c.time-time.ensures)
     (ap (λ (t : State). record t { latest = c.args.event.time; taken = a.taken + 1 }) done)
