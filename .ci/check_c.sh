@@ -121,7 +121,7 @@ awk '
         at = int((at + s - 1) / s) * s
         fields = fields name "." field " " at " " s "\n"; at += s; if (s > most) most = s
     }
-    END { flush() }' "$top/crates/debounce_desk/src/records.rt" >layout.records
+    END { flush() }' "$top/crates/debounce_c/src/desk/records.rt" >layout.records
 # The handle is a bool and an address.
 printf 'Handle 16\nHandle.full 0 1\nHandle.at 8 8\n' | cat - layout.records >layout.all && mv layout.all layout.records
 

@@ -17,7 +17,7 @@ squeezed() { tr -s ' \n' ' ' | sed 's/^ //; s/ $//'; }
 find . \( -name out -o -name .git \) -prune -o -type f -print | sed 's,^\./,,' >"$room/files"
 sed 's,.*/,,' "$room/files" | sort -u >"$room/names"
 grep -v '^docs/\|^README' "$room/files" | tr '\n' '\0' | xargs -0 cat "$room/files" | grep -oaE '\w+' | sort -u >"$room/words"
-{ grep -HoE '^( *(pub )?(abbrev|unfoldable|record|type|data)|pub) (pub )?[A-Za-z_0-9-]+' crates/*/specs/*.antt
+{ grep -HoE '^( *(pub )?(abbrev|unfoldable|record|type|data)|pub) (pub )?[A-Za-z_0-9-]+' crates/*/specs/*.antt crates/*/specs/*/*.antt
   grep -rHoE --include='*.rt' '^ *(pub )?fn [a-z_0-9]+' crates/*/src; } | sed 's/:.* / /' >"$room/defined"
 cut -d ' ' -f 2 "$room/defined" | sort -u >"$room/definitions"
 grep '\.rt$\|\.antt$\|/data/.*\.md$' "$room/files" | tr '\n' '\0' | xargs -0 cat | squeezed >"$room/code"
@@ -178,7 +178,8 @@ printed() {
         grep -qxF "== $crate" "$room/calls" || echo "scripts/calling: nothing of $crate"
     done
     scripts/calling Debouncer | grep -A3 -F 'Debouncer::finish(' | grep -q '^  ended: ' || echo 'scripts/calling: finish without its clauses'
-    scripts/lemma_map | cut -d: -f1 | sort | cmp -s - <(for file in crates/*/proofs/*.antt crates/*/specs/*Laws.antt; do
+    scripts/lemma_map | cut -d: -f1 | sort | cmp -s - <(for file in crates/*/proofs/*.antt crates/*/proofs/*Lemmas/*.antt crates/*/specs/*Laws.antt crates/*/specs/*/*Laws.antt; do
+        [ -f "$file" ] && [ ! -d "${file%.antt}" ] || continue
         file=${file#crates/} && [ "${file##*/}" = Lib.antt ] || echo "${file%%/*}"
     done | sort -u) || echo 'scripts/lemma_map: not of each crate'
 }

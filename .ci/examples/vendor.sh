@@ -43,10 +43,10 @@ report "the tutorial's own crate" "$([ $? = 0 ] && [ "$(wc -l <commands)" = 4 ] 
 # The programs of the tutorial over folders, with the crates that it names.
 for name in changed keeper; do
     mkdir -p programs/crates/$name/src
-    grep -o "$name: watch_loop [a-z_ ]*" "$top/docs/TUTORIAL.md" >>programs/crates.txt
+    grep -o "$name: program_reports [a-z_ ]*" "$top/docs/TUTORIAL.md" >>programs/crates.txt
     cp "$top/docs/examples/$name.txt" programs/crates/$name/src/main.rt
 done
-"$top/scripts/vendor" programs notify_debouncer_full watch_loop watch_program batch_plan >out 2>err
+"$top/scripts/vendor" programs notify_debouncer_full program_reports program_frame reader_paths >out 2>err
 mkdir grown
 while sleep 1; do : >grown/$RANDOM; done &
 growing=$!

@@ -4,10 +4,7 @@ ghost use Rattle.std.specs.Prelude.{◌≡◌, true};
 use crate::events::{creations, modifications};
 use crate::workloads::Figures;
 use anyhow::Result;
-use debounce_access::access::Access;
-use debounce_turns::clock::Stopwatch;
-use debounce_turns::feeding::Feeding;
-use debounce_turns::ticking::Ticking;
+use debounce_run::{Access, Feeding, Stopwatch, Ticking};
 use notify_debouncer_full::{
     Book, DebounceEventResult, DebouncerRuntime, Event, Feed, Moment, NoCache, feed_one,
     new_debouncer_by_hand, turn,

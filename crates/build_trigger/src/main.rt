@@ -5,31 +5,31 @@
 ghost use Rattle.std.specs.Prelude.{◌≡◌, ◌⊎◌, ◌*◌, ◌^◌, ℕ, [], None, codes, map, option_map, IfErr, IfOk, IfSome, OnOk};
 ghost use Rattle.std.specs.Duration.{as_nanos};
 ghost use Rattle.clap.specs.Words.{first_value, found_of, one_text};
-ghost use Rattle.folder_reports.specs.Start.{IsStartFault};
-ghost use Rattle.journal_lines.specs.KeptView.{filter_rule};
+ghost use Rattle.program_reports.specs.Folders.Start.{IsStartFault};
+ghost use Rattle.program_logic.specs.Journal.KeptView.{filter_rule};
 ghost use Rattle.notify_paths.specs.PathText.{parts_of};
-ghost use Rattle.trigger_lines.specs.Line.{only_of};
-ghost use Rattle.trigger_lines.specs.Printed.{PrintsAll, PrintsSome};
+ghost use Rattle.program_logic.specs.Trigger.Line.{only_of};
+ghost use Rattle.program_logic.specs.Trigger.Printed.{PrintsAll, PrintsSome};
 ghost use Rattle.notify_types.specs.declared.event.RecursiveMode.TheVariants.{Recursive};
-ghost use Rattle.watch_loop.specs.FollowsFolder.{OfReports, folder_source};
-ghost use Rattle.watch_loop.specs.WholeProgram.{IsPace};
-ghost use Rattle.watch_pace.specs.declared.pace.Pace.{Pace};
-ghost use Rattle.watch_pace.specs.Words.{Gives};
-ghost use Rattle.watch_program.specs.Words.{places_in};
-ghost use Rattle.watch_program.specs.declared.fault.Fault.TheVariants.{Memory};
+ghost use Rattle.program_reports.specs.FollowsFolder.{OfReports, folder_source};
+ghost use Rattle.program_reports.specs.WholeProgram.{IsPace};
+ghost use Rattle.program_frame.specs.declared.pace.Pace.{Pace};
+ghost use Rattle.program_frame.specs.Pace.Words.{Gives};
+ghost use Rattle.program_frame.specs.Words.{places_in};
+ghost use Rattle.program_frame.specs.declared.fault.Fault.TheVariants.{Memory};
 
 use clap::{ArgMatches, Command};
-use journal_lines::{PathFilter, Pattern, Patterns};
 use notify_debouncer_full::{DebouncerRuntime, PathBuf, RecursiveMode};
-use std::alloc::{AllocError, Global};
-use std::io::Write;
-use std::process::ExitCode;
-use trigger_lines::{Bursts, Trigger, only_folder};
-use watch_loop::follow_folders;
-use watch_program::{
+use program_frame::{
     ClosedPaths, Complaints, Fault, PlaceWord, command_of_places, folders_of, milliseconds_of,
     number, option, pace_of, places_of, run_with_words, with_until_eof, write_missed,
 };
+use program_logic::journal::{PathFilter, Pattern, Patterns};
+use program_logic::trigger::{Bursts, Trigger, only_folder};
+use program_reports::follow_folders;
+use std::alloc::{AllocError, Global};
+use std::io::Write;
+use std::process::ExitCode;
 
 /// The program's name.
 const NAME: &str = "build_trigger";

@@ -3,27 +3,27 @@
 #![tactic(auto)]
 
 ghost use Rattle.std.specs.Prelude.{◌≡◌, ◌⊎◌, map, IfErr, OnOk};
-ghost use Rattle.folder_reports.specs.Start.{IsStartFault};
-ghost use Rattle.journal_lines.specs.KeptView.{filter_rule};
-ghost use Rattle.journal_lines.specs.Printed.{WritesAll, WritesSome};
+ghost use Rattle.program_reports.specs.Folders.Start.{IsStartFault};
+ghost use Rattle.program_logic.specs.Journal.KeptView.{filter_rule};
+ghost use Rattle.program_logic.specs.Journal.Printed.{WritesAll, WritesSome};
 ghost use Rattle.notify_paths.specs.PathText.{parts_of};
 ghost use Rattle.notify_types.specs.declared.event.RecursiveMode.TheVariants.{Recursive};
-ghost use Rattle.watch_loop.specs.FollowsFolder.{OfReports, folder_source};
-ghost use Rattle.watch_loop.specs.WholeProgram.{IsPace};
-ghost use Rattle.watch_pace.specs.declared.pace.Pace.{Pace};
-ghost use Rattle.watch_program.specs.Words.{places_in};
+ghost use Rattle.program_reports.specs.FollowsFolder.{OfReports, folder_source};
+ghost use Rattle.program_reports.specs.WholeProgram.{IsPace};
+ghost use Rattle.program_frame.specs.declared.pace.Pace.{Pace};
+ghost use Rattle.program_frame.specs.Words.{places_in};
 
 mod words;
 
 use clap::ArgMatches;
-use journal_lines::{Journal, PathFilter, Patterns, Printer};
 use notify_debouncer_full::{DebouncerRuntime, RecursiveMode};
-use std::io::Write;
-use std::process::ExitCode;
-use watch_loop::follow_folders;
-use watch_program::{
+use program_frame::{
     ClosedPaths, Complaints, Fault, folders_of, pace_of, places_of, run_with_words, write_missed,
 };
+use program_logic::journal::{Journal, PathFilter, Patterns, Printer};
+use program_reports::follow_folders;
+use std::io::Write;
+use std::process::ExitCode;
 use words::{NAME, command_line, form_of, patterns_of};
 
 /// Watches the folders, and prints of them what passes the patterns.

@@ -3,9 +3,9 @@ ghost use Rattle.std.specs.Prelude.{◌≡◌, ◌⊎◌, Some, None, codes, opt
 ghost use Rattle.clap.specs.Words.{first_value, found_of, one_text};
 
 use clap::{Arg, ArgMatches, Command};
-use journal_lines::{Form, Pattern};
+use program_frame::{PlaceWord, command_of_places, flag, option, with_until_eof};
+use program_logic::journal::{Form, Pattern};
 use std::alloc::{AllocError, Global};
-use watch_program::{PlaceWord, command_of_places, flag, option, with_until_eof};
 
 /// The program's name.
 pub(crate) const NAME: &str = "change_journal";

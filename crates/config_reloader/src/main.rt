@@ -3,22 +3,22 @@
 #![tactic(auto)]
 
 ghost use Rattle.std.specs.Prelude.{◌≡◌, ◌⊎◌, ◌∷◌, [], IfErr, OnOk};
-ghost use Rattle.config_state.specs.Followed.{ReadsSome, ReadsToEnd, following};
-ghost use Rattle.folder_reports.specs.Start.{IsStartFault};
+ghost use Rattle.program_logic.specs.Config.Followed.{ReadsSome, ReadsToEnd, following};
+ghost use Rattle.program_reports.specs.Folders.Start.{IsStartFault};
 ghost use Rattle.notify_types.specs.declared.event.RecursiveMode.TheVariants.{NonRecursive};
-ghost use Rattle.watch_loop.specs.FollowsFolder.{OfReports, folder_source};
+ghost use Rattle.program_reports.specs.FollowsFolder.{OfReports, folder_source};
 
 use clap::{ArgMatches, Command};
-use config_state::{Follower, Place, ReadsText, RealFiles, Reloader};
 use notify_debouncer_full::{DebouncerRuntime, PathBuf};
-use std::alloc::{AllocError, Global};
-use std::io::Write;
-use std::process::ExitCode;
-use watch_loop::follow_file;
-use watch_program::{
+use program_frame::{
     ClosedPaths, Complaints, Fault, Pace, PlaceWord, command, pace_of, place_of, run_with_words,
     with_until_eof, write_missed,
 };
+use program_logic::config::{Follower, Place, ReadsText, RealFiles, Reloader};
+use program_reports::follow_file;
+use std::alloc::{AllocError, Global};
+use std::io::Write;
+use std::process::ExitCode;
 
 /// The program's name.
 const NAME: &str = "config_reloader";

@@ -6,12 +6,10 @@ ghost use Rattle.debounce_book.specs.Book.{IsDone, IsNotDone, IsUnwritten};
 
 use crate::book::Book;
 use crate::written::{draft, draft_errors, reserve, write};
-use debounce_model::command::{Command, Reply};
-use file_id_cache::cache::FileIdCache;
-use notify_paths::error::{Error, ErrorKind};
-use notify_paths::path::PathBuf;
-use notify_types::event::{DebouncedEvent, Event, RecursiveMode};
-use notify_types::time::Moment;
+use debounce_cache::FileIdCache;
+use debounce_model::{Command, Reply};
+use notify_paths::{Error, ErrorKind, PathBuf};
+use notify_types::{DebouncedEvent, Event, Moment, RecursiveMode};
 use std::alloc::Allocator;
 
 impl<C: FileIdCache<A>, A: Allocator + Copy> Book<C, A> {

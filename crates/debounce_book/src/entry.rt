@@ -5,8 +5,8 @@ ghost use Rattle.notify_paths.specs.Errors.{out_of_memory};
 ghost use Rattle.debounce_book.specs.EntryEquality.{entry_eq};
 ghost use Rattle.debounce_book.specs.EntryEqualityLaws.{entry_eq_equiv};
 
-use debounce_model::command::{Command, Reply};
-use notify_paths::error::Error;
+use debounce_model::{Command, Reply};
+use notify_paths::Error;
 use std::alloc::{AllocError, Allocator, Global};
 use std::marker::Model;
 

@@ -1,7 +1,7 @@
 //! What stands under the lock of a running debouncer: the core, and beside it a journal of the
 //! commands that it accepted, if one is kept.
 //!
-//! A [`book::Book`] is changed by its steps alone, each of which is one step of the core with one
+//! A [`Book`] is changed by its steps alone, each of which is one step of the core with one
 //! entry of the journal, or is refused and leaves both.
 //!
 //! ```text
@@ -11,8 +11,12 @@
 //! ```
 #![tactic(auto)]
 
-pub mod book;
+mod book;
 mod calls;
-pub mod entry;
-pub mod steps;
+mod entry;
+mod steps;
 mod written;
+
+pub use book::{Book, command_step};
+pub use entry::Entry;
+pub use steps::{Ticked, feed_step, root_step, tick_step, unroot_step};

@@ -5,11 +5,9 @@ ghost use Rattle.debounce_model.specs.Command.{RootCommand, UnrootCommand, Roote
 ghost use Rattle.debounce_book.specs.Book.{IsDone, IsNotDone, TicksBoth, fed_command, fed_reply};
 
 use crate::book::Book;
-use file_id_cache::cache::FileIdCache;
-use notify_paths::error::Error;
-use notify_paths::path::PathBuf;
-use notify_types::event::{DebouncedEvent, Event, RecursiveMode};
-use notify_types::time::Moment;
+use debounce_cache::FileIdCache;
+use notify_paths::{Error, PathBuf};
+use notify_types::{DebouncedEvent, Event, Moment, RecursiveMode};
 use std::alloc::Allocator;
 
 /// What a tick emits: the batch, or why there is none, and the errors.

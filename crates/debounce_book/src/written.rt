@@ -6,9 +6,9 @@ ghost use Rattle.debounce_model.specs.CommandView.{command_value, reply_value};
 ghost use Rattle.debounce_book.specs.Book.{entry_of};
 
 use crate::entry::Entry;
-use debounce_core::data::DebounceDataInner;
-use debounce_model::command::{Command, Reply};
-use notify_paths::error::Error;
+use debounce_core::DebounceDataInner;
+use debounce_model::{Command, Reply};
+use notify_paths::Error;
 use std::alloc::Allocator;
 
 /// Room for one more entry.

@@ -6,8 +6,8 @@ use Rattle.std.proofs.BoxSteps.Form.{Bx}
 use Rattle.std.specs.contracts.alloc.Global as heap
 use Rattle.std.proofs.alloc.Global.TheLaws as heap_laws
 use Rattle.std.specs.contracts.impls.GlobalAllocator.TheImpl.{ghosts, dict}
-use Rattle.debounce_desk.specs.contracts.desk.Desk as Desk
-use Rattle.debounce_desk.proofs.desk.Desk.TheLaws as desk
+use Rattle.debounce_c.specs.contracts.desk.Desk as Desk
+use Rattle.debounce_c.proofs.desk.Desk.TheLaws as desk
 use Rattle.debounce_c.specs.contracts.sealed.parts.Parts as Parts
 use Rattle.debounce_c.specs.contracts.sealed.Sealed as Sealed
 

@@ -2,13 +2,13 @@
 use Rattle.std.proofs.Common.{◌≡◌, ◌∙◌, ℕ, ◌==◌, Bool, true, false, List, [], ◌∷◌, ◌++◌, Option, Some, None, true≢false, refl, sym, ap, subst, inl, inr}
 use Rattle.std.specs.Prelude.{⊤}
 use Rattle.debounce_model.specs.Command.{ReplyValue}
-use Rattle.debounce_desk.specs.Answers.{Answers, AnswersFor}
-use Rattle.debounce_desk.specs.Calls.{CallValue, Keeps, Makes, MakesAll, Reads, reply_to}
-use Rattle.debounce_desk.specs.Codes.{fault_code}
-use Rattle.debounce_desk.specs.Desk.{DeskValue}
-use Rattle.debounce_desk.specs.Tells.{TellsCounts}
-use Rattle.debounce_desk.specs.declared.fault.Fault.{Fault}
-use Rattle.debounce_desk.specs.declared.fault.Fault.TheVariants.{Empty, NoMemory, Full, NotText, NoKind, Unread, AtEnd, TooShort, TooManyPaths, BadCounts}
+use Rattle.debounce_c.specs.Desk.Answers.{Answers, AnswersFor}
+use Rattle.debounce_c.specs.Desk.Calls.{CallValue, Keeps, Makes, MakesAll, Reads, reply_to}
+use Rattle.debounce_c.specs.Desk.Codes.{fault_code}
+use Rattle.debounce_c.specs.Desk.Desk.{DeskValue}
+use Rattle.debounce_c.specs.Desk.Tells.{TellsCounts}
+use Rattle.debounce_c.specs.declared.desk.fault.Fault.{Fault}
+use Rattle.debounce_c.specs.declared.desk.fault.Fault.TheVariants.{Empty, NoMemory, Full, NotText, NoKind, Unread, AtEnd, TooShort, TooManyPaths, BadCounts}
 use Rattle.debounce_c.specs.Programs.{ExportValue, CallsWatch, CallsUnwatch, CallsMode, CallsNumber, CallsForget, CallsNumberOf, CallsEvent, CallsError, CallsTick, CallsOutlook, CallsNext, CallsErrors, CallsNextError, CallsJournal, CallsEntry, CallsEntryEvent, CallsEntryError, CallsCounts, AreAnswered, History, IsAnswered, call_of, done}
 
 -- what a call with this code, on a handle that holds s, has left: its step, or s

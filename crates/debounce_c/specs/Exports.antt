@@ -8,23 +8,23 @@ use Rattle.debounce_model.specs.Calls.{recursive_mode}
 use Rattle.debounce_model.specs.Command.{EventCommand, TakenReply}
 use Rattle.debounce_model.specs.Step.{IsTaken}
 use Rattle.debounce_book.specs.Journal.{EntryValue}
-use Rattle.numbered_core.specs.Numbers.{number_at, said_numbers}
-use Rattle.debounce_desk.specs.Answers.{Answers}
-use Rattle.debounce_desk.specs.Calls.{Forgets, Keeps, Makes, Notes, Says, Unwatches, Watches}
-use Rattle.debounce_desk.specs.Codes.{fault_code}
-use Rattle.debounce_desk.specs.Desk.{DeskValue, IsAsked, IsForeseen, IsOpened, IsTicked, entry_at, stepped}
-use Rattle.debounce_desk.specs.Faults.{batch_fault, entry_fault, error_fault, errors_fault, errors_need, event_fault, event_needs, next_error_fault, next_fault, no_fault, text_fault, tick_needs}
-use Rattle.debounce_desk.specs.Said.{error_of, event_of, id_of, mode_of}
-use Rattle.debounce_desk.specs.Tells.{LeavesEntryTold, LeavesErrorTold, LeavesTold, Tells, TellsCounts, TellsEntry, TellsError, TellsNumber, entry_texts, error_in, error_texts, event_in, texts_of, written}
-use Rattle.debounce_desk.specs.declared.fault.Fault.{Fault}
-use Rattle.debounce_desk.specs.declared.fault.Fault.TheVariants.{NoMemory}
-use Rattle.debounce_desk.specs.declared.records.Attributes.{Attributes}
-use Rattle.debounce_desk.specs.declared.records.Change.{Change}
-use Rattle.debounce_desk.specs.declared.records.Counts.{Counts}
-use Rattle.debounce_desk.specs.declared.records.Number.{Number}
-use Rattle.debounce_desk.specs.declared.records.Told.{Told}
-use Rattle.debounce_desk.specs.declared.records.ToldEntry.{ToldEntry}
-use Rattle.debounce_desk.specs.declared.records.ToldError.{ToldError}
+use Rattle.debounce_c.specs.Numbered.Numbers.{number_at, said_numbers}
+use Rattle.debounce_c.specs.Desk.Answers.{Answers}
+use Rattle.debounce_c.specs.Desk.Calls.{Forgets, Keeps, Makes, Notes, Says, Unwatches, Watches}
+use Rattle.debounce_c.specs.Desk.Codes.{fault_code}
+use Rattle.debounce_c.specs.Desk.Desk.{DeskValue, IsAsked, IsForeseen, IsOpened, IsTicked, entry_at, stepped}
+use Rattle.debounce_c.specs.Desk.Faults.{batch_fault, entry_fault, error_fault, errors_fault, errors_need, event_fault, event_needs, next_error_fault, next_fault, no_fault, text_fault, tick_needs}
+use Rattle.debounce_c.specs.Desk.Said.{error_of, event_of, id_of, mode_of}
+use Rattle.debounce_c.specs.Desk.Tells.{LeavesEntryTold, LeavesErrorTold, LeavesTold, Tells, TellsCounts, TellsEntry, TellsError, TellsNumber, entry_texts, error_in, error_texts, event_in, texts_of, written}
+use Rattle.debounce_c.specs.declared.desk.fault.Fault.{Fault}
+use Rattle.debounce_c.specs.declared.desk.fault.Fault.TheVariants.{NoMemory}
+use Rattle.debounce_c.specs.declared.desk.records.Attributes.{Attributes}
+use Rattle.debounce_c.specs.declared.desk.records.Change.{Change}
+use Rattle.debounce_c.specs.declared.desk.records.Counts.{Counts}
+use Rattle.debounce_c.specs.declared.desk.records.Number.{Number}
+use Rattle.debounce_c.specs.declared.desk.records.Told.{Told}
+use Rattle.debounce_c.specs.declared.desk.records.ToldEntry.{ToldEntry}
+use Rattle.debounce_c.specs.declared.desk.records.ToldError.{ToldError}
 
 -- a new debouncer, whatever was held before; or the fault's code, or NO_MEMORY, and what was held is held
 abbrev pub IsMade : ℕ → Option Fault → ℕ → ℕ → ℕ → Option DeskValue → Option DeskValue → Type 0

@@ -10,16 +10,16 @@ use Rattle.debounce_model.specs.Kept.{has_rename, is_kept}
 use Rattle.debounce_model.specs.PathsLaw.{LeavesRawPaths}
 use Rattle.debounce_model.specs.Soon.{is_soon}
 use Rattle.debounce_model.specs.State.{State}
-use Rattle.debounce_desk.specs.Calls.{CallValue, Asks, Feeds, Forgets, IsWrittenDown, Keeps, MakesAll, Notes, Reads, Says, Ticks, Unwatches, Watches, changes_journal, commands_of}
-use Rattle.debounce_desk.specs.Desk.{DeskValue, IsOpened}
-use Rattle.debounce_desk.specs.Said.{error_of, event_of, id_of, mode_of}
-use Rattle.debounce_desk.specs.declared.records.Attributes.{Attributes}
-use Rattle.debounce_desk.specs.declared.records.Change.{Change}
-use Rattle.debounce_desk.specs.declared.records.Counts.{Counts}
-use Rattle.debounce_desk.specs.declared.records.Number.{Number}
-use Rattle.debounce_desk.specs.declared.records.Told.{Told}
-use Rattle.debounce_desk.specs.declared.records.ToldEntry.{ToldEntry}
-use Rattle.debounce_desk.specs.declared.records.ToldError.{ToldError}
+use Rattle.debounce_c.specs.Desk.Calls.{CallValue, Asks, Feeds, Forgets, IsWrittenDown, Keeps, MakesAll, Notes, Reads, Says, Ticks, Unwatches, Watches, changes_journal, commands_of}
+use Rattle.debounce_c.specs.Desk.Desk.{DeskValue, IsOpened}
+use Rattle.debounce_c.specs.Desk.Said.{error_of, event_of, id_of, mode_of}
+use Rattle.debounce_c.specs.declared.desk.records.Attributes.{Attributes}
+use Rattle.debounce_c.specs.declared.desk.records.Change.{Change}
+use Rattle.debounce_c.specs.declared.desk.records.Counts.{Counts}
+use Rattle.debounce_c.specs.declared.desk.records.Number.{Number}
+use Rattle.debounce_c.specs.declared.desk.records.Told.{Told}
+use Rattle.debounce_c.specs.declared.desk.records.ToldEntry.{ToldEntry}
+use Rattle.debounce_c.specs.declared.desk.records.ToldError.{ToldError}
 use Rattle.debounce_c.specs.Exports.{AreCountsTold, IsEntryErrorTold, IsEntryEventTold, IsEntryTold, IsErrorTold, IsErrorsAnswered, IsFed, IsForgotten, IsJournalKept, IsModeTold, IsNoted, IsNumbered, IsNumberTold, IsOutlookAnswered, IsTickAnswered, IsTold, IsUnwatched, IsWatched}
 
 -- a call of an export but ndf_new.. and ndf_free, with what it was given

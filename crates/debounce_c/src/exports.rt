@@ -1,14 +1,13 @@
 //! The functions that C calls.
 ghost use Rattle.std.specs.Prelude.{◌≡◌, [], None, Some};
 ghost use Rattle.debounce_c.specs.Exports.{AreCountsTold, IsEntryErrorTold, IsEntryEventTold, IsEntryTold, IsErrorTold, IsErrorsAnswered, IsFed, IsForgotten, IsJournalKept, IsMade, IsModeTold, IsNoted, IsNumberTold, IsNumbered, IsOutlookAnswered, IsTickAnswered, IsTold, IsUnwatched, IsWatched};
-ghost use Rattle.debounce_desk.specs.Faults.{counts_fault};
-ghost use Rattle.debounce_desk.specs.Said.{no_attributes};
+ghost use Rattle.debounce_c.specs.Desk.Faults.{counts_fault};
+ghost use Rattle.debounce_c.specs.Desk.Said.{no_attributes};
 
+use crate::desk::fault::{Fault, code_of};
+use crate::desk::records::{Attributes, Change, Counts, Number, Told, ToldEntry, ToldError};
+use crate::desk::{Desk, calls};
 use crate::handle::Handle;
-use debounce_desk::calls;
-use debounce_desk::desk::Desk;
-use debounce_desk::fault::{Fault, code_of};
-use debounce_desk::records::{Attributes, Change, Counts, Number, Told, ToldEntry, ToldError};
 use std::alloc::Global;
 
 /// Makes a debouncer that waits for nothing, and emits an event once it is as old as the timeout, in

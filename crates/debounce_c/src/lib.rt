@@ -5,6 +5,8 @@
 //! `ndf_tick`, and reads the batch by `ndf_next`, event by event. Each call answers a code: 0 if it did what it
 //! says; after any other code nothing has changed.
 //!
+//! [`numbered`] is the core with a table of file numbers that C says, [`desk`] what a handle holds, with its calls.
+//!
 //! ```text
 //! ndf_handle h = NDF_NONE;
 //! ndf_new(&h, 50 * NDF_MILLISECOND);
@@ -14,7 +16,9 @@
 //! ```
 #![tactic(auto)]
 
+pub mod desk;
 pub mod exports;
 pub mod handle;
+pub mod numbered;
 pub mod programs;
 mod sealed;

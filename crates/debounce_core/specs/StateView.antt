@@ -3,7 +3,7 @@ use Rattle.std.specs.Prelude.{ℕ, List}
 use Rattle.notify_paths.specs.Errors.{ErrorValue}
 use Rattle.debounce_model.specs.Cache.{Roots}
 use Rattle.debounce_model.specs.State.{State}
-use Rattle.debounce_table.specs.declared.table.Pending.{Pending}
+use Rattle.debounce_core.specs.declared.table.Pending.{Pending}
 
 module _ {Z : Type 0} where
   -- the state that these are the parts of

@@ -8,7 +8,7 @@ use Rattle.std.proofs.lemmas.Map.Views.{All-keys-insert_entry}
 use Rattle.notify_paths.specs.Path.{PathValue, path_cmp}
 use Rattle.debounce_model.specs.Play.{Paths, has_path}
 use Rattle.debounce_laws.proofs.PathSets.{tied_to_itself}
-use Rattle.word_index.specs.Index.{IndexValue}
+use Rattle.program_logic.specs.Words.Index.{IndexValue}
 use Rattle.document_index.specs.Read.{IsReadAmong, PutsAt}
 
 -- paths are among others, if what has them has those

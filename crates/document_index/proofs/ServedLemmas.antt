@@ -4,11 +4,11 @@ use Rattle.std.specs.Prelude.{ℕ, Option, Result, Ok, Err, None, Some, is_some,
 use Rattle.std.specs.List.{list_all}
 use Rattle.std.specs.declared.alloc.Global.{Global}
 use Rattle.notify_watch.specs.Handler.{Outcome}
-use Rattle.word_index.specs.Index.{IndexValue}
-use Rattle.word_index.specs.Kept.{CatchesUp, Readings, TakesEach}
+use Rattle.program_logic.specs.Words.Index.{IndexValue}
+use Rattle.program_logic.specs.Words.Kept.{CatchesUp, Readings, TakesEach}
 use Rattle.notify_paths.specs.Path.{PathValue}
 use Rattle.std.specs.Io.KnownBytes.{Appends}
-use Rattle.word_index.specs.Answer.{answer_to}
+use Rattle.program_logic.specs.Words.Answer.{answer_to}
 use Rattle.document_index.specs.Answered.{Answers, AnswersAll, AnswersEach, Begins, Query, Served, Serves}
 
 -- a report that was taken before the others

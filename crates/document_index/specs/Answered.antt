@@ -4,11 +4,11 @@ use Rattle.std.specs.List.{list_all}
 use Rattle.std.specs.Io.KnownBytes.{Appends}
 use Rattle.notify_paths.specs.Path.{PathValue}
 use Rattle.debounce_model.specs.Play.{events_of}
-use Rattle.folder_listing.specs.Listing.{ListingValue}
-use Rattle.batch_plan.specs.Naming.{namings}
-use Rattle.word_index.specs.Answer.{answer_to}
-use Rattle.word_index.specs.Index.{IndexValue}
-use Rattle.word_index.specs.Kept.{CatchesUp, Readings, Takes}
+use Rattle.poll_listing.specs.Listing.{ListingValue}
+use Rattle.reader_paths.specs.Plan.Naming.{namings}
+use Rattle.program_logic.specs.Words.Answer.{answer_to}
+use Rattle.program_logic.specs.Words.Index.{IndexValue}
+use Rattle.program_logic.specs.Words.Kept.{CatchesUp, Readings, Takes}
 
 -- a line of the input: a word, or none, since it can't be read
 abbrev pub Query : Type 0

@@ -5,8 +5,8 @@ use Rattle.std.specs.List.{All}
 use Rattle.std.specs.Map.{keys_of}
 use Rattle.notify_paths.specs.Path.{PathValue, path_cmp}
 use Rattle.debounce_model.specs.Play.{Paths, has_path}
-use Rattle.word_index.specs.Index.{IndexValue}
-use Rattle.word_index.specs.Words.{WordsValue}
+use Rattle.program_logic.specs.Words.Index.{IndexValue}
+use Rattle.program_logic.specs.Words.Words.{WordsValue}
 
 -- nothing was read but at these paths
 abbrev pub IsReadAmong : Paths → IndexValue → Type 0

@@ -1,22 +1,20 @@
 //! Documents, read from files.
 ghost use Rattle.std.specs.Prelude.{◌≡◌, IfOk, OnOk};
 ghost use Rattle.std.specs.Map.{keys_of};
-ghost use Rattle.folder_listing.specs.Listing.{ListingValue};
-ghost use Rattle.batch_plan.specs.Naming.{namings};
+ghost use Rattle.poll_listing.specs.Listing.{ListingValue};
+ghost use Rattle.reader_paths.specs.Plan.Naming.{namings};
 ghost use Rattle.document_index.specs.Read.{IsReadAmong, PutsAt};
 
-use batch_plan::naming::name_listed;
 use notify_debouncer_full::{
     DebouncedEvent, Folders, Found, PathBuf, RealFolders, RecursiveMode, list,
 };
+use program_frame::Fault;
+use program_logic::words::{Before, ReadsDocuments, Words, words_of};
+use reader_paths::plan::name_listed;
 use std::collections::BTreeMap;
 use std::fs::Files;
 use std::time::Clock;
 use std::{fs, io};
-use watch_program::Fault;
-use word_index::before::Before;
-use word_index::kept::ReadsDocuments;
-use word_index::words::{Words, words_of};
 
 /// What stands below a folder, read anew at each call, but for a file that moved and is as it was. What is no text has
 /// no words; what can't be read, as a file that permission closes, counts as missing until it can.

@@ -2,18 +2,18 @@
 ghost use Rattle.std.specs.Prelude.{◌≡◌, ◌<◌, ◌∷◌, [], IfErr, OnOk};
 ghost use Rattle.document_index.specs.Answered.{Begins};
 ghost use Rattle.document_index.specs.Read.{IsReadAmong};
-ghost use Rattle.watch_program.specs.declared.fault.Fault.TheVariants.{Incomplete};
-ghost use Rattle.word_index.specs.Kept.{CatchesUp, ReadsAnewIf, TakesBatch, TakesEach};
+ghost use Rattle.program_frame.specs.declared.fault.Fault.TheVariants.{Incomplete};
+ghost use Rattle.program_logic.specs.Words.Kept.{CatchesUp, ReadsAnewIf, TakesBatch, TakesEach};
 
 use crate::NAME;
 use crate::documents::Documents;
 use notify_debouncer_full::{DebounceEventResult, DebouncedEvent, DebouncerRuntime};
+use program_frame::{Fault, write_errors, write_missed, write_watching};
+use program_logic::words::{KeptIndex, asks_anew};
+use program_reports::FolderReports;
 use std::alloc::Global;
 use std::io::Write;
 use std::time::Duration;
-use watch_loop::FolderReports;
-use watch_program::{Fault, write_errors, write_missed, write_watching};
-use word_index::kept::{KeptIndex, asks_anew};
 
 /// An index of documents, and where what goes wrong with them is said.
 #[derive(Drop)]

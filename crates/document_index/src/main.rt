@@ -15,15 +15,15 @@ use clap::{ArgMatches, Command};
 use documents::Documents;
 use indexer::Indexer;
 use notify_debouncer_full::{DebouncerRuntime, RecursiveMode};
+use program_frame::{
+    ClosedPaths, Complaints, Fault, PlaceWord, command, folder_of, hints_of, option, pace_of,
+    run_with_words,
+};
+use program_reports::FolderReports;
 use service::Service;
 use std::alloc::{AllocError, Global};
 use std::io::Write;
 use std::process::ExitCode;
-use watch_loop::FolderReports;
-use watch_program::{
-    ClosedPaths, Complaints, Fault, PlaceWord, command, folder_of, hints_of, option, pace_of,
-    run_with_words,
-};
 
 /// The program's name.
 const NAME: &str = "document_index";

@@ -3,17 +3,17 @@ ghost use Rattle.std.specs.Prelude.{◌≡◌, ◌&&◌, Some, None, is_ok, is_s
 ghost use Rattle.std.specs.Io.KnownBytes.{Appends};
 ghost use Rattle.document_index.specs.Answered.{Answers, AnswersAll, Query};
 ghost use Rattle.document_index.specs.Read.{IsReadAmong};
-ghost use Rattle.word_index.specs.Answer.{answer_to};
+ghost use Rattle.program_logic.specs.Words.Answer.{answer_to};
 
 use crate::NAME;
 use crate::indexer::Indexer;
 use notify_debouncer_full::DebouncerRuntime;
+use program_frame::{Fault, write_now};
+use program_logic::words::write_answer;
+use program_reports::FolderReports;
 use std::alloc::Global;
 use std::io;
 use std::io::Write;
-use watch_loop::FolderReports;
-use watch_program::{Fault, write_now};
-use word_index::answer::write_answer;
 
 /// An index of documents, and where its answers go.
 #[derive(Drop)]

@@ -3,19 +3,19 @@
 #![tactic(auto)]
 
 use clap::{ArgMatches, Command};
-use mirror_files::{FolderCopy, RealDisk, check_apart};
-use mirror_state::{Leave, Mirror, NAME};
 use notify_debouncer_full::{DebouncerRuntime, PathBuf, RecursiveMode};
+use program_copy::files::{FolderCopy, RealDisk, check_apart};
+use program_copy::{Leave, Mirror, NAME};
+use program_frame::{
+    ClosedPaths, Complaints, Fault, Pace, PlaceWord, command, flag, folder_of, pace_of, place_arg,
+    place_of, run_with_words, with_until_eof,
+};
+use program_reports::follow_folder;
 use std::alloc::{AllocError, Global};
 use std::fs;
 use std::fs::Files;
 use std::io::Write;
 use std::process::ExitCode;
-use watch_loop::follow_folder;
-use watch_program::{
-    ClosedPaths, Complaints, Fault, Pace, PlaceWord, command, flag, folder_of, pace_of, place_arg,
-    place_of, run_with_words, with_until_eof,
-};
 
 /// The folder that is copied.
 const FROM: PlaceWord<'static> = PlaceWord {

@@ -5,8 +5,8 @@ use Rattle.debounce_model.specs.PathsLaw.{emitted}
 use Rattle.debounce_model.specs.State.{State}
 use Rattle.debounce_book.specs.Journal.{Accepts, EntryValue, Replays}
 use Rattle.debounce_book.specs.JournalLaws.{replies_of}
-use Rattle.told_lock.specs.History.{picked}
-use Rattle.debounce_access.specs.Happened.{History, Opened, Accepted, Missed, asks, entries_of, is_emitting}
+use Rattle.debounce_lock.specs.History.{picked}
+use Rattle.debounce_run.specs.Access.Happened.{History, Opened, Accepted, Missed, asks, entries_of, is_emitting}
 use Rattle.notify_debouncer_full.specs.Emitted.{Report, batch_of, events_in, reported_by, reports_of}
 
 -- the events of some reports and then of others

@@ -6,12 +6,12 @@ use Rattle.debounce_book.specs.Book.{Kept}
 use Rattle.debounce_book.specs.Journal.{EntryValue}
 use Rattle.debounce_model.specs.Cache.{no_numbers}
 use Rattle.debounce_model.specs.Command.{ReplyValue, ErrorsReply, BatchReply}
-use Rattle.debounce_access.specs.Happened.{HappenedValue, History, Accepted}
-use Rattle.debounce_access.specs.Stands.{Known}
-use Rattle.debounce_turns.specs.Ended.{IsEnded, IsFinished}
-use Rattle.debounce_turns.specs.Handed.{Handed, HandsOne, HandsReply, LeavesAll}
-use Rattle.debounce_turns.specs.Turn.{HandsList}
-use Rattle.report_queue.specs.Queue.{Calls, Sending, lost_in, put_in}
+use Rattle.debounce_run.specs.Access.Happened.{HappenedValue, History, Accepted}
+use Rattle.debounce_run.specs.Access.Stands.{Known}
+use Rattle.debounce_run.specs.Turns.Ended.{IsEnded, IsFinished}
+use Rattle.debounce_run.specs.Turns.Handed.{Handed, HandsOne, HandsReply, LeavesAll}
+use Rattle.debounce_run.specs.Turns.Turn.{HandsList}
+use Rattle.debounce_lock.specs.Reports.Queue.{Calls, Sending, lost_in, put_in}
 use Rattle.notify_debouncer_full.specs.Emitted.{CallsOnce, EndsReports, FinishesReports, IsGiven, Report, WasCalled, called, once, plain, reported_by, reports_at, reports_of}
 
 module _ {A : Type 0} where

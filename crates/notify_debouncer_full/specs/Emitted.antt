@@ -8,10 +8,10 @@ use Rattle.debounce_model.specs.Cache.{no_numbers}
 use Rattle.debounce_model.specs.Command.{ReplyValue, ErrorsReply, BatchReply}
 use Rattle.debounce_book.specs.Book.{Kept}
 use Rattle.debounce_book.specs.Journal.{EntryValue}
-use Rattle.debounce_access.specs.Happened.{HappenedValue, History, Accepted}
-use Rattle.debounce_access.specs.Stands.{Known}
-use Rattle.debounce_turns.specs.Ended.{FeedComesBack, IsEnded}
-use Rattle.report_queue.specs.Queue.{Calls, Giving, Sending, lost_in, put_in}
+use Rattle.debounce_run.specs.Access.Happened.{HappenedValue, History, Accepted}
+use Rattle.debounce_run.specs.Access.Stands.{Known}
+use Rattle.debounce_run.specs.Turns.Ended.{FeedComesBack, IsEnded}
+use Rattle.debounce_lock.specs.Reports.Queue.{Calls, Giving, Sending, lost_in, put_in}
 
 -- what a report has, whichever its allocator is
 abbrev pub Report : Type 0

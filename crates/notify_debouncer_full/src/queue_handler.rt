@@ -1,9 +1,9 @@
 //! The handler that puts what is emitted into a queue.
 ghost use Rattle.std.specs.Prelude.{◌≡◌};
 
-use debounce_turns::left::Leaves;
-use notify_watch::handler::{DebounceEventHandler, DebounceEventResult};
-use report_queue::sender::ReportSender;
+use debounce_lock::ReportSender;
+use debounce_run::Leaves;
+use notify_watch::{DebounceEventHandler, DebounceEventResult};
 use std::alloc::{Allocator, Global};
 use std::marker::Model;
 use std::sync::Wait;
@@ -18,7 +18,7 @@ pub struct QueueHandler<R: Wait + Drop, A: Allocator = Global> {
 
 impl<R: Wait + Drop, A: Allocator> Model for QueueHandler<R, A> {
     ghost use Rattle.notify_watch.specs.Handler.{Outcome};
-    ghost use Rattle.report_queue.specs.Queue.{Sending};
+    ghost use Rattle.debounce_lock.specs.Reports.Queue.{Sending};
 
     ghost Value = { Sending (Outcome A) };
 

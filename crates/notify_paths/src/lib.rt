@@ -1,4 +1,4 @@
-//! Paths, and the errors that name paths.
+//! Paths, the errors that name paths, and what lies below a path in a map.
 //!
 //! A path is a list of parts, as Rust cuts a text into components on Unix, and that list is all that
 //! a contract sees of it. Each type that holds memory is generic in its allocator, and is made with
@@ -11,9 +11,15 @@
 //! ```
 #![tactic(auto)]
 
-pub mod error;
+mod below;
+mod error;
 mod first_words;
 mod order;
-pub mod part;
-pub mod path;
+mod part;
+mod path;
 mod text;
+
+pub use below::{copy_first_below, count_below, drop_at_or_below, drop_below};
+pub use error::{Error, ErrorKind};
+pub use part::{FoldersAbove, Part, Parts};
+pub use path::PathBuf;

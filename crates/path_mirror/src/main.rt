@@ -7,7 +7,7 @@ use notify_debouncer_full::{
     Config, DebounceEventResult, DebouncerRuntime, LastReports, PathBuf, RecommendedReports,
     RecursiveMode, Reports,
 };
-use path_sets::PathSet;
+use reader_paths::PathSet;
 use std::env;
 use std::time::Duration;
 

@@ -14,18 +14,18 @@ use Rattle.notify_paths.specs.PathLaws.{path_cmp_total, path_eq_decides}
 use Rattle.notify_paths.proofs.Prefixes.{same_path}
 use Rattle.debounce_model.specs.Honest.{has_folders}
 use Rattle.debounce_model.proofs.Entries.{insert_insert_same, lookup-insert_other, lookup-insert_same, lookup-remove_other, lookup-remove_same, same_entries, sorted-filter, sorted-insert_entry, sorted-remove_entry}
-use Rattle.folder_listing.specs.declared.entry.Found.{Found}
-use Rattle.folder_listing.specs.declared.updates.Update.{Update}
-use Rattle.folder_listing.specs.declared.updates.Update.TheVariants.{Gone, Changed, Added}
-use Rattle.folder_listing.specs.Listing.{ListingValue, IsListing, entry_at, has_entry, is_nonempty}
-use Rattle.folder_listing.specs.Updates.{IsUpdate, UpdatesValue, after, fits_at, found_after, update_at, updated}
-use Rattle.folder_listing.proofs.PairLemmas.{AreAbove, above-trans, at_itself, entry_at-above, turned}
-use Rattle.folder_listing.specs.Near.{outside}
-use Rattle.folder_listing.proofs.BehindLemmas.{at-same}
-use Rattle.folder_listing.proofs.NearLemmas.{outside_listing}
-use Rattle.folder_listing.proofs.ListingLemmas.{entry_at-insert, has_entry-inserted, insert-grows, is_listing-insert}
-use Rattle.folder_listing.proofs.UpdateLemmas.{Ascends, updated-finds, updated-sorted}
-use Rattle.folder_listing.proofs.WalkLemmas.{has_entry-some}
+use Rattle.poll_listing.specs.declared.entry.Found.{Found}
+use Rattle.poll_listing.specs.declared.updates.Update.{Update}
+use Rattle.poll_listing.specs.declared.updates.Update.TheVariants.{Gone, Changed, Added}
+use Rattle.poll_listing.specs.Listing.{ListingValue, IsListing, entry_at, has_entry, is_nonempty}
+use Rattle.poll_listing.specs.Updates.{IsUpdate, UpdatesValue, after, fits_at, found_after, update_at, updated}
+use Rattle.poll_listing.proofs.PairLemmas.{AreAbove, above-trans, at_itself, entry_at-above, turned}
+use Rattle.poll_listing.specs.Near.{outside}
+use Rattle.poll_listing.proofs.BehindLemmas.{at-same}
+use Rattle.poll_listing.proofs.NearLemmas.{outside_listing}
+use Rattle.poll_listing.proofs.ListingLemmas.{entry_at-insert, has_entry-inserted, insert-grows, is_listing-insert}
+use Rattle.poll_listing.proofs.UpdateLemmas.{Ascends, updated-finds, updated-sorted}
+use Rattle.poll_listing.proofs.WalkLemmas.{has_entry-some}
 use Rattle.poll_rounds.specs.Beside.{BesideValue, IsBeside, begins_before, put_in, within, without}
 
 -- what is told last of a path is found, and elsewhere what was told

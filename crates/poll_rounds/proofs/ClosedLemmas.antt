@@ -11,16 +11,16 @@ use Rattle.notify_paths.proofs.Prefixes.{and_true, prefix_itself}
 use Rattle.debounce_model.specs.Play.{has_path}
 use Rattle.debounce_model.specs.Honest.{has_folders}
 use Rattle.debounce_model.proofs.Entries.{sorted-filter}
-use Rattle.folder_listing.specs.Listing.{ListingValue, IsListing, entry_at, has_entry, is_nonempty}
-use Rattle.folder_listing.specs.Updates.{IsUpdate, UpdatesValue, after, fits_at, update_at, updated}
-use Rattle.folder_listing.proofs.BehindLemmas.{at-same, prefix-append}
-use Rattle.folder_listing.proofs.HonestLemmas.{and_both, each-there, or_right}
-use Rattle.folder_listing.proofs.ListingLemmas.{all-passes}
-use Rattle.folder_listing.proofs.NearLemmas.{above_passes, all_above}
-use Rattle.folder_listing.proofs.ParentLemmas.{each_there}
-use Rattle.folder_listing.proofs.PrefixLemmas.{prefix-trans}
-use Rattle.folder_listing.proofs.UpdateLemmas.{Ascends, updated-finds, updated-sorted}
-use Rattle.folder_listing.proofs.WalkLemmas.{has_entry-some}
+use Rattle.poll_listing.specs.Listing.{ListingValue, IsListing, entry_at, has_entry, is_nonempty}
+use Rattle.poll_listing.specs.Updates.{IsUpdate, UpdatesValue, after, fits_at, update_at, updated}
+use Rattle.poll_listing.proofs.BehindLemmas.{at-same, prefix-append}
+use Rattle.poll_listing.proofs.HonestLemmas.{and_both, each-there, or_right}
+use Rattle.poll_listing.proofs.ListingLemmas.{all-passes}
+use Rattle.poll_listing.proofs.NearLemmas.{above_passes, all_above}
+use Rattle.poll_listing.proofs.ParentLemmas.{each_there}
+use Rattle.poll_listing.proofs.PrefixLemmas.{prefix-trans}
+use Rattle.poll_listing.proofs.UpdateLemmas.{Ascends, updated-finds, updated-sorted}
+use Rattle.poll_listing.proofs.WalkLemmas.{has_entry-some}
 use Rattle.notify_types.specs.declared.event.RecursiveMode.{RecursiveMode}
 use Rattle.poll_rounds.specs.Closed.{ClosedValue, IsKept, LookKeeps, RoundKeeps, is_kept, keeps}
 use Rattle.poll_rounds.specs.Folders.{IsTree, shown}

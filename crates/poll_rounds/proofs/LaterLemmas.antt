@@ -13,11 +13,11 @@ use Rattle.notify_paths.specs.Path.{PathValue, is_prefix, path_cmp}
 use Rattle.notify_paths.specs.PathLaws.{path_cmp_total}
 use Rattle.notify_paths.proofs.Prefixes.{run_ends}
 use Rattle.debounce_model.proofs.Entries.{sorted-filter}
-use Rattle.folder_listing.specs.declared.entry.Found.{Found}
-use Rattle.folder_listing.specs.Listing.{ListingValue}
-use Rattle.folder_listing.proofs.PairLemmas.{AreAbove, turned}
-use Rattle.folder_listing.proofs.PrefixLemmas.{no_prefix_behind}
-use Rattle.folder_listing.proofs.UpdateLemmas.{Ascends}
+use Rattle.poll_listing.specs.declared.entry.Found.{Found}
+use Rattle.poll_listing.specs.Listing.{ListingValue}
+use Rattle.poll_listing.proofs.PairLemmas.{AreAbove, turned}
+use Rattle.poll_listing.proofs.PrefixLemmas.{no_prefix_behind}
+use Rattle.poll_listing.proofs.UpdateLemmas.{Ascends}
 use Rattle.poll_rounds.specs.Beside.{within}
 
 -- the entries from the path on

@@ -11,12 +11,12 @@ use Rattle.std.proofs.lemmas.List.Sorted.{list_any-IsPermutation}
 use Rattle.notify_paths.specs.Path.{PathValue, PartValue, NamePart, path_cmp}
 use Rattle.notify_paths.specs.PathText.{is_proper_name}
 use Rattle.notify_paths.specs.PathMoves.{child_of}
-use Rattle.folder_listing.specs.declared.entry.EntryKind.TheVariants.{Folder}
-use Rattle.folder_listing.specs.declared.entry.Found.{Found}
-use Rattle.folder_listing.specs.Listing.{ListingValue, entry_at, is_same_kind}
-use Rattle.folder_listing.specs.Changes.{is_of_kind}
+use Rattle.poll_listing.specs.declared.entry.EntryKind.TheVariants.{Folder}
+use Rattle.poll_listing.specs.declared.entry.Found.{Found}
+use Rattle.poll_listing.specs.Listing.{ListingValue, entry_at, is_same_kind}
+use Rattle.poll_listing.specs.Changes.{is_of_kind}
 use Rattle.poll_rounds.specs.Folders.{reach, reaches, Adds, AreNames, NamesOf}
-use Rattle.folder_listing.proofs.WalkLemmas.{or_false}
+use Rattle.poll_listing.proofs.WalkLemmas.{or_false}
 use Rattle.poll_rounds.proofs.ReachLemmas.{Adds-alike, Adds-then, Adds-none, Adds-one, reaches-none, reaches-alone, reach-no_folder, in_child, reaches-folder}
 
 -- the tests of lists

@@ -3,8 +3,8 @@ use Rattle.std.proofs.Common.{◌≡◌, List, ap, sym, ◌∙◌, Some, None}
 use Rattle.std.specs.Prelude.{Option, Result, Ok, Err, IfOk, IfSome}
 use Rattle.notify_paths.specs.Path.{PathValue}
 use Rattle.notify_types.specs.declared.event.RecursiveMode.{RecursiveMode}
-use Rattle.folder_listing.specs.Listing.{ListingValue, IsListing}
-use Rattle.folder_listing.specs.Updates.{UpdatesValue, updated}
+use Rattle.poll_listing.specs.Listing.{ListingValue, IsListing}
+use Rattle.poll_listing.specs.Updates.{UpdatesValue, updated}
 use Rattle.poll_rounds.specs.Beside.{BesideValue, put_in}
 use Rattle.poll_rounds.specs.Folders.{IsTree, shown}
 use Rattle.poll_rounds.proofs.RootLemmas.{HasListed, listed-shown}

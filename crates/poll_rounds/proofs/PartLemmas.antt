@@ -12,16 +12,16 @@ use Rattle.notify_paths.proofs.Prefixes.{and_false, prefix_itself}
 use Rattle.notify_types.specs.declared.event.RecursiveMode.{RecursiveMode}
 use Rattle.debounce_model.specs.Play.{Paths, has_path}
 use Rattle.debounce_model.specs.Honest.{folders_of, has_folders}
-use Rattle.folder_listing.specs.declared.entry.EntryKind.TheVariants.{File, Folder}
-use Rattle.folder_listing.specs.declared.entry.Found.{Found}
-use Rattle.folder_listing.specs.Listing.{ListingValue, IsListing, entry_at, has_entry, is_nonempty}
-use Rattle.folder_listing.specs.Changes.{is_of_kind}
-use Rattle.folder_listing.specs.Near.{is_name_part, are_names, depth_of, is_near, levels_left, outside}
-use Rattle.folder_listing.proofs.PrefixLemmas.{prefix-trans}
-use Rattle.folder_listing.proofs.HonestLemmas.{and_both}
-use Rattle.folder_listing.proofs.NearLemmas.{all_above, above_passes}
-use Rattle.folder_listing.proofs.BehindLemmas.{prefix-append, prefix-rest, longer_no_prefix, at-same}
-use Rattle.folder_listing.proofs.WalkLemmas.{has_entry-some, keys_of-filter, has-filter}
+use Rattle.poll_listing.specs.declared.entry.EntryKind.TheVariants.{File, Folder}
+use Rattle.poll_listing.specs.declared.entry.Found.{Found}
+use Rattle.poll_listing.specs.Listing.{ListingValue, IsListing, entry_at, has_entry, is_nonempty}
+use Rattle.poll_listing.specs.Changes.{is_of_kind}
+use Rattle.poll_listing.specs.Near.{is_name_part, are_names, depth_of, is_near, levels_left, outside}
+use Rattle.poll_listing.proofs.PrefixLemmas.{prefix-trans}
+use Rattle.poll_listing.proofs.HonestLemmas.{and_both}
+use Rattle.poll_listing.proofs.NearLemmas.{all_above, above_passes}
+use Rattle.poll_listing.proofs.BehindLemmas.{prefix-append, prefix-rest, longer_no_prefix, at-same}
+use Rattle.poll_listing.proofs.WalkLemmas.{has_entry-some, keys_of-filter, has-filter}
 use Rattle.poll_rounds.specs.Folders.{IsTree, is_passable, shows, shown, reach, reaches, Adds}
 use Rattle.poll_rounds.specs.Parts.{has_folder, passes, shows_in, has_root_below, LooksAt, IsTop}
 use Rattle.poll_rounds.proofs.ReachLemmas.{Adds-alike, Adds-then, Adds-none}

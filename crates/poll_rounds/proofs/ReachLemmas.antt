@@ -10,17 +10,17 @@ use Rattle.notify_paths.specs.Path.{PathValue, PartValue, RootPart, CurPart, Par
 use Rattle.notify_paths.specs.PathText.{is_proper_name}
 use Rattle.notify_paths.specs.PathLaws.{part_eq_decides}
 use Rattle.notify_paths.proofs.Prefixes.{and_false}
-use Rattle.folder_listing.specs.declared.entry.EntryKind.TheVariants.{Folder}
-use Rattle.folder_listing.specs.declared.entry.Found.{Found}
-use Rattle.folder_listing.specs.Listing.{ListingValue, entry_at, has_entry}
-use Rattle.folder_listing.specs.Changes.{is_of_kind}
-use Rattle.folder_listing.specs.Near.{is_name_part}
+use Rattle.poll_listing.specs.declared.entry.EntryKind.TheVariants.{Folder}
+use Rattle.poll_listing.specs.declared.entry.Found.{Found}
+use Rattle.poll_listing.specs.Listing.{ListingValue, entry_at, has_entry}
+use Rattle.poll_listing.specs.Changes.{is_of_kind}
+use Rattle.poll_listing.specs.Near.{is_name_part}
 use Rattle.poll_rounds.specs.Folders.{reach, reaches, Adds, AreNames}
-use Rattle.folder_listing.proofs.BehindLemmas.{prefix-front, prefix-append, prefix-rest, drop-append, at-same, at-no_prefix, at-longer}
-use Rattle.folder_listing.proofs.PrefixLemmas.{prefix-trans}
-use Rattle.folder_listing.proofs.PairLemmas.{at_itself}
-use Rattle.folder_listing.proofs.WalkLemmas.{has_entry-some}
-use Rattle.folder_listing.proofs.ListingLemmas.{entry_at-insert}
+use Rattle.poll_listing.proofs.BehindLemmas.{prefix-front, prefix-append, prefix-rest, drop-append, at-same, at-no_prefix, at-longer}
+use Rattle.poll_listing.proofs.PrefixLemmas.{prefix-trans}
+use Rattle.poll_listing.proofs.PairLemmas.{at_itself}
+use Rattle.poll_listing.proofs.WalkLemmas.{has_entry-some}
+use Rattle.poll_listing.proofs.ListingLemmas.{entry_at-insert}
 
 -- by tests that are alike
 pub Adds-alike : (tree : ListingValue) (t u : PathValue → Bool) (es fs : ListingValue) →

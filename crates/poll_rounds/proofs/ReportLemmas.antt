@@ -6,8 +6,8 @@ use Rattle.notify_paths.specs.Errors.{ErrorValue}
 use Rattle.notify_types.specs.Event.{EventValue}
 use Rattle.notify_watch.proofs.CallLemmas.{called-none, called-once, called-then}
 use Rattle.notify_watch.specs.Handler.{IsCalledOn}
-use Rattle.folder_listing.specs.Listing.{ListingValue, IsListing}
-use Rattle.folder_listing.specs.Moves.{told_changes}
+use Rattle.poll_listing.specs.Listing.{ListingValue, IsListing}
+use Rattle.poll_listing.specs.Moves.{told_changes}
 use Rattle.poll_rounds.specs.Reports.{Tells, ReportAll, Begins, GoesOn, left_by}
 use Rattle.poll_rounds.specs.Rounds.{HandsEach}
 

@@ -10,15 +10,15 @@ use Rattle.notify_types.specs.declared.event.RecursiveMode.{RecursiveMode}
 use Rattle.notify_paths.proofs.Prefixes.{and_false, and_true}
 use Rattle.debounce_model.specs.Play.{Paths, has_path}
 use Rattle.debounce_model.specs.Honest.{folders_of}
-use Rattle.folder_listing.specs.declared.entry.EntryKind.TheVariants.{File, Folder}
-use Rattle.folder_listing.specs.declared.entry.Found.{Found}
-use Rattle.folder_listing.specs.Listing.{ListingValue, entry_at, has_entry, is_nonempty, is_same_kind, IsListing}
-use Rattle.folder_listing.specs.Changes.{is_of_kind}
-use Rattle.folder_listing.specs.Near.{depth_of}
+use Rattle.poll_listing.specs.declared.entry.EntryKind.TheVariants.{File, Folder}
+use Rattle.poll_listing.specs.declared.entry.Found.{Found}
+use Rattle.poll_listing.specs.Listing.{ListingValue, entry_at, has_entry, is_nonempty, is_same_kind, IsListing}
+use Rattle.poll_listing.specs.Changes.{is_of_kind}
+use Rattle.poll_listing.specs.Near.{depth_of}
 use Rattle.poll_rounds.specs.Folders.{IsTree, reaches, Adds, shows, shown, is_passable}
-use Rattle.folder_listing.proofs.WalkLemmas.{or_false, has_entry-some}
-use Rattle.folder_listing.proofs.ListingLemmas.{folders_of-push}
-use Rattle.folder_listing.proofs.BehindLemmas.{longer_no_prefix}
+use Rattle.poll_listing.proofs.WalkLemmas.{or_false, has_entry-some}
+use Rattle.poll_listing.proofs.ListingLemmas.{folders_of-push}
+use Rattle.poll_listing.proofs.BehindLemmas.{longer_no_prefix}
 use Rattle.poll_rounds.proofs.ReachLemmas.{Adds-alike, Adds-then, Adds-none, Adds-one}
 use Rattle.debounce_model.proofs.Entries.{same_entries}
 use Rattle.notify_paths.specs.PathLaws.{path_cmp_total}

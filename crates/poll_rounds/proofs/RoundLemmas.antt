@@ -4,8 +4,8 @@ use Rattle.std.specs.Prelude.{IfErr, IfOk, IfSome, IsErrOf, IsOkAnd, None, Optio
 use Rattle.notify_paths.specs.Errors.{ErrorValue, out_of_memory}
 use Rattle.notify_types.specs.declared.event.RecursiveMode.{RecursiveMode}
 use Rattle.notify_paths.specs.Path.{PathValue}
-use Rattle.folder_listing.specs.Listing.{ListingValue}
-use Rattle.folder_listing.specs.Updates.{UpdatesValue, updated}
+use Rattle.poll_listing.specs.Listing.{ListingValue}
+use Rattle.poll_listing.specs.Updates.{UpdatesValue, updated}
 use Rattle.poll_rounds.specs.Folders.{IsRefusal, IsTree, shown}
 use Rattle.poll_rounds.specs.Parts.{LooksEach}
 use Rattle.poll_rounds.specs.Rounds.{HandsEach, HandsError, HandsRefusal}

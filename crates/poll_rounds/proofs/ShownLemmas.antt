@@ -16,18 +16,18 @@ use Rattle.notify_paths.proofs.Prefixes.{prefix_itself, and_false, and_true}
 use Rattle.debounce_model.specs.Play.{has_path}
 use Rattle.debounce_model.specs.Honest.{folders_of}
 use Rattle.debounce_model.proofs.Entries.{sorted-filter}
-use Rattle.folder_listing.specs.declared.entry.EntryKind.TheVariants.{File, Folder}
-use Rattle.folder_listing.specs.declared.entry.Found.{Found}
-use Rattle.folder_listing.specs.Listing.{ListingValue, entry_at, has_entry, is_nonempty}
-use Rattle.folder_listing.specs.Changes.{is_of_kind}
-use Rattle.folder_listing.specs.Near.{is_name_part, are_names, depth_of, is_near}
+use Rattle.poll_listing.specs.declared.entry.EntryKind.TheVariants.{File, Folder}
+use Rattle.poll_listing.specs.declared.entry.Found.{Found}
+use Rattle.poll_listing.specs.Listing.{ListingValue, entry_at, has_entry, is_nonempty}
+use Rattle.poll_listing.specs.Changes.{is_of_kind}
+use Rattle.poll_listing.specs.Near.{is_name_part, are_names, depth_of, is_near}
 use Rattle.poll_rounds.specs.Folders.{is_passable, shows_at, shown, shows, reach, reaches}
-use Rattle.folder_listing.proofs.PrefixLemmas.{prefix-trans}
-use Rattle.folder_listing.proofs.PairLemmas.{at_itself}
-use Rattle.folder_listing.proofs.WalkLemmas.{or_false, has_entry-some}
-use Rattle.folder_listing.proofs.HonestLemmas.{and_both}
-use Rattle.folder_listing.proofs.ListingLemmas.{folders_of-push}
-use Rattle.folder_listing.proofs.BehindLemmas.{prefix-append, prefix-rest, drop-append, longer_no_prefix, at-same, at-no_prefix, at-longer}
+use Rattle.poll_listing.proofs.PrefixLemmas.{prefix-trans}
+use Rattle.poll_listing.proofs.PairLemmas.{at_itself}
+use Rattle.poll_listing.proofs.WalkLemmas.{or_false, has_entry-some}
+use Rattle.poll_listing.proofs.HonestLemmas.{and_both}
+use Rattle.poll_listing.proofs.ListingLemmas.{folders_of-push}
+use Rattle.poll_listing.proofs.BehindLemmas.{prefix-append, prefix-rest, drop-append, longer_no_prefix, at-same, at-no_prefix, at-longer}
 use Rattle.poll_rounds.proofs.ReachLemmas.{reaches-append, reaches-outside}
 
 -- both tests

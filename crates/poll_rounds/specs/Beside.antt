@@ -4,8 +4,8 @@ use Rattle.std.specs.Ordering.{is_lt}
 use Rattle.std.specs.List.Sorted.{IsStrictlySortedBy}
 use Rattle.std.specs.Map.{keys_of}
 use Rattle.notify_paths.specs.Path.{PathValue, is_prefix, path_cmp}
-use Rattle.folder_listing.specs.Listing.{ListingValue, IsListing, entry_at, has_entry}
-use Rattle.folder_listing.specs.Updates.{UpdatesValue, fits_at, update_at, updated}
+use Rattle.poll_listing.specs.Listing.{ListingValue, IsListing, entry_at, has_entry}
+use Rattle.poll_listing.specs.Updates.{UpdatesValue, fits_at, update_at, updated}
 
 -- the last listing, those of its entries that are looked at anew and weren't passed yet, and what differs elsewhere
 pub record BesideValue : Type 0 where

@@ -4,7 +4,7 @@ use Rattle.std.specs.List.{list_any}
 use Rattle.std.specs.declared.io.ErrorKind.{ErrorKind}
 use Rattle.notify_paths.specs.Path.{PathValue, is_below, is_prefix}
 use Rattle.notify_types.specs.declared.event.RecursiveMode.{RecursiveMode}
-use Rattle.folder_listing.specs.Listing.{ListingValue, entry_at}
+use Rattle.poll_listing.specs.Listing.{ListingValue, entry_at}
 use Rattle.poll_rounds.specs.Folders.{IsTree, shown}
 use Rattle.poll_rounds.specs.Parts.{LooksEach}
 

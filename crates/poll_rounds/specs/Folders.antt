@@ -6,12 +6,12 @@ use Rattle.std.specs.Str.{bytes_eq}
 use Rattle.notify_paths.specs.Path.{PathValue, PartValue, NamePart, is_prefix}
 use Rattle.notify_types.specs.declared.event.RecursiveMode.{RecursiveMode}
 use Rattle.debounce_model.specs.Honest.{folders_of}
-use Rattle.folder_listing.specs.declared.entry.EntryKind.TheVariants.{File, Folder}
-use Rattle.folder_listing.specs.declared.entry.Found.{Found}
-use Rattle.folder_listing.specs.Near.{is_name_part, is_near}
-use Rattle.folder_listing.specs.Listing.{ListingValue, entry_at, has_entry, is_nonempty, is_same_kind}
+use Rattle.poll_listing.specs.declared.entry.EntryKind.TheVariants.{File, Folder}
+use Rattle.poll_listing.specs.declared.entry.Found.{Found}
+use Rattle.poll_listing.specs.Near.{is_name_part, is_near}
+use Rattle.poll_listing.specs.Listing.{ListingValue, entry_at, has_entry, is_nonempty, is_same_kind}
 use Rattle.notify_paths.specs.Errors.{ErrorValue, ErrorKindValue, GenericKind, IoKind, PathNotFoundKind, WatchNotFoundKind, FullKind, MemoryKind}
-use Rattle.folder_listing.specs.Changes.{is_of_kind}
+use Rattle.poll_listing.specs.Changes.{is_of_kind}
 use Rattle.std.specs.List.Sorted.{IsStrictlySortedBy}
 use Rattle.std.specs.Map.{keys_of}
 use Rattle.notify_paths.specs.Path.{path_cmp}

@@ -4,10 +4,10 @@ use Rattle.std.specs.List.{list_all, list_any}
 use Rattle.notify_paths.specs.Path.{PathValue, is_prefix, is_below}
 use Rattle.notify_types.specs.declared.event.RecursiveMode.{RecursiveMode}
 use Rattle.debounce_model.specs.Honest.{folders_of}
-use Rattle.folder_listing.specs.declared.entry.EntryKind.TheVariants.{File, Folder}
-use Rattle.folder_listing.specs.declared.entry.Found.{Found}
-use Rattle.folder_listing.specs.Changes.{is_of_kind}
-use Rattle.folder_listing.specs.Listing.{ListingValue, entry_at}
+use Rattle.poll_listing.specs.declared.entry.EntryKind.TheVariants.{File, Folder}
+use Rattle.poll_listing.specs.declared.entry.Found.{Found}
+use Rattle.poll_listing.specs.Changes.{is_of_kind}
+use Rattle.poll_listing.specs.Listing.{ListingValue, entry_at}
 use Rattle.poll_rounds.specs.Folders.{Adds, IsTree, shown, shows}
 
 -- what was found at a folder on the way lets it be passed

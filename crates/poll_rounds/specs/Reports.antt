@@ -2,8 +2,8 @@
 use Rattle.std.specs.Prelude.{◌≡◌, ℕ, List, [], ◌∷◌, ◌++◌, Option, None, Result, Ok, Err, ◌⊎◌}
 use Rattle.notify_paths.specs.Errors.{ErrorValue}
 use Rattle.notify_types.specs.Event.{EventValue}
-use Rattle.folder_listing.specs.Listing.{ListingValue, IsListing}
-use Rattle.folder_listing.specs.Moves.{told_changes}
+use Rattle.poll_listing.specs.Listing.{ListingValue, IsListing}
+use Rattle.poll_listing.specs.Moves.{told_changes}
 use Rattle.poll_rounds.specs.Rounds.{HandsEach}
 
 -- a step hands on just what it changes of the last listing, and of moves the trackers from this one on, if there is

@@ -5,18 +5,15 @@ ghost use Rattle.std.specs.Map.{keys_of};
 ghost use Rattle.notify_paths.specs.Errors.{out_of_memory};
 ghost use Rattle.notify_paths.specs.Path.{path_cmp};
 ghost use Rattle.debounce_model.specs.Honest.{has_folders};
-ghost use Rattle.folder_listing.specs.Listing.{IsListing, entry_at, has_entry, is_nonempty};
-ghost use Rattle.folder_listing.specs.Near.{outside};
-ghost use Rattle.folder_listing.specs.Updates.{IsUpdate, updated};
+ghost use Rattle.poll_listing.specs.Listing.{IsListing, entry_at, has_entry, is_nonempty};
+ghost use Rattle.poll_listing.specs.Near.{outside};
+ghost use Rattle.poll_listing.specs.Updates.{IsUpdate, updated};
 ghost use Rattle.poll_rounds.specs.Beside.{IsBeside, begins_before, put_in};
 
 use crate::entries::Entries;
 use crate::later::{Later, next_within};
-use folder_listing::entry::Found;
-use folder_listing::listing::Listing;
-use folder_listing::updates::{Update, Updates};
-use notify_paths::error::Error;
-use notify_paths::path::PathBuf;
+use notify_paths::{Error, PathBuf};
+use poll_listing::{Found, Listing, Update, Updates};
 use std::alloc::Allocator;
 use std::collections::BTreeMap;
 use std::marker::Model;
@@ -37,7 +34,7 @@ pub(crate) struct Beside<'a, A: Allocator> {
 impl<'a, A: Allocator> Model for Beside<'a, A> {
     ghost use Rattle.std.specs.Option.{option_map};
     ghost use Rattle.std.specs.Map.Iter.{deref_pair};
-    ghost use Rattle.folder_listing.specs.Pairs.{with_head};
+    ghost use Rattle.poll_listing.specs.Pairs.{with_head};
     ghost use Rattle.poll_rounds.specs.Beside.{BesideValue, IsBeside, within};
 
     ghost Value = { BesideValue };

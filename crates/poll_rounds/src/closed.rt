@@ -1,22 +1,19 @@
 //! Rounds and looks that keep what can't be looked at.
 ghost use Rattle.std.specs.Prelude.{◌≡◌, ◌≤◌, ◌⊎◌, [], length, true, false, IfErr, IfOk, IsErrOf, IsOkAnd, OnErr, OnOk};
 ghost use Rattle.notify_paths.specs.Errors.{out_of_memory};
-ghost use Rattle.folder_listing.specs.Moves.{told_changes, trackers_after};
-ghost use Rattle.folder_listing.specs.Updates.{IsUpdate, updated};
+ghost use Rattle.poll_listing.specs.Moves.{told_changes, trackers_after};
+ghost use Rattle.poll_listing.specs.Updates.{IsUpdate, updated};
 ghost use Rattle.poll_rounds.specs.Closed.{ClosedValue, IsKept, LookKeeps, RoundKeeps, is_kept, keeps};
 ghost use Rattle.poll_rounds.specs.Rounds.{HandsEach, HandsRefusal};
 
 use crate::folders::Folders;
-use crate::list::list_beside;
 use crate::look::list_near;
 use crate::round::pass_on;
-use folder_listing::listing::Listing;
-use folder_listing::moves::compare_moves;
-use folder_listing::updates::Updates;
-use notify_paths::error::Error;
-use notify_paths::path::PathBuf;
-use notify_types::event::{Event, RecursiveMode};
-use notify_watch::handler::EventHandler;
+use crate::walk::list_beside;
+use notify_paths::{Error, PathBuf};
+use notify_types::{Event, RecursiveMode};
+use notify_watch::EventHandler;
+use poll_listing::{Listing, Updates, compare_moves};
 use std::alloc::Allocator;
 use std::io;
 

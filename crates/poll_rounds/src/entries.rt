@@ -6,12 +6,10 @@ ghost use Rattle.std.specs.Map.{keys_of};
 ghost use Rattle.notify_paths.specs.Errors.{out_of_memory};
 ghost use Rattle.notify_paths.specs.Path.{PathValue, path_cmp};
 ghost use Rattle.debounce_model.specs.Honest.{has_folders};
-ghost use Rattle.folder_listing.specs.Listing.{ListingValue, has_entry, is_nonempty};
+ghost use Rattle.poll_listing.specs.Listing.{ListingValue, has_entry, is_nonempty};
 
-use folder_listing::entry::Found;
-use folder_listing::listing::Listing;
-use notify_paths::error::Error;
-use notify_paths::path::PathBuf;
+use notify_paths::{Error, PathBuf};
+use poll_listing::{Found, Listing};
 use std::alloc::Allocator;
 
 /// What takes the entries of a listing, one after the other.

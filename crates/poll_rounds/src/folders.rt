@@ -4,11 +4,10 @@ ghost use Rattle.std.specs.Option.{option_map};
 ghost use Rattle.std.specs.String.{string_bytes};
 ghost use Rattle.notify_paths.specs.Path.{PathValue};
 ghost use Rattle.poll_rounds.specs.Folders.{NamesOf, IsRefusal};
-ghost use Rattle.folder_listing.specs.Listing.{ListingValue, entry_at};
+ghost use Rattle.poll_listing.specs.Listing.{ListingValue, entry_at};
 
-use folder_listing::entry::Found;
-use notify_paths::error::Error;
-use notify_paths::path::PathBuf;
+use notify_paths::{Error, PathBuf};
+use poll_listing::Found;
 use std::alloc::Allocator;
 
 /// Folders and what stands in them, which are asked path by path. Some tell their whole tree to

@@ -5,13 +5,12 @@ ghost use Rattle.std.specs.Map.{keys_of};
 ghost use Rattle.std.specs.Map.Iter.{deref_pair};
 ghost use Rattle.std.specs.Option.{option_map};
 ghost use Rattle.notify_paths.specs.Path.{path_cmp};
-ghost use Rattle.folder_listing.specs.Listing.{IsListing};
-ghost use Rattle.folder_listing.specs.Pairs.{with_head};
+ghost use Rattle.poll_listing.specs.Listing.{IsListing};
+ghost use Rattle.poll_listing.specs.Pairs.{with_head};
 ghost use Rattle.poll_rounds.specs.Beside.{within};
 
-use folder_listing::entry::Found;
-use folder_listing::listing::Listing;
-use notify_paths::path::PathBuf;
+use notify_paths::PathBuf;
+use poll_listing::{Found, Listing};
 use std::alloc::Allocator;
 use std::collections::btree_map::Range;
 use std::marker::Model;
@@ -26,7 +25,7 @@ impl<'a, A: Allocator> Model for Later<'a, A> {
     ghost use Rattle.std.specs.List.Sorted.{IsStrictlySortedBy};
     ghost use Rattle.std.specs.Map.{keys_of};
     ghost use Rattle.notify_paths.specs.Path.{path_cmp};
-    ghost use Rattle.folder_listing.specs.Listing.{ListingValue};
+    ghost use Rattle.poll_listing.specs.Listing.{ListingValue};
 
     ghost Value = { ListingValue };
 

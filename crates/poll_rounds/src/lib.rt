@@ -2,11 +2,18 @@
 #![tactic(auto)]
 
 mod beside;
-pub mod closed;
-pub mod entries;
-pub mod folders;
+mod closed;
+mod entries;
+mod folders;
 mod later;
-pub mod list;
-pub mod look;
-pub mod part;
-pub mod round;
+mod look;
+mod part;
+mod round;
+mod walk;
+
+pub use closed::{Closed, NotesClosed, kept_look, kept_round};
+pub use entries::Entries;
+pub use folders::Folders;
+pub use look::look_round;
+pub use round::{hand_each, poll_round};
+pub use walk::{list, list_root};

@@ -1,8 +1,8 @@
 //! Rounds of polling that look at some paths alone.
 ghost use Rattle.std.specs.Prelude.{◌≡◌, ◌≤◌, [], true, false, IfErr, IfOk, OnErr, OnOk};
 ghost use Rattle.poll_rounds.specs.Folders.{IsRefusal};
-ghost use Rattle.folder_listing.specs.Changes.{changes};
-ghost use Rattle.folder_listing.specs.Updates.{IsUpdate, updated};
+ghost use Rattle.poll_listing.specs.Changes.{changes};
+ghost use Rattle.poll_listing.specs.Updates.{IsUpdate, updated};
 ghost use Rattle.poll_rounds.specs.Beside.{put_in};
 ghost use Rattle.poll_rounds.specs.Parts.{Looks, LooksEach};
 ghost use Rattle.poll_rounds.specs.Rounds.{HandsEach, HandsRefusal};
@@ -11,12 +11,10 @@ use crate::beside::Beside;
 use crate::folders::Folders;
 use crate::part::{list_anew, top_of};
 use crate::round::pass_on;
-use folder_listing::listing::Listing;
-use folder_listing::updates::Updates;
-use notify_paths::error::Error;
-use notify_paths::path::PathBuf;
-use notify_types::event::{Event, RecursiveMode};
-use notify_watch::handler::EventHandler;
+use notify_paths::{Error, PathBuf};
+use notify_types::{Event, RecursiveMode};
+use notify_watch::EventHandler;
+use poll_listing::{Listing, Updates};
 use std::alloc::Allocator;
 
 /// Lists the path anew, or else the first path above it that the listing doesn't have as a folder.

@@ -5,7 +5,7 @@ ghost use Rattle.std.specs.Map.{keys_of};
 ghost use Rattle.notify_paths.specs.Errors.{out_of_memory};
 ghost use Rattle.notify_paths.specs.Path.{PathValue, is_below, is_prefix};
 ghost use Rattle.debounce_model.specs.Honest.{folders_of, has_folders};
-ghost use Rattle.folder_listing.specs.Listing.{has_entry};
+ghost use Rattle.poll_listing.specs.Listing.{has_entry};
 ghost use Rattle.poll_rounds.specs.Folders.{Adds, IsRefusal, IsTree, is_passable, shows};
 ghost use Rattle.poll_rounds.specs.Beside.{put_in};
 ghost use Rattle.poll_rounds.specs.Parts.{IsTop, LooksAt, has_folder, has_root_below, passes, shows_in};
@@ -13,12 +13,10 @@ ghost use Rattle.poll_rounds.specs.Parts.{IsTop, LooksAt, has_folder, has_root_b
 use crate::beside::Beside;
 use crate::entries::Entries;
 use crate::folders::Folders;
-use crate::list::{first_parts, list_at, list_roots, part_count};
-use folder_listing::entry::Found;
-use folder_listing::near::levels_left;
-use notify_paths::error::Error;
-use notify_paths::path::PathBuf;
-use notify_types::event::RecursiveMode;
+use crate::walk::{first_parts, list_at, list_roots, part_count};
+use notify_paths::{Error, PathBuf};
+use notify_types::RecursiveMode;
+use poll_listing::{Found, levels_left};
 use std::alloc::Allocator;
 
 /// Whether what was found at a folder on the way lets it be passed: from the root on it is a folder,

@@ -2,21 +2,18 @@
 ghost use Rattle.std.specs.Prelude.{◌≡◌, ◌≤◌, [], true, false, length, IfOk, IfSome, IsOkAnd};
 ghost use Rattle.poll_rounds.specs.Closed.{IsKept};
 ghost use Rattle.poll_rounds.specs.Folders.{IsTree, shown};
-ghost use Rattle.folder_listing.specs.Changes.{changes};
-ghost use Rattle.folder_listing.specs.Moves.{told_changes, trackers_after};
-ghost use Rattle.folder_listing.specs.Updates.{IsUpdate, updated};
+ghost use Rattle.poll_listing.specs.Changes.{changes};
+ghost use Rattle.poll_listing.specs.Moves.{told_changes, trackers_after};
+ghost use Rattle.poll_listing.specs.Updates.{IsUpdate, updated};
 ghost use Rattle.poll_rounds.specs.Rounds.{HandsEach, HandsError, HandsRefusal};
 
 use crate::closed::{Closed, settle};
 use crate::folders::Folders;
-use crate::list::list_beside;
-use folder_listing::listing::Listing;
-use folder_listing::moves::trackers_after;
-use folder_listing::updates::Updates;
-use notify_paths::error::Error;
-use notify_paths::path::PathBuf;
-use notify_types::event::{Event, RecursiveMode};
-use notify_watch::handler::EventHandler;
+use crate::walk::list_beside;
+use notify_paths::{Error, PathBuf};
+use notify_types::{Event, RecursiveMode};
+use notify_watch::EventHandler;
+use poll_listing::{Listing, Updates, trackers_after};
 use std::alloc::Allocator;
 
 /// Reports the events, in order.

@@ -14,9 +14,9 @@ use notify_debouncer_full::{
     Config, DebounceDataInner, Debouncer, Error, Feed, ListingWatcher, NoCache, PathBuf,
     RecursiveMode, Watcher, new_debouncer_opt, new_journaled_debouncer,
 };
-use refusing_allocator::TestHeap;
 use std::io;
 use std::time::Duration;
+use test_fakes::allocator::TestHeap;
 
 /// The debouncer of a scene.
 pub type Running<T, R, A> = Debouncer<T, NoCache, R, A>;

@@ -6,11 +6,11 @@ use notify_debouncer_full::{
     Book, Command, DebounceDataInner, DebouncedEvent, Entry, EventKind, ModifyKind, Moment,
     NoCache, RecursiveMode, RenameMode, Reply,
 };
-use refusing_allocator::TestHeap;
 use std::alloc::{AllocError, Global};
 use std::io;
 use std::sync::Wait;
 use std::time::Clock;
+use test_fakes::allocator::TestHeap;
 
 /// A core that carries out the commands of a journal.
 pub type Core<A> = DebounceDataInner<NoCache, A>;

@@ -10,8 +10,8 @@ use notify_debouncer_full::{
     ByHand, DebounceDataInner, Debouncer, Error, ErrorKind, Feed, NoCache,
     new_journaled_debouncer_by_hand,
 };
-use refusing_allocator::TestHeap;
 use std::io;
+use test_fakes::allocator::TestHeap;
 
 /// Starts a debouncer with a journal, feeds it an error by hand, ends it, and prints what its book has.
 pub fn play_by_hand<R: Host, A: TestHeap>(scene: &mut Scene<R, A>, line: &str) -> io::Result<()> {

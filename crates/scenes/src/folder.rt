@@ -2,12 +2,12 @@
 use crate::scene::{Host, Scene, number, split};
 use crate::words::given;
 use notify_debouncer_full::{Listing, PathBuf, RealFolders, RecursiveMode, list};
-use refusing_allocator::TestHeap;
 use std::alloc::{AllocError, Global};
 use std::fs::Files;
 use std::os::unix::fs::symlink;
 use std::time::{Duration, UNIX_EPOCH};
 use std::{fs, io};
+use test_fakes::allocator::TestHeap;
 
 /// Plays a line that changes the folder, or one that is of no folder.
 pub fn play_file_line<R: Host, A: TestHeap>(scene: &mut Scene<R, A>, line: &str) -> io::Result<()> {

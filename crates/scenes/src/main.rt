@@ -30,7 +30,6 @@ use acts::play;
 use document::Section;
 use folder::{make_folder, remove_folder};
 use notify_debouncer_full::{Feed, ListingWatcher, NoCache};
-use refusing_allocator::{Heap, TestHeap};
 use scene::{Host, Scene};
 use stage::{OnStage, Staged};
 use std::alloc::AllocError;
@@ -38,6 +37,7 @@ use std::fs::Files;
 use std::io::Write;
 use std::process::ExitCode;
 use std::{fs, io, process};
+use test_fakes::allocator::{Heap, TestHeap};
 use watcher::Puppet;
 
 /// Plays a scene once, in its nth run, and returns what it printed.

@@ -1,10 +1,10 @@
 //! The form of the program `mirror` that watches a folder, over the watcher of a scene.
 use crate::scene::{Host, Scene, number, split};
+use mirror_run::watch_run_over;
 use notify_debouncer_full::{Feed, NoCache, Watcher};
-use notify_mirror::watch_run_over;
-use refusing_allocator::TestHeap;
 use std::io;
 use std::io::Write;
+use test_fakes::allocator::TestHeap;
 
 /// A device that keeps what is written, or is full.
 #[derive(Drop)]

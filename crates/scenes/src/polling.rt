@@ -8,11 +8,11 @@ use notify_debouncer_full::{
     Config, DebounceEventResult, DebouncedEvent, Feed, Hints, LastReports, NoCache, PathBuf,
     PollWatcher, RecursiveMode, Reports, Watcher,
 };
-use path_sets::PathSet;
-use refusing_allocator::TestHeap;
+use reader_paths::PathSet;
 use std::alloc::{AllocError, Global};
 use std::io;
 use std::time::Duration;
+use test_fakes::allocator::TestHeap;
 
 /// A watcher that polls.
 pub trait Polls<R: Host>: Watcher<Feed<NoCache, R>, R, Global> {

@@ -10,11 +10,11 @@ use notify_debouncer_full::{
     Config, DebounceEventResult, NoCache, PollWatcher, RecommendedDebouncer, RecursiveMode, SendTo,
     new_debouncer, new_debouncer_opt, new_debouncer_with_config,
 };
-use refusing_allocator::TestHeap;
 use std::alloc::Global;
 use std::io;
 use std::sync::atomic::Ordering;
 use std::time::Duration;
+use test_fakes::allocator::TestHeap;
 
 /// How long a scene waits for what has to come, at most, in seconds.
 const LIMIT: u64 = 50;

@@ -3,8 +3,8 @@ use crate::acts::{path, times_of};
 use crate::scene::{Host, LINES, Scene, next_line, split};
 use crate::words::{answer_of, given};
 use notify_debouncer_full::{Config, Feed, NoCache, RecursiveMode, Reports, Watcher};
-use refusing_allocator::TestHeap;
 use std::io;
+use test_fakes::allocator::TestHeap;
 
 /// Starts reports, and plays the lines up to the one that ends them.
 pub fn play_reports<T: Watcher<Feed<NoCache, R, A>, R, A>, R: Host, A: TestHeap>(

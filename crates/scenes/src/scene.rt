@@ -3,7 +3,6 @@ use crate::clock::sleep_a_turn;
 use crate::stage::{Stage, wait_for, wait_for_flag};
 use crate::words::given;
 use notify_debouncer_full::PathBuf;
-use refusing_allocator::TestHeap;
 use std::alloc::AllocError;
 use std::fs::Files;
 use std::io;
@@ -11,6 +10,7 @@ use std::sync::Wait;
 use std::sync::atomic::{AtomicBool, Ordering};
 use std::thread::Threads;
 use std::time::{Clock, Duration, Instant};
+use test_fakes::allocator::TestHeap;
 
 /// The runtime of a scene.
 pub trait Host: Threads

@@ -8,12 +8,12 @@ use notify_debouncer_full::{
     Config, DebounceEventHandler, Error, ErrorKind, Event, EventHandler, EventKind, ListingWatcher,
     PathBuf, RecursiveMode, Task, Watcher, WatcherKind,
 };
-use refusing_allocator::{RefusingHeap, TestHeap};
 use std::alloc::Allocator;
 use std::fmt::Debug;
 use std::sync::Wait;
 use std::sync::atomic::Ordering;
 use std::time::Clock;
+use test_fakes::allocator::{RefusingHeap, TestHeap};
 
 /// A handler that writes down what it is called with, and holds its first batch until it is let go.
 pub struct Scribe<R: Drop> {

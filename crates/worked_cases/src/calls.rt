@@ -3,15 +3,15 @@
 use crate::numbers::{Numbers, numbers_in};
 use crate::sorted::events_of;
 use crate::sweep::{Ending, MOST};
-use batch_moves::Moves;
-use mirror_script::read_script;
+use mirror_run::PathSet;
+use mirror_run::script::read_script;
 use notify_debouncer_full::{
     Command, DebouncedEvent, Error, ErrorKind, Event, EventKind, FileIdCache, FileIdMap, PathBuf,
     RecursiveMode, sort_events,
 };
-use notify_mirror::PathSet;
-use refusing_allocator::RefusingHeap;
+use reader_paths::moves::Moves;
 use std::alloc::AllocError;
+use test_fakes::allocator::RefusingHeap;
 
 /// A call that asks for memory.
 #[derive(Clone, Copy, PartialEq)]

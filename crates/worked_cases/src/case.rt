@@ -2,7 +2,7 @@
 ghost use Rattle.std.specs.Prelude.{◌≡◌, ◌↔◌, IsTrue};
 
 use crate::seen::show_run;
-use notify_mirror::{check_run, script_run};
+use mirror_run::{check_run, script_run};
 use std::alloc::Global;
 use std::io;
 use std::io::Write;

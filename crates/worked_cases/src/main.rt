@@ -20,12 +20,12 @@ mod sweep;
 
 use calls::CALLS;
 use case::Case;
-use refusing_allocator::{Refusing, RefusingHeap};
 use sorted::SortedCase;
 use std::alloc::Global;
 use std::io::Write;
 use std::process::ExitCode;
 use std::{env, fs, io};
+use test_fakes::allocator::{Refusing, RefusingHeap};
 
 /// The name and the script of a section of a document: its first line, and its first fenced block.
 fn story_of(section: &str) -> Option<(&str, &str)> {

@@ -2,8 +2,8 @@
 ghost use Rattle.notify_debouncer_full.specs.Scans.{some_scans};
 
 use notify_debouncer_full::{Error, FileId, FileIdCache, FileIdMap, PathBuf, Scan};
-use refusing_allocator::RefusingHeap;
 use std::alloc::AllocError;
+use test_fakes::allocator::RefusingHeap;
 
 type Found<A> = Vec<(PathBuf<A>, FileId), A>;
 

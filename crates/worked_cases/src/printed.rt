@@ -2,10 +2,10 @@
 //! goes wrong.
 use crate::devices::{Narrow, PIECE, Torn};
 use crate::sweep::MOST;
-use mirror_script::read_script;
-use notify_mirror::{check_run, script_run};
-use refusing_allocator::RefusingHeap;
+use mirror_run::script::read_script;
+use mirror_run::{check_run, script_run};
 use std::alloc::{AllocError, Global};
+use test_fakes::allocator::RefusingHeap;
 
 /// How a script is run.
 #[derive(Clone, Copy, Debug, PartialEq)]

@@ -1,5 +1,5 @@
 //! What a core shows while it carries out a script.
-use mirror_script::read_script;
+use mirror_run::script::read_script;
 use notify_debouncer_full::{Command, DebounceDataInner, NoCache, RecursiveMode};
 use std::alloc::{AllocError, Global};
 

@@ -1,5 +1,5 @@
 //! A case of `sort_events`: events, as lines of a script, and the order in which they have to come out.
-use mirror_script::read_script;
+use mirror_run::script::read_script;
 use notify_debouncer_full::{Command, DebouncedEvent, sort_events};
 use std::alloc::{AllocError, Allocator, Global};
 use std::io;

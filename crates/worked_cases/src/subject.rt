@@ -4,8 +4,8 @@ use notify_debouncer_full::{
     Book, Command, DebounceDataInner, Error, Event, FileIdCache, FileIdMap, NoCache, Reply,
     command_step, feed_step, root_step, unroot_step,
 };
-use refusing_allocator::RefusingHeap;
 use std::alloc::AllocError;
+use test_fakes::allocator::RefusingHeap;
 
 /// What carries out commands.
 #[derive(Drop)]

@@ -3,10 +3,10 @@
 use crate::calls::is_out_of_memory;
 use crate::numbers::Numbers;
 use crate::subject::Subject;
-use mirror_script::{Counts, Fault, Script, read_script};
+use mirror_run::script::{Counts, Fault, Script, read_script};
 use notify_debouncer_full::{Book, Command, DebounceDataInner, FileIdMap, Moment, NoCache, Reply};
-use refusing_allocator::RefusingHeap;
 use std::alloc::{AllocError, Global};
+use test_fakes::allocator::RefusingHeap;
 
 /// More requests than a command makes.
 pub const MOST: u64 = 10_000;

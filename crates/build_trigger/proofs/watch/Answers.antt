@@ -1,11 +1,11 @@
 use Rattle.std.proofs.Common.{◌∙◌, ap, inl, refl, subst, rules}
 use Rattle.notify_types.specs.declared.event.RecursiveMode.TheVariants.{Recursive}
-use Rattle.journal_lines.specs.KeptView.{filter_rule}
-use Rattle.trigger_lines.proofs.PrintedLemmas.{bursts_begun, bursts_cut, bursts_followed, trigger_program}
-use Rattle.watch_loop.proofs.FaultLemmas.{ill_followed, of_fault, on_err}
-use Rattle.watch_loop.proofs.FolderLemmas.{on_ok, well_followed}
-use Rattle.folder_reports.specs.Start.{IsOpened}
-use Rattle.watch_loop.specs.FollowsFolder.{folder_source}
+use Rattle.program_logic.specs.Journal.KeptView.{filter_rule}
+use Rattle.program_logic.proofs.TriggerLemmas.PrintedLemmas.{bursts_begun, bursts_cut, bursts_followed, trigger_program}
+use Rattle.program_reports.proofs.FaultLemmas.{ill_followed, of_fault, on_err}
+use Rattle.program_reports.proofs.FolderLemmas.{on_ok, well_followed}
+use Rattle.program_reports.specs.Folders.Start.{IsOpened}
+use Rattle.program_reports.specs.FollowsFolder.{folder_source}
 use Rattle.build_trigger.proofs.watch.Goals as goal
 
 pub returns-in_err-folders-clause-begun : goal.returns-in_err-folders-clause-begun

@@ -1,11 +1,11 @@
 use Rattle.std.proofs.Common.{◌∙◌, inl, refl, subst, ap, rules}
 use Rattle.notify_types.specs.declared.event.RecursiveMode.TheVariants.{Recursive}
-use Rattle.journal_lines.proofs.PrintedLemmas.{journal_program, printer_begun, printer_followed}
-use Rattle.journal_lines.specs.KeptView.{filter_rule}
-use Rattle.watch_loop.proofs.FaultLemmas.{ill_followed, of_fault}
-use Rattle.watch_loop.proofs.FolderLemmas.{well_followed}
-use Rattle.folder_reports.specs.Start.{IsOpened}
-use Rattle.watch_loop.specs.FollowsFolder.{folder_source}
+use Rattle.program_logic.proofs.JournalLemmas.PrintedLemmas.{journal_program, printer_begun, printer_followed}
+use Rattle.program_logic.specs.Journal.KeptView.{filter_rule}
+use Rattle.program_reports.proofs.FaultLemmas.{ill_followed, of_fault}
+use Rattle.program_reports.proofs.FolderLemmas.{well_followed}
+use Rattle.program_reports.specs.Folders.Start.{IsOpened}
+use Rattle.program_reports.specs.FollowsFolder.{folder_source}
 use Rattle.change_journal.proofs.watch.Goals as goal
 
 pub returns-in_err-folders-clause-begun : goal.returns-in_err-folders-clause-begun

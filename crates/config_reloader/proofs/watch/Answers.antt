@@ -1,10 +1,10 @@
 use Rattle.std.proofs.Common.{inr, rules}
-use Rattle.config_state.proofs.FollowedLemmas.{follower_begun, follower_followed, follower_program}
-use Rattle.config_state.specs.Followed.{following}
+use Rattle.program_logic.proofs.ConfigLemmas.FollowedLemmas.{follower_begun, follower_followed, follower_program}
+use Rattle.program_logic.specs.Config.Followed.{following}
 use Rattle.notify_types.specs.declared.event.RecursiveMode.TheVariants.{NonRecursive}
-use Rattle.watch_loop.proofs.FaultLemmas.{ill_followed, of_fault, parted}
-use Rattle.watch_loop.proofs.FolderLemmas.{well_followed}
-use Rattle.watch_loop.specs.FollowsFolder.{folder_source}
+use Rattle.program_reports.proofs.FaultLemmas.{ill_followed, of_fault, parted}
+use Rattle.program_reports.proofs.FolderLemmas.{well_followed}
+use Rattle.program_reports.specs.FollowsFolder.{folder_source}
 use Rattle.config_reloader.proofs.watch.Goals as goal
 
 pub returns-in_err-missed-clause-begun : goal.returns-in_err-missed-clause-begun

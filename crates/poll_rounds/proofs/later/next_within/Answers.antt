@@ -1,8 +1,8 @@
 use Rattle.std.proofs.Common.{◌∙◌, ap, subst, sym}
 use Rattle.std.specs.Ordering.{is_lt}
 use Rattle.notify_paths.specs.Path.{PathValue}
-use Rattle.folder_listing.specs.declared.entry.Found.{Found}
-use Rattle.folder_listing.proofs.UpdateLemmas.{Ascends}
+use Rattle.poll_listing.specs.declared.entry.Found.{Found}
+use Rattle.poll_listing.proofs.UpdateLemmas.{Ascends}
 use Rattle.poll_rounds.specs.Beside.{within}
 use Rattle.poll_rounds.proofs.LaterLemmas.{none_within}
 use Rattle.poll_rounds.proofs.later.next_within.Goals as goal

@@ -1,5 +1,5 @@
 use Rattle.std.proofs.Common.{[], ◌≡◌, ◌≤◌, drop}
-use Rattle.folder_listing.specs.Listing.{ListingValue}
+use Rattle.poll_listing.specs.Listing.{ListingValue}
 use Rattle.poll_rounds.specs.Parts.{LooksEach}
 use Rattle.poll_rounds.specs.Beside.{put_in}
 use Rattle.poll_rounds.proofs.look.look_in_each.Given as goal

@@ -1,5 +1,5 @@
 use Rattle.std.proofs.Common.{◌≡◌, ◌∙◌, ◌≤◌, ◌<◌, subst, arith, length, IfSome}
-use Rattle.folder_listing.specs.Listing.{entry_at}
+use Rattle.poll_listing.specs.Listing.{entry_at}
 use Rattle.poll_rounds.proofs.PartLemmas.{passes-next, passes-not, passes-all}
 use Rattle.poll_rounds.proofs.part.is_open.Goals as goal
 

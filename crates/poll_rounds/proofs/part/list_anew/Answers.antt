@@ -2,7 +2,7 @@ use Rattle.std.proofs.Common.{◌∙◌, [], ap, sym, subst, IfSome}
 use Rattle.std.specs.List.{list_any}
 use Rattle.std.specs.Map.{keys_of}
 use Rattle.debounce_model.specs.Honest.{has_folders}
-use Rattle.folder_listing.specs.Near.{outside}
+use Rattle.poll_listing.specs.Near.{outside}
 use Rattle.poll_rounds.specs.Beside.{put_in}
 use Rattle.poll_rounds.specs.Folders.{Adds, IsTree, shows}
 use Rattle.poll_rounds.specs.Parts.{shows_in}

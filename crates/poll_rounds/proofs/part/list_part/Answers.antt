@@ -1,5 +1,5 @@
 use Rattle.std.proofs.Common.{◌≡◌, ◌∙◌, subst, IfSome, OnOk, true, false, sym}
-use Rattle.folder_listing.specs.Listing.{is_nonempty}
+use Rattle.poll_listing.specs.Listing.{is_nonempty}
 use Rattle.notify_paths.specs.Path.{is_prefix}
 use Rattle.poll_rounds.specs.Folders.{Adds, reaches}
 use Rattle.poll_rounds.proofs.RootLemmas.{nonempty-unless}

@@ -1,5 +1,5 @@
 use Rattle.std.proofs.Common.{◌∙◌, subst, arith, refl, IfSome}
-use Rattle.folder_listing.proofs.ListingLemmas.{folders-grow}
+use Rattle.poll_listing.proofs.ListingLemmas.{folders-grow}
 use Rattle.poll_rounds.specs.Folders.{Adds}
 use Rattle.poll_rounds.specs.Parts.{shows_in}
 use Rattle.poll_rounds.proofs.PartLemmas.{parts-none, parts-next, parts-all, none-below}

@@ -6,7 +6,7 @@ use denote.RawPtr.{Ptr}
 use denote.Triple.Entry.{on_entry}
 use denote.Steps.{heard}
 use contract.Monad.{fact}
-use Rattle.debounce_desk.specs.contracts.desk.Desk as Desk
+use Rattle.debounce_c.specs.contracts.desk.Desk as Desk
 use mathlib.Core.Path.{refl, sym, subst}
 use mathlib.Core.List.{List, [], ◌∷◌, ◌++◌}
 use seplogic.Ra.Ura.{Ura}

@@ -1,6 +1,6 @@
 use Rattle.std.proofs.Common.{[], ◌∷◌, ◌∙◌, refl, subst}
 use Rattle.std.proofs.lemmas.Result.{on_ok_weaker}
-use Rattle.word_index.specs.Kept.{TakesEach}
+use Rattle.program_logic.specs.Words.Kept.{TakesEach}
 use Rattle.document_index.specs.Read.{IsReadAmong}
 use Rattle.document_index.proofs.ServedLemmas.{taken_first}
 use Rattle.document_index.proofs.indexer.Indexer.catch_up.Goals as goal

@@ -1,7 +1,7 @@
 use Rattle.std.specs.Prelude.{◌≡◌}
 use Rattle.document_index.specs.Read.{IsReadAmong}
-use Rattle.word_index.specs.Index.{IndexValue}
-use Rattle.word_index.specs.Kept.{CatchesUp}
+use Rattle.program_logic.specs.Words.Index.{IndexValue}
+use Rattle.program_logic.specs.Words.Kept.{CatchesUp}
 use Rattle.document_index.proofs.indexer.Indexer.catch_up.Given as goal
 
 -- what the index catches up with after the reports that were taken, it does with all

@@ -1,5 +1,5 @@
 use Rattle.std.proofs.Common.{◌∙◌, ◌-◌, ◌^◌, min, ap}
-use Rattle.report_queue.specs.Queue.{lost_in, put_in}
+use Rattle.debounce_lock.specs.Reports.Queue.{lost_in, put_in}
 use Rattle.notify_debouncer_full.proofs.Emitting.{finishes_reports}
 use Rattle.notify_debouncer_full.proofs.reports.Reports+T+R+A.finish.Goals as goal
 

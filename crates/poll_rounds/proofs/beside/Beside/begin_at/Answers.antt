@@ -3,9 +3,9 @@ use Rattle.std.proofs.lemmas.Map.Made.{filter_same_pairs}
 use Rattle.std.specs.Map.Iter.{deref_pair}
 use Rattle.std.specs.Option.{option_map}
 use Rattle.notify_paths.specs.Path.{is_prefix}
-use Rattle.folder_listing.specs.Listing.{ListingValue}
-use Rattle.folder_listing.specs.Near.{outside}
-use Rattle.folder_listing.specs.Pairs.{with_head}
+use Rattle.poll_listing.specs.Listing.{ListingValue}
+use Rattle.poll_listing.specs.Near.{outside}
+use Rattle.poll_listing.specs.Pairs.{with_head}
 use Rattle.poll_rounds.specs.Beside.{BesideValue, put_in, within}
 use Rattle.poll_rounds.proofs.BesideLemmas.{out, out-put}
 use Rattle.poll_rounds.proofs.beside.Beside.begin_at.Goals as goal

@@ -1,8 +1,8 @@
 use Rattle.std.proofs.Common.{◌≡◌, ◌∙◌, ap, sym, Some}
 use Rattle.std.specs.Map.Iter.{deref_pair}
 use Rattle.std.specs.Option.{option_map}
-use Rattle.folder_listing.specs.Listing.{ListingValue, entry_at}
-use Rattle.folder_listing.specs.Pairs.{with_head}
+use Rattle.poll_listing.specs.Listing.{ListingValue, entry_at}
+use Rattle.poll_listing.specs.Pairs.{with_head}
 use Rattle.poll_rounds.specs.Beside.{within}
 use Rattle.poll_rounds.proofs.BesideLemmas.{told-added, told-changed, told-same}
 use Rattle.poll_rounds.proofs.beside.Beside.change.Goals as goal

@@ -1,9 +1,9 @@
 use Rattle.std.proofs.Common.{◌≡◌, ◌∙◌, [], ap, sym}
 use Rattle.std.specs.Map.Iter.{deref_pair}
 use Rattle.std.specs.Option.{option_map}
-use Rattle.folder_listing.specs.Listing.{ListingValue, entry_at}
-use Rattle.folder_listing.specs.Pairs.{with_head}
-use Rattle.folder_listing.specs.Updates.{after}
+use Rattle.poll_listing.specs.Listing.{ListingValue, entry_at}
+use Rattle.poll_listing.specs.Pairs.{with_head}
+use Rattle.poll_listing.specs.Updates.{after}
 use Rattle.poll_rounds.specs.Beside.{BesideValue, put_in, within}
 use Rattle.poll_rounds.proofs.BesideLemmas.{put-kept}
 use Rattle.poll_rounds.proofs.beside.Beside.found_at.Goals as goal

@@ -1,8 +1,8 @@
 use Rattle.std.proofs.Common.{◌≡◌, ◌∙◌, [], ap, subst}
 use Rattle.std.specs.Map.Iter.{deref_pair}
 use Rattle.std.specs.Option.{option_map}
-use Rattle.folder_listing.specs.Pairs.{with_head}
-use Rattle.folder_listing.specs.Updates.{IsUpdate, updated}
+use Rattle.poll_listing.specs.Pairs.{with_head}
+use Rattle.poll_listing.specs.Updates.{IsUpdate, updated}
 use Rattle.poll_rounds.specs.Beside.{BesideValue, put_in, within}
 use Rattle.poll_rounds.proofs.BesideLemmas.{ended}
 use Rattle.poll_rounds.proofs.beside.Beside.into_updates.Goals as goal

@@ -1,5 +1,5 @@
 use Rattle.std.proofs.Common.{subst}
-use Rattle.folder_listing.specs.Listing.{IsListing}
+use Rattle.poll_listing.specs.Listing.{IsListing}
 use Rattle.poll_rounds.specs.Beside.{put_in}
 use Rattle.poll_rounds.proofs.beside.Beside.is_at_end.Goals as goal
 

@@ -1,8 +1,8 @@
 use Rattle.std.proofs.Common.{◌≡◌, ◌∙◌, ◌∷◌, ap, sym}
 use Rattle.std.specs.Map.Iter.{deref_pair}
 use Rattle.std.specs.Option.{option_map}
-use Rattle.folder_listing.specs.Listing.{ListingValue}
-use Rattle.folder_listing.specs.Pairs.{with_head}
+use Rattle.poll_listing.specs.Listing.{ListingValue}
+use Rattle.poll_listing.specs.Pairs.{with_head}
 use Rattle.poll_rounds.specs.Beside.{BesideValue, within}
 use Rattle.poll_rounds.proofs.BesideLemmas.{at_not_before}
 use Rattle.poll_rounds.proofs.beside.Beside.is_next.Goals as goal

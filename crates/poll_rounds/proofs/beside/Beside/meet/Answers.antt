@@ -1,8 +1,8 @@
 use Rattle.std.proofs.Common.{◌≡◌, ◌∙◌, ◌∷◌, ap, sym, subst, false}
 use Rattle.std.specs.Map.Iter.{deref_pair}
 use Rattle.std.specs.Option.{option_map}
-use Rattle.folder_listing.specs.Listing.{ListingValue, has_entry}
-use Rattle.folder_listing.specs.Pairs.{with_head}
+use Rattle.poll_listing.specs.Listing.{ListingValue, has_entry}
+use Rattle.poll_listing.specs.Pairs.{with_head}
 use Rattle.poll_rounds.specs.Beside.{BesideValue, begins_before, within}
 use Rattle.poll_rounds.proofs.BesideLemmas.{met_at, met_at-none, met_at-put, none_at}
 use Rattle.poll_rounds.proofs.beside.Beside.meet.Goals as goal

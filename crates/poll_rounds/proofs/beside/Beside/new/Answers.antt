@@ -1,5 +1,5 @@
 use Rattle.std.proofs.Common.{◌∙◌, [], ap, sym, subst}
-use Rattle.folder_listing.specs.Updates.{updated}
+use Rattle.poll_listing.specs.Updates.{updated}
 use Rattle.poll_rounds.specs.Beside.{IsBeside, without}
 use Rattle.poll_rounds.proofs.BesideLemmas.{begun, without-none}
 use Rattle.poll_rounds.proofs.beside.Beside.new.Goals as goal

@@ -3,8 +3,8 @@ use Rattle.std.specs.BTreeMap.{insert_entry}
 use Rattle.std.specs.Map.{keys_of}
 use Rattle.notify_paths.specs.Path.{path_cmp}
 use Rattle.debounce_model.specs.Honest.{has_folders}
-use Rattle.folder_listing.specs.Listing.{has_entry}
-use Rattle.folder_listing.proofs.ListingLemmas.{folders-grow}
+use Rattle.poll_listing.specs.Listing.{has_entry}
+use Rattle.poll_listing.proofs.ListingLemmas.{folders-grow}
 use Rattle.poll_rounds.specs.Beside.{put_in}
 use Rattle.poll_rounds.proofs.BesideLemmas.{change-grows, met-grows, met-put_over}
 use Rattle.poll_rounds.proofs.beside.BesideEntries.put.Goals as goal

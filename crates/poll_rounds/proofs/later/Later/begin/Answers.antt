@@ -1,5 +1,5 @@
 use Rattle.std.proofs.Common.{◌∙◌, ap, subst, sym}
-use Rattle.folder_listing.proofs.UpdateLemmas.{Ascends}
+use Rattle.poll_listing.proofs.UpdateLemmas.{Ascends}
 use Rattle.poll_rounds.specs.Beside.{within}
 use Rattle.poll_rounds.proofs.LaterLemmas.{from_path-sorted, within-from}
 use Rattle.poll_rounds.proofs.later.Later.begin.Goals as goal

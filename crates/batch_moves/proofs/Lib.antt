@@ -1,3 +1,0 @@
-mod MoveLaw
-mod SourceLemmas
-mod ToldLemmas

@@ -1,3 +1,0 @@
-mod Following
-mod ToldCalls
-mod WholeLemmas

@@ -1,5 +1,0 @@
-use Rattle.config_state.proofs.ReadingLaw.{readings_follow}
-use Rattle.config_state.proofs.touched.law_of_readings.Goals as goal
-
-pub returns : goal.returns
-returns g c = readings_follow g.C.FileIdCache.rules g.F.ReadsText.gives c.law_of_reloads_by_end.ensures

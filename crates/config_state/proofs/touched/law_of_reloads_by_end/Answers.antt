@@ -1,5 +1,0 @@
-use Rattle.config_state.proofs.EndReadings.{each_change_is_read_by_end}
-use Rattle.config_state.proofs.touched.law_of_reloads_by_end.Goals as goal
-
-pub returns : goal.returns
-returns g c = each_change_is_read_by_end g.C.FileIdCache.rules

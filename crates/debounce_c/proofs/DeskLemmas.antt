@@ -1,0 +1,4 @@
+pub mod CallLemmas
+pub mod JournalLemmas
+pub mod OutcomeLemmas
+pub mod TextLemmas

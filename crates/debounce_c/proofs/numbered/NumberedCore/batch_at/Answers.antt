@@ -1,0 +1,11 @@
+use Rattle.std.proofs.Common.{subst}
+use Rattle.std.specs.Prelude.{IfOk}
+use Rattle.debounce_model.specs.State.{Core}
+use Rattle.debounce_model.specs.Tick.{IsOnlyBatch}
+use Rattle.debounce_c.specs.Numbered.Numbers.{Numbers}
+use Rattle.debounce_c.proofs.numbered.NumberedCore.batch_at.Goals as goal
+
+pub returns-clause-only : goal.returns-clause-only
+returns-clause-only c =
+    subst (λ (k : Core Numbers). IfOk c.batch_at.result (λ batch. IsOnlyBatch k.state c.args.now batch.items))
+    c.self.view_is c.batch_at.ensures.only

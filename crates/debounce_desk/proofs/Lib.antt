@@ -1,4 +1,0 @@
-mod CallLemmas
-mod JournalLemmas
-mod OutcomeLemmas
-mod TextLemmas

@@ -1,0 +1,4 @@
+pub mod Moves
+pub mod OneTeller
+pub mod Slots
+pub mod ReportsLemmas

@@ -1,0 +1,12 @@
+-- The rights of which one pass alone has each.
+use Rattle.std.specs.Prelude.{Bool, true, false}
+
+-- to add entries that tell what was emitted, and to add entries that tell what was fed
+pub data Right : Type 0 where
+  Emits : Right
+  Feeds : Right
+
+-- what each right tells where one pass adds all: its right tells of each entry, the other of none
+abbrev pub told_by_one : {T : Type 0} → Right → T → Bool
+told_by_one Emits entry = true
+told_by_one Feeds entry = false

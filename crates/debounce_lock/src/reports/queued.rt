@@ -1,0 +1,82 @@
+//! What lies under the lock of a queue, and what is done to it there.
+ghost use Rattle.std.specs.Prelude.{◌≡◌, ◌++◌, ◌∷◌, [], ◌^◌, ◌-◌, ◌+◌, min, true, false, if◌then◌else◌};
+
+use crate::hand::{Change, Told};
+use crate::shown::Shown;
+use crossbeam_channel::Sender;
+use std::alloc::Allocator;
+use std::collections::VecDeque;
+use std::sync::Wait;
+
+/// An entry of the history: what was to be put in, and whether it was.
+pub(crate) type Put<T> = (T, bool);
+
+/// What lies under the lock.
+#[derive(Drop)]
+pub(crate) struct Queued<T: Drop, A: Allocator> {
+    /// What was put in and did not come out.
+    pub(crate) queue: VecDeque<T, A>,
+    /// How many reports could not be put in. It counts no further than 2^64 - 1.
+    pub(crate) unsent: u64,
+    pub(crate) done: Done<T>,
+}
+
+/// What was last done to a queue, for clauses.
+#[derive(Drop)]
+pub(crate) enum Done<T> {
+    /// Nothing that clauses speak of.
+    Nothing,
+    /// This was to be put in, and it was or it wasn't.
+    PutIn(Shown<T>, bool),
+    /// This came out.
+    CameOut(Shown<T>),
+}
+
+impl<T: Drop, A: Allocator> Told<Put<T>> for Queued<T, A> {
+    ghost use Rattle.std.specs.Prelude.{[]};
+    ghost use Rattle.debounce_lock.specs.Rights.{told_by_one};
+    ghost use Rattle.debounce_lock.specs.Reports.Queue.{Queues};
+
+    ghost begins = { λ _. [] };
+
+    ghost stands = { λ l out log. Queues l.queue.items l.unsent out log };
+
+    ghost told = { told_by_one };
+}
+
+/// The history goes on by what was done.
+pub(crate) struct ByDone;
+
+impl<T: Drop, A: Allocator> Change<Queued<T, A>, Put<T>> for ByDone {
+    ghost use Rattle.debounce_lock.specs.Reports.Done.{Does};
+
+    ghost makes = { λ before out l after now. Does l.done before out after now };
+}
+
+/// Puts a report into the queue and rings, if there is memory for both and somebody hears it. Whoever hears the
+/// ring waits for the lock.
+pub(crate) fn put<T: Drop, R: Wait, A: Allocator>(
+    rt: &R,
+    queue: &mut VecDeque<T, A>,
+    bell: &Sender<(), A>,
+    report: T,
+) -> bool
+    ensures sent { result ≡ true → queue.new.items ≡ queue.old.items ++ report ∷ [] }
+    ensures unsent { result ≡ false → queue.new.items ≡ queue.old.items }
+{
+    if queue.reserve(1).is_err() || bell.send(rt, ()).is_err() {
+        return false;
+    }
+    queue.push_back(report).is_ok()
+}
+
+/// The count after one report more.
+pub(crate) fn counted(unsent: u64, is_put_in: bool) -> u64
+    ensures { result ≡ (if is_put_in then unsent else min (unsent + 1) (2 ^ 64 - 1)) }
+{
+    if is_put_in {
+        unsent
+    } else {
+        unsent.saturating_add(1)
+    }
+}

@@ -1,0 +1,95 @@
+//! The rule of a lock, and what each step on its table makes of a pass. These types are for the proofs alone.
+use crate::hand::{Change, Hand, Told};
+use crate::shown::Shown;
+use atomic_table::{Join, Play, Split, TableRule};
+use std::marker::PhantomData;
+
+/// The rule that each step keeps.
+pub struct Law<T, E> {
+    of: PhantomData<(T, E)>,
+}
+
+impl<T: Told<E>, E> TableRule<Option<T>, Hand<E>, Shown<T>> for Law<T, E> {
+    ghost use Rattle.debounce_lock.specs.History.{opener};
+    ghost use Rattle.debounce_lock.specs.Rule.{IsKept};
+
+    ghost holds = { λ _. IsKept T.stands T.told };
+
+    ghost first = { λ x. opener (T.begins x.value) };
+}
+
+/// A pass that has no right is split off.
+pub struct Knowing;
+
+impl<E> Split<Hand<E>> for Knowing {
+    ghost use Rattle.debounce_lock.specs.History.{knower};
+
+    ghost left = { λ v. v };
+
+    ghost right = { λ v. knower v.seen };
+}
+
+/// The pass that tells is split off.
+pub struct Telling;
+
+impl<E> Split<Hand<E>> for Telling {
+    ghost use Rattle.debounce_lock.specs.History.{righted, without};
+    ghost use Rattle.debounce_lock.specs.Rights.{Emits};
+
+    ghost left = { λ v. without Emits v };
+
+    ghost right = { λ v. righted Emits v.tells v.seen };
+}
+
+/// The pass that feeds is split off.
+pub struct Feeding;
+
+impl<E> Split<Hand<E>> for Feeding {
+    ghost use Rattle.debounce_lock.specs.History.{righted, without};
+    ghost use Rattle.debounce_lock.specs.Rights.{Feeds};
+
+    ghost left = { λ v. without Feeds v };
+
+    ghost right = { λ v. righted Feeds v.feeds v.seen };
+}
+
+/// A pass is joined by what another has seen.
+pub struct Beside;
+
+impl<E> Join<Hand<E>> for Beside {
+    ghost use Rattle.std.specs.Prelude.{[]};
+    ghost use Rattle.debounce_lock.specs.History.{beside, knower};
+
+    ghost both = { λ v u. beside v u };
+
+    ghost spent = { knower [] };
+}
+
+/// A pass takes the value, if it is there.
+pub struct Takes;
+
+impl<T: Told<E>, E> Play<Option<T>, Hand<E>> for Takes {
+    ghost use Rattle.debounce_lock.specs.Rule.{TakesIt};
+
+    ghost then = { λ _ me found now. TakesIt T.stands T.told me found now };
+}
+
+/// A pass puts the value back.
+pub struct Gives<M> {
+    of: PhantomData<M>,
+}
+
+impl<T: Told<E>, E, M: Change<T, E>> Play<Option<T>, Hand<E>> for Gives<M> {
+    ghost use Rattle.debounce_lock.specs.Rule.{GivesIt};
+
+    ghost then = { λ _ me _ now. GivesIt T.stands M.makes me now };
+}
+
+/// A pass that has the value learns of what another has seen.
+pub struct Compares;
+
+impl<T: Told<E>, E> Play<Option<T>, Hand<E>> for Compares {
+    ghost use Rattle.debounce_lock.specs.Rule.{Learns};
+
+    ghost then = { λ _ me _ now. Learns T.told me now };
+}

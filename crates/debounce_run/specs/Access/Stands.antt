@@ -1,0 +1,130 @@
+-- The history of a book under its lock, and what each that reaches the book knows of it.
+use Rattle.std.specs.Prelude.{◌≡◌, ◌-◌, ◌^◌, min, ℕ, Bool, true, List, [], ◌∷◌, ◌++◌, Option, Some, None, is_some}
+use Rattle.debounce_model.specs.Cache.{Rules}
+use Rattle.atomic_table.specs.Seated.{TableId}
+use Rattle.debounce_lock.specs.Passes.{Pass, view}
+use Rattle.debounce_book.specs.Book.{Kept, kept_entries, written}
+use Rattle.debounce_book.specs.Journal.{EntryValue, IsLegal}
+use Rattle.debounce_lock.specs.History.{Begins, picked}
+use Rattle.debounce_run.specs.Access.Ran.{RanAs, RanTo, opened_core}
+use Rattle.debounce_run.specs.Access.Happened.{History, Opened, entries_of, is_journaled, journal_of, missed_in, is_emitting, is_fed}
+
+-- it begins with the opening of a book of this timeout, with a journal or without
+abbrev pub BeginsAs : ℕ → Bool → History → Type 0
+BeginsAs timeout journaled [] = ⊥
+BeginsAs timeout journaled (h ∷ hs) = h ≡ Opened timeout journaled
+
+-- the parts that were taken out, and then the entries that are kept, are all entries; if none are kept, none were
+-- taken out
+abbrev pub IsRest : Option (List EntryValue) → List EntryValue → List EntryValue → Type 0
+IsRest None parts all = parts ≡ []
+IsRest (Some kept) parts all = parts ++ kept ≡ all
+
+-- the history leads to this book, out of whose journal these parts were taken, and to this count of what was missed,
+-- which counts no further than 2^64 - 1
+pub record LeadsTo {C : Type 0} (book : Kept C) (count : ℕ) (parts : List EntryValue) (log : History) : Type 0 where
+  pub opened : BeginsAs book.core.state.timeout (is_some (kept_entries book)) log
+  pub rest : IsRest (kept_entries book) parts (entries_of log)
+  pub legal : IsLegal (entries_of log) book.core.state
+  pub missed : count ≡ min (missed_in log) (2 ^ 64 - 1)
+
+-- .. where the entries of this beginning of it were taken out, and all was done by the cache's rules. A journal of
+-- which nothing was taken out is whole
+abbrev pub Stands : {C : Type 0} → Rules C → Kept C → ℕ → History → History → Type 0
+Stands rules book count out log =
+    LeadsTo book count (entries_of out) log × RanTo rules (entries_of log) book.core × (out ≡ [] → book.part ≡ None)
+
+-- at the end one history goes on from what was seen and from what was told, it leads to the book and to the count, all
+-- in it was done by the cache's rules, and nothing else was emitted in it than was told
+abbrev pub IsTold : {C : Type 0} → Rules C → History → History → List EntryValue → Kept C → ℕ → Type 0
+IsTold rules seen told parts book count =
+    (log : History) × Begins seen log × Begins told log × LeadsTo book count parts log
+    × RanTo rules (entries_of log) book.core
+    × (picked is_emitting told ≡ picked is_emitting log)
+
+-- what a feed has seen is a beginning of this history, in which nothing else was fed or missed
+abbrev pub HasAllFed : History → History → Type 0
+HasAllFed fed log = Begins fed log × (picked is_fed fed ≡ picked is_fed log)
+
+-- a book that was just opened: its core is, and it has no entries, or keeps none
+abbrev pub IsFresh : {C : Type 0} → Kept C → Type 0
+IsFresh book =
+    (book.core ≡ opened_core book.core.state.timeout book.core.cache) × (written book ≡ []) × (book.part ≡ None)
+
+-- the history of a book that was just opened
+abbrev pub opening : {C : Type 0} → Kept C → History
+opening book = Opened book.core.state.timeout (is_some (kept_entries book)) ∷ []
+
+-- the history as far as this pass has seen it
+abbrev pub seen_by : {T E : Type 0} → Pass T E → List E
+seen_by pass = (view pass).seen
+
+-- the history at which entries were last taken out, as far as it knows
+abbrev pub taken_by : {T E : Type 0} → Pass T E → List E
+taken_by pass = (view pass).taken
+
+-- whether it alone takes entries out
+abbrev pub keeps_of : {T E : Type 0} → Pass T E → Bool
+keeps_of pass = (view pass).keeps
+
+-- whether it alone emits
+abbrev pub tells_of : {T E : Type 0} → Pass T E → Bool
+tells_of pass = (view pass).tells
+
+-- whether it alone feeds
+abbrev pub feeds_of : {T E : Type 0} → Pass T E → Bool
+feeds_of pass = (view pass).feeds
+
+-- what a feed, a receipt or the worker shows: of which lock it is, the history as far as it has seen it, and the
+-- moments that its clock has answered, in order
+pub record Known : Type 0 where
+  pub lock : TableId
+  pub seen : History
+  pub moments : List ℕ
+
+-- what each that reaches a book shows: also at which history entries were last taken out, and whether it alone takes
+-- them out, alone emits, and alone feeds
+pub record Reach : Type 0 where
+  pub lock : TableId
+  pub seen : History
+  pub out : History
+  pub keeps : Bool
+  pub tells : Bool
+  pub feeds : Bool
+
+-- the same lock and rights, where a history goes on
+pub record GoesOn (old new : Reach) : Type 0 where
+  pub lock : new.lock ≡ old.lock
+  pub keeps : new.keeps ≡ old.keeps
+  pub tells : new.tells ≡ old.tells
+  pub feeds : new.feeds ≡ old.feeds
+  pub seen : Begins old.seen new.seen
+
+-- .. and nothing was taken out
+abbrev pub Lasts : Reach → Reach → Type 0
+Lasts old new = GoesOn old new × (old.keeps ≡ true → new.out ≡ old.out)
+
+-- all stays but the right to emit, which another has now
+abbrev pub StaysButTells : Reach → Reach → Type 0
+StaysButTells old new =
+    (new.lock ≡ old.lock) × (new.seen ≡ old.seen) × (new.out ≡ old.out) × (new.keeps ≡ old.keeps)
+    × (new.feeds ≡ old.feeds)
+
+-- .. but the right to feed
+abbrev pub StaysButFeeds : Reach → Reach → Type 0
+StaysButFeeds old new =
+    (new.lock ≡ old.lock) × (new.seen ≡ old.seen) × (new.out ≡ old.out) × (new.keeps ≡ old.keeps)
+    × (new.tells ≡ old.tells)
+
+-- .. but both
+abbrev pub StaysButRights : Reach → Reach → Type 0
+StaysButRights old new =
+    (new.lock ≡ old.lock) × (new.seen ≡ old.seen) × (new.out ≡ old.out) × (new.keeps ≡ old.keeps)
+
+-- these are the timeout and the journal of a history that goes on from what was seen and from what was told, all in it
+-- was done by the cache's rules, and nothing else was emitted in it than was told
+abbrev pub ToldJournal : {C : Type 0} → Rules C → History → History → ℕ → List EntryValue → Type 0
+ToldJournal rules seen told timeout journal =
+    (log : History) × Begins seen log × Begins told log × BeginsAs timeout (is_journaled log) log
+    × RanAs rules timeout (entries_of log)
+    × (journal ≡ journal_of log) × (picked is_emitting told ≡ picked is_emitting log)

@@ -1,0 +1,4 @@
+pub mod Start
+pub mod Access
+pub mod Turns
+pub mod Threads

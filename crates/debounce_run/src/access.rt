@@ -1,0 +1,374 @@
+//! The book of a running debouncer under its lock, and the ways to it.
+//!
+//! The lock is that of `debounce_lock`: the contract of each call of an [`Access`] says what it adds to the
+//! history of the book, so what comes back at the end is what was under the lock. What is done under it is a
+//! step of `debounce_book`.
+ghost use Rattle.std.specs.Prelude.{◌≡◌, ◌++◌, ◌∷◌, [], Ok, true, IfErr, IfOk, OnErr, OnOk};
+ghost use Rattle.std.specs.Arc.{arc_value};
+ghost use Rattle.notify_paths.specs.Errors.{out_of_memory};
+ghost use Rattle.debounce_lock.specs.History.{Begins, picked};
+ghost use Rattle.debounce_model.specs.Command.{RootCommand, UnrootCommand, RootedReply, UnrootedReply};
+ghost use Rattle.debounce_model.specs.State.{State};
+ghost use Rattle.debounce_model.specs.Tick.{IsOutlook};
+ghost use Rattle.debounce_book.specs.Journal.{IsJournal, IsLegal, IsPart};
+ghost use Rattle.debounce_book.specs.JournalLaws.{LosesNoChange, GivesRawPaths, InventsNoRename};
+ghost use Rattle.debounce_run.specs.Access.Adds.{Adds, AddsTick, CommandMakes, GainsFed, GainsOne, GainsTick};
+ghost use Rattle.debounce_run.specs.Access.Happened.{Missed, accepted, entries_of, is_emitting, is_fed, journal_of};
+ghost use Rattle.debounce_run.specs.Access.Stands.{GoesOn, HasAllFed, IsFresh, IsTold, Lasts, StaysButFeeds, StaysButTells, ToldJournal, feeds_of, opening, seen_by, tells_of};
+
+pub mod locked;
+pub mod made;
+
+use crate::access::locked::{BookLock, BookPass, Goes, Locked, TakesOut};
+use crate::access::made::Made;
+use debounce_book::{Book, Entry, Ticked, feed_step, root_step, tick_step, unroot_step};
+use debounce_cache::FileIdCache;
+use debounce_lock::{Lock, Shown, Unchanged};
+use notify_paths::{Error, PathBuf};
+use notify_types::{DebouncedEvent, Event, Moment, RecursiveMode};
+use std::alloc::{AllocError, Allocator};
+use std::marker::Model;
+use std::sync::{Arc, Wait};
+use std::thread;
+use std::time::{Clock, Duration};
+
+/// A way to a book. Each call that names the runtime waits for the lock, and holds it meanwhile.
+pub struct Access<C: FileIdCache<A> + Drop, A: Allocator> {
+    lock: BookLock<C, A>,
+    pass: BookPass<C, A>,
+}
+
+// Not derived: a crate that drops it proves only this call, not the drop of all that is in it.
+impl<C: FileIdCache<A> + Drop, A: Allocator> Drop for Access<C, A> {
+    fn drop(self) {
+        let Self { lock: _, pass: _ } = self;
+    }
+}
+
+impl<C: FileIdCache<A> + Drop, A: Allocator> Model for Access<C, A> {
+    ghost use Rattle.std.specs.Arc.{arc_value};
+    ghost use Rattle.debounce_lock.specs.Passes.{IsPassOf};
+    ghost use Rattle.debounce_run.specs.Access.Stands.{Reach, feeds_of, keeps_of, seen_by, taken_by, tells_of};
+
+    ghost Value = { Reach };
+
+    ghost view = { λ a. record {
+      lock = a.pass.table_id;
+      seen = seen_by a.pass;
+      out = taken_by a.pass;
+      keeps = keeps_of a.pass;
+      tells = tells_of a.pass;
+      feeds = feeds_of a.pass;
+    } };
+
+    ghost invariant = { λ a. IsPassOf (arc_value a.lock).table.shared.table_id a.pass };
+}
+
+impl<C: FileIdCache<A> + Drop, A: Allocator + Copy> Access<C, A> {
+    /// Puts a new book under a lock. This way to it alone takes entries out, emits and feeds.
+    pub fn open(alloc: A, book: Book<C, A>) -> Result<Access<C, A>, AllocError>
+        requires { IsFresh book }
+        ensures seen { IfOk result (λ a. (a.seen ≡ opening book) × (a.out ≡ [])) }
+        ensures rights { IfOk result (λ a. (a.keeps ≡ true) × (a.tells ≡ true) × (a.feeds ≡ true)) }
+    {
+        let held = Locked {
+            book: Box::new(alloc, book)?,
+            missed: 0,
+            made: Shown::of(&Made::Nothing),
+        };
+        let (lock, pass) = Lock::new(alloc, held)?;
+        let lock = Arc::new(alloc, lock)?;
+        Ok(Access { lock, pass })
+    }
+
+    /// Another way to the book, which has seen as much, and has no right of its own.
+    pub fn another(&mut self) -> Result<Access<C, A>, AllocError>
+        ensures same { self.new ≡ self.old }
+        ensures other { IfOk result (λ a.
+            (a.lock ≡ self.old.lock) × (a.seen ≡ self.old.seen)) }
+    {
+        let lock = Arc::try_clone(&self.lock)?;
+        let pass = self.lock.another(&mut self.pass);
+        Ok(Access { lock, pass })
+    }
+
+    /// Another way to the book, which alone emits from then on.
+    pub fn telling(&mut self) -> Result<Access<C, A>, AllocError>
+        requires { self.old.tells ≡ true }
+        ensures same { StaysButTells self.old self.new }
+        ensures other { IfOk result (λ a.
+            (a.lock ≡ self.old.lock) × (a.seen ≡ self.old.seen) × (a.tells ≡ true)) }
+    {
+        let lock = Arc::try_clone(&self.lock)?;
+        let pass = self.lock.telling(&mut self.pass);
+        Ok(Access { lock, pass })
+    }
+
+    /// Another way to the book, which alone feeds from then on.
+    pub fn feeding(&mut self) -> Result<Access<C, A>, AllocError>
+        requires { self.old.feeds ≡ true }
+        ensures same { StaysButFeeds self.old self.new }
+        ensures other { IfOk result (λ a.
+            (a.lock ≡ self.old.lock) × (a.seen ≡ self.old.seen) × (a.feeds ≡ true)) }
+    {
+        let lock = Arc::try_clone(&self.lock)?;
+        let pass = self.lock.feeding(&mut self.pass);
+        Ok(Access { lock, pass })
+    }
+}
+
+impl<C: FileIdCache<A> + Drop, A: Allocator> Access<C, A> {
+    /// What this way has seen, for whoever is to be shown it.
+    pub fn shown(&mut self) -> BookPass<C, A>
+        ensures same { self.new ≡ self.old }
+        ensures lock { (result.table_id ≡ self.old.lock) × (result.me.1 ≡ []) }
+        ensures seen { seen_by result ≡ self.old.seen }
+    {
+        self.lock.another(&mut self.pass)
+    }
+
+    /// The pass alone, which says who has seen what, once the book isn't reached by it any longer.
+    pub fn into_pass(self) -> BookPass<C, A>
+        ensures lock { result.table_id ≡ self.lock }
+        ensures free { result.me.1 ≡ [] }
+        ensures same { (seen_by result ≡ self.seen) × (tells_of result ≡ self.tells)
+            × (feeds_of result ≡ self.feeds) }
+    {
+        let Access { lock: _, pass } = self;
+        pass
+    }
+
+    /// Looks at the history up to now, to which what another has seen belongs.
+    pub fn catch_up<R: Wait>(&mut self, rt: &R, shown: BookPass<C, A>)
+        requires { (shown.table_id ≡ self.old.lock) × (shown.me.1 ≡ []) }
+        ensures lasts { Lasts self.old self.new }
+        ensures shown { Begins (seen_by shown) self.new.seen }
+    {
+        let Access { lock, pass } = self;
+        let (guard, held) = lock.take(rt, pass);
+        lock.compare(pass, shown);
+        lock.give::<Unchanged>(guard, pass, held);
+    }
+
+    /// Notes that an event or an error was refused. Nothing else was fed or missed since the last such call.
+    pub fn miss<R: Wait>(&mut self, rt: &R)
+        requires { self.old.feeds ≡ true }
+        ensures lasts { Lasts self.old self.new }
+        ensures missed { GainsOne self.old.seen Missed self.new.seen }
+    {
+        let Access { lock, pass } = self;
+        let (guard, mut held) = lock.take(rt, pass);
+        held.missed = held.missed.saturating_add(1);
+        held.made = Shown::of(&Made::Missed);
+        lock.give::<Goes>(guard, pass, held);
+    }
+}
+
+impl<C: FileIdCache<A> + Drop, A: Allocator + Copy> Access<C, A> {
+    /// Takes an event or an error at a moment. It is in every history that is seen later, and nothing else was fed
+    /// or missed since the last such call.
+    pub fn feed<R: Wait>(
+        &mut self,
+        rt: &R,
+        item: Result<Event<A>, Error<A>>,
+        now: Moment,
+        exists: bool,
+    ) -> Result<(), Error<A>>
+        requires { self.old.feeds ≡ true }
+        ensures lasts { Lasts self.old self.new }
+        ensures ok { OnOk result (GainsFed self.old.seen item now exists self.new.seen) }
+        ensures err { OnErr result (picked is_fed self.new.seen ≡ picked is_fed self.old.seen) }
+    {
+        let Access { lock, pass } = self;
+        let (guard, mut held) = lock.take(rt, pass);
+        let fed = Shown::of(&item);
+        let answer = feed_step(&mut held.book, item, now, exists);
+        let made = Made::Fed(fed, now, exists, Shown::of(&answer));
+        held.made = Shown::of(&made);
+        lock.give::<Goes>(guard, pass, held);
+        answer
+    }
+
+    /// Emits what is expired at the moment, and then the errors. The history tells that nothing else was emitted
+    /// since the last such call.
+    pub fn tick<R: Wait>(&mut self, rt: &R, now: Moment) -> Ticked<A>
+        requires { self.old.tells ≡ true }
+        ensures lasts { Lasts self.old self.new }
+        ensures ticks { AddsTick self.old.seen now result.0 result.1.items self.new.seen }
+        ensures emits { GainsTick (picked is_emitting self.old.seen) now result.0 result.1.items
+            (picked is_emitting self.new.seen) }
+    {
+        let Access { lock, pass } = self;
+        let (guard, mut held) = lock.take(rt, pass);
+        let ticked = tick_step(&mut held.book, now);
+        let made = Made::Ticked(now, Shown::of(&ticked));
+        held.made = Shown::of(&made);
+        lock.give::<Goes>(guard, pass, held);
+        ticked
+    }
+
+    /// Makes a path a root.
+    pub fn root<R: Wait>(
+        &mut self,
+        rt: &R,
+        path: &PathBuf<A>,
+        mode: RecursiveMode,
+    ) -> Result<(), Error<A>>
+        ensures lasts { Lasts self.old self.new }
+        ensures ok { OnOk result
+            (Adds self.old.seen (accepted (RootCommand path.now mode) RootedReply) self.new.seen) }
+        ensures err { IfErr result (λ e. e ≡ out_of_memory) }
+    {
+        let Access { lock, pass } = self;
+        let (guard, mut held) = lock.take(rt, pass);
+        let answer = root_step(&mut held.book, path, mode);
+        let made = Made::Rooted(Shown::of(path), mode, Shown::of(&answer));
+        held.made = Shown::of(&made);
+        lock.give::<Goes>(guard, pass, held);
+        answer
+    }
+
+    /// Makes a path, and what is below it, no root.
+    pub fn unroot<R: Wait>(&mut self, rt: &R, path: &PathBuf<A>) -> Result<(), Error<A>>
+        ensures lasts { Lasts self.old self.new }
+        ensures ok { OnOk result
+            (Adds self.old.seen (accepted (UnrootCommand path.now) UnrootedReply) self.new.seen) }
+        ensures err { IfErr result (λ e. e ≡ out_of_memory) }
+    {
+        let Access { lock, pass } = self;
+        let (guard, mut held) = lock.take(rt, pass);
+        let answer = unroot_step(&mut held.book, path);
+        let made = Made::Unrooted(Shown::of(path), Shown::of(&answer));
+        held.made = Shown::of(&made);
+        lock.give::<Goes>(guard, pass, held);
+        answer
+    }
+}
+
+impl<C: FileIdCache<A> + Drop, A: Allocator + Copy> Access<C, A> {
+    /// Returns what waits, in the order of a batch.
+    pub fn outlook<R: Wait>(&mut self, rt: &R) -> Result<Vec<DebouncedEvent<A>, A>, Error<A>>
+        ensures lasts { Lasts self.old self.new }
+        ensures outlook { IfOk result (λ batch. (s : State) × IsOutlook s batch.items
+            × IsLegal (entries_of self.new.seen) s) }
+        ensures err { IfErr result (λ e. e ≡ out_of_memory) }
+    {
+        let Access { lock, pass } = self;
+        let (guard, held) = lock.take(rt, pass);
+        let batch = held.book.outlook();
+        lock.give::<Unchanged>(guard, pass, held);
+        batch
+    }
+
+    /// Takes out the entries so far, or those since the last such call. If a journal is kept, all parts in
+    /// a row are the journal.
+    pub fn take_journal<R: Wait>(&mut self, rt: &R) -> Vec<Entry<A>, A>
+        requires { self.old.keeps ≡ true }
+        ensures on { GoesOn self.old self.new }
+        ensures parts { entries_of self.new.out ≡ entries_of self.old.out ++ result.items }
+        ensures taken { entries_of self.new.out ≡ journal_of self.new.seen }
+        ensures legal { (s : State) × IsLegal (entries_of self.new.seen) s }
+        ensures part { (s : State) × IsPart result.items s }
+    {
+        let Access { lock, pass } = self;
+        let (guard, mut held) = lock.take(rt, pass);
+        let entries = held.book.take_journal();
+        lock.give::<TakesOut>(guard, pass, held);
+        entries
+    }
+
+    /// Returns the timeout and a copy of the journal, if one is kept and nothing was taken out of it; else no
+    /// entries. `teller` is the worker's pass, by which all was emitted that was.
+    pub fn journal<R: Wait>(
+        &mut self,
+        rt: &R,
+        teller: BookPass<C, A>,
+    ) -> Result<(Moment, Vec<Entry<A>, A>), Error<A>>
+        requires lock { (teller.table_id ≡ self.old.lock) × (teller.me.1 ≡ []) }
+        requires tells { tells_of teller ≡ true }
+        ensures left { self.old.keeps ≡ true → self.old.out ≡ [] →
+            IfOk result (λ r.
+            ToldJournal C.rules self.old.seen (seen_by teller) r.0 r.1.items) }
+        ensures legal { IfOk result (λ r. IsJournal r.0 r.1.items) }
+        ensures kept { IfOk result (λ r. LosesNoChange r.0 r.1.items) }
+        ensures raw { IfOk result (λ r. GivesRawPaths r.0 r.1.items) }
+        ensures founded { IfOk result (λ r. InventsNoRename r.0 r.1.items) }
+        ensures err { IfErr result (λ e. e ≡ out_of_memory) }
+    {
+        let Access { lock, pass } = self;
+        let (guard, held) = lock.take(rt, pass);
+        lock.compare(pass, teller);
+        let journal = held.book.journal();
+        lock.give::<Unchanged>(guard, pass, held);
+        journal
+    }
+
+    /// Waits until no other reaches the book, and returns it with the count of what was missed. `teller` is the
+    /// worker's pass, by which all was emitted that was.
+    pub fn close<R: Wait + Clock>(self, rt: &R, teller: BookPass<C, A>) -> (Book<C, A>, u64)
+        requires keeps { self.keeps ≡ true }
+        requires lock { (teller.table_id ≡ self.lock) × (teller.me.1 ≡ []) }
+        requires tells { tells_of teller ≡ true }
+        ensures told { IsTold C.rules self.seen (seen_by teller) (entries_of self.out) result.0
+            result.1 }
+    {
+        let Access { lock, mut pass } = self;
+        let lock = wait_for_last(rt, lock);
+        let (guard, held) = lock.take(rt, &mut pass);
+        lock.compare(&mut pass, teller);
+        drop(guard);
+        end_of(held)
+    }
+
+    /// Waits as `close` does. `worker` is the pass by which all was emitted that was, and `feed` the one by which all
+    /// was fed or missed.
+    pub fn close_fed<R: Wait + Clock>(
+        self,
+        rt: &R,
+        worker: BookPass<C, A>,
+        feed: BookPass<C, A>,
+    ) -> (Book<C, A>, u64)
+        requires keeps { self.keeps ≡ true }
+        requires lock { (worker.table_id ≡ self.lock) × (worker.me.1 ≡ [])
+            × (feed.table_id ≡ self.lock) × (feed.me.1 ≡ []) }
+        requires tells { tells_of worker ≡ true }
+        requires feeds { feeds_of feed ≡ true }
+        ensures told { (told : IsTold C.rules self.seen (seen_by worker) (entries_of self.out)
+            result.0 result.1) × HasAllFed (seen_by feed) told.0 }
+    {
+        let Access { lock, mut pass } = self;
+        let lock = wait_for_last(rt, lock);
+        let (guard, held) = lock.take(rt, &mut pass);
+        lock.compare(&mut pass, worker);
+        lock.compare(&mut pass, feed);
+        drop(guard);
+        end_of(held)
+    }
+}
+
+/// The book and the count of what was missed, as they were under the lock.
+fn end_of<C: Drop, A: Allocator>(held: Locked<C, A>) -> (Book<C, A>, u64)
+    ensures { (result.0 ≡ held.book.value) × (result.1 ≡ held.missed) }
+{
+    let Locked {
+        book,
+        missed,
+        made: _,
+    } = held;
+    (Box::into_inner(book), missed)
+}
+
+/// Waits until all others have dropped the value, and returns it.
+fn wait_for_last<T, R: Wait + Clock, A: Allocator>(rt: &R, shared: Arc<T, A>) -> T
+    ensures { result ≡ arc_value shared }
+{
+    let mut shared = shared;
+    for _ in rt.forever() {
+        match Arc::try_unwrap(shared) {
+            Ok(value) => return value,
+            Err(back) => shared = back,
+        }
+        thread::sleep(rt, Duration::from_millis(1));
+    }
+    unreachable!()
+}

@@ -1,0 +1,99 @@
+//! The clock of the running debouncer.
+ghost use Rattle.std.specs.Prelude.{◌≡◌, ◌++◌, ◌∷◌, [], IfErr, IfOk, OnErr};
+ghost use Rattle.debounce_run.specs.Turns.Clock.{IsIo};
+
+use debounce_lock::Shown;
+use notify_paths::{Error, ErrorKind};
+use notify_types::Moment;
+use std::alloc::Allocator;
+use std::io;
+use std::marker::Model;
+use std::time::{Clock, Instant};
+
+/// A clock that counts from a start. Clauses see the moments that it has answered, in order: only
+/// [`Stopwatch::read`] adds one. Of how they pass std says nothing, and so no clause does.
+#[derive(Drop)]
+pub struct Stopwatch {
+    start: Instant,
+    answers: Option<Shown<Answers>>,
+}
+
+impl Model for Stopwatch {
+    ghost use Rattle.std.specs.Prelude.{List, ℕ};
+    ghost use Rattle.debounce_run.specs.Turns.Clock.{answered};
+
+    ghost Value = { List ℕ };
+
+    ghost view = { λ s. answered s.answers };
+}
+
+/// The answers of a clock, for clauses. A clock keeps what clauses saw of them, which has no bytes.
+#[derive(Drop)]
+struct Answers {
+    before: Option<Shown<Answers>>,
+    last: Moment,
+}
+
+impl Model for Answers {
+    ghost use Rattle.std.specs.Prelude.{List, [], ◌∷◌, ◌++◌, ℕ, length};
+    ghost use Rattle.std.proofs.Common.{arith, length-append};
+    ghost use Rattle.debounce_run.specs.Turns.Clock.{answered};
+
+    ghost Value = { List ℕ };
+
+    ghost view = { λ a. answered a.before ++ a.last ∷ [] };
+
+    ghost size = { length };
+
+    ghost size_decreases = { λ a h. Prim.grind (arith, length-append) };
+}
+
+impl Stopwatch {
+    /// A clock that counts from this start.
+    pub fn new(start: Instant) -> Stopwatch
+        ensures { result ≡ [] }
+    {
+        Stopwatch {
+            start,
+            answers: None,
+        }
+    }
+
+    /// Returns how long ago the start was, as [`now`].
+    pub fn read<R: Clock, A: Allocator>(&mut self, rt: &R, alloc: A) -> Result<Moment, Error<A>>
+        ensures ok { IfOk result (λ moment. self.new ≡ self.old ++ moment ∷ []) }
+        ensures err { OnErr result (self.new ≡ self.old) }
+        ensures io { IfErr result IsIo }
+    {
+        let moment = now(rt, alloc, self.start)?;
+        let answers = Answers {
+            before: self.answers.take(),
+            last: moment,
+        };
+        self.answers = Some(Shown::of(&answers));
+        Ok(moment)
+    }
+}
+
+/// Returns how long ago the start was, in nanoseconds. If the clock can't be read, the error is `Io`.
+pub fn now<R: Clock, A: Allocator>(rt: &R, alloc: A, start: Instant) -> Result<Moment, Error<A>>
+    ensures { IfErr result IsIo }
+{
+    match start.elapsed(rt) {
+        Ok(elapsed) => Ok(elapsed.as_nanos()),
+        Err(error) => Err(io_error(alloc, &error)),
+    }
+}
+
+/// The moment from which a debouncer counts.
+pub fn start_of<R: Clock, A: Allocator>(rt: &R, alloc: A) -> Result<Instant, Error<A>>
+    ensures { IfErr result IsIo }
+{
+    Instant::now(rt).map_err(|error| io_error(alloc, &error))
+}
+
+fn io_error<A: Allocator>(alloc: A, error: &io::Error) -> Error<A>
+    ensures { IsIo result }
+{
+    Error::new(alloc, ErrorKind::Io(error.kind()))
+}

@@ -1,6 +1,0 @@
--- Halves with one tracker fit.
-use Rattle.std.proofs.Common.{rules}
-use Rattle.debounce_table.proofs.rename_slot.RenameSlot.fits.Goals as goal
-
-pub returns-then-is_same_tracker : goal.returns-then-is_same_tracker
-returns-then-is_same_tracker g c = search rules

@@ -1,8 +1,0 @@
--- From the scripts so far came their commands.
-use Rattle.std.proofs.Common.{◌≡◌, ◌<◌, ℕ, [], slice_index_or}
-use Rattle.debounce_threads.specs.Merged.{commands_from, script_values}
-use Rattle.debounce_threads.proofs.matches.are_ordered.Given as goal
-
-abbrev pub invariant-loop-number : goal.invariant-loop-number
-invariant-loop-number g l =
-    (k : ℕ) → k < l.number → commands_from k l.entries ≡ slice_index_or (script_values l.scripts) k []

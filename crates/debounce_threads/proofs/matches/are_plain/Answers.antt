@@ -1,9 +1,0 @@
-use Rattle.std.proofs.Common.{refl}
-use Rattle.debounce_threads.specs.Merged.{IsPlain}
-use Rattle.debounce_threads.proofs.Merges.{all-more}
-use Rattle.debounce_threads.proofs.matches.are_plain.Goals as goal
-
-pub loop-entry-preserved : goal.loop-entry-preserved
-loop-entry-preserved g c =
-    all-more (IsPlain c.args.count) c.args.entries.now c.loop-entry.entry-index c.entry-item.result
-    c.loop-entry-test.true c.entry-item.is c.loop-entry.invariant (c.if-not-is_plain.ensures refl)

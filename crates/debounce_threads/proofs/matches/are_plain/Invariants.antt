@@ -1,8 +1,0 @@
--- The entries so far are plain.
-use Rattle.std.proofs.Common.{take}
-use Rattle.std.specs.List.{AllByRecursion}
-use Rattle.debounce_threads.specs.Merged.{IsPlain}
-use Rattle.debounce_threads.proofs.matches.are_plain.Given as goal
-
-abbrev pub invariant-loop-entry : goal.invariant-loop-entry
-invariant-loop-entry g l = AllByRecursion (IsPlain l.count) (take l.entry-index l.entries)

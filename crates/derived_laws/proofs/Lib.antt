@@ -1,5 +1,0 @@
-mod FedLemmas
-mod FeederLemmas
-mod ListingLemmas
-mod ReportLemmas
-mod Unmissed

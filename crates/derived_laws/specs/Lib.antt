@@ -1,4 +1,0 @@
-pub mod Feeder
-pub mod Listings
-pub mod Renames
-pub mod Reports

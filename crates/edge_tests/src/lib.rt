@@ -1,9 +1,0 @@
-//! Tests of what no clause says where folders are read from the system: what looks and names of `RealFolders` answer to
-//! each outcome of a call, over the files of the crate `fake_files`. So they don't depend on the user's rights. And what
-//! those files do when a script has writes fail.
-#![tactic(auto)]
-
-#[cfg(test)]
-mod disks;
-#[cfg(test)]
-mod folders;

@@ -1,8 +1,0 @@
-use Rattle.hint_lines.proofs.ReadLemmas.{Read}
-use Rattle.hint_lines.proofs.reading.read_hints.Given as goal
-
--- what was read so far was given
-abbrev pub invariant-loop : goal.invariant-loop
-invariant-loop g l =
-    Read g.T.TakesHints.takes l.fn.lines (g.S.Read.remaining l.fn.source) l.fn.sink l.lines
-    (g.S.Read.remaining l.source) l.sink

@@ -1,6 +1,0 @@
--- All but the last, of events that are not none.
-use Rattle.std.proofs.Common.{refl}
-use Rattle.joined_rename.proofs.source.without_last.Goals as goal
-
-pub returns : goal.returns
-returns g c = refl

@@ -1,9 +1,0 @@
-use Rattle.mirror_files.specs.Writes.{IsAt}
-use Rattle.mirror_files.proofs.OnlyLemmas.{after}
-use Rattle.mirror_files.proofs.places.Places.make.Goals as goal
-
-pub returns-in_ok-remove_file-in-Some-3-clause-only :
-    goal.returns-in_ok-remove_file-in-Some-3-clause-only
-returns-in_ok-remove_file-in-Some-3-clause-only g c =
-    after g.D.Disk.changes (IsAt c.args.self.now.leave.dry_run c.args.target.now.path) c.args.disk.now
-    c.remove_file.new.disk c.create_folder.new.disk c.remove_file.ensures.only c.create_folder.ensures.only

@@ -1,6 +1,0 @@
-use Rattle.mirror_files.specs.Writes.{ChangesOnly, IsPartial}
-use Rattle.mirror_files.proofs.places.Places.open_new.Given as goal
-
--- each try was at a name under which a file is written first
-abbrev pub invariant-loop-number : goal.invariant-loop-number
-invariant-loop-number g l = ChangesOnly g.D.Disk.changes (IsPartial l.self.to) l.fn.disk l.disk

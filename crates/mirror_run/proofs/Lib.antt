@@ -1,0 +1,6 @@
+pub mod Prints
+pub mod Endings
+pub mod Runs
+pub mod Forms
+pub mod ScriptLemmas
+pub mod ThreadsLemmas

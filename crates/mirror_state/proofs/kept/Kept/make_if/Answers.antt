@@ -1,5 +1,0 @@
-use Rattle.mirror_state.proofs.MovingLemmas.{others_none}
-use Rattle.mirror_state.proofs.kept.Kept.make_if.Goals as goal
-
-pub returns-then-not-due-clause-others : goal.returns-then-not-due-clause-others
-returns-then-not-due-clause-others g c = others_none _ _ _ _

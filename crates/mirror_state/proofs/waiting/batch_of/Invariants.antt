@@ -1,7 +1,0 @@
-use Rattle.std.proofs.Common.{◌≡◌, ◌++◌}
-use Rattle.mirror_state.specs.After.{again_of}
-use Rattle.mirror_state.proofs.waiting.batch_of.Given as goal
-
--- the events so far, and those of the paths that are left, are those of all
-abbrev pub invariant-loop-path : goal.invariant-loop-path
-invariant-loop-path l = l.batch.items ++ again_of l.path-iterator ≡ again_of l.paths.entries

@@ -1,8 +1,0 @@
--- What a copy has.
-use Rattle.std.specs.Prelude.{List}
-use Rattle.notify_paths.specs.Path.{PathValue}
-use Rattle.batch_plan.specs.declared.action.Standing.{Standing}
-
--- the paths of the folder that a copy has, in their order, and what stands there
-abbrev pub CopiedValue : Type 0
-CopiedValue = List (PathValue × Standing)

@@ -1,5 +1,0 @@
-pub mod After
-pub mod Copy
-pub mod Looked
-pub mod Moving
-pub mod Seen

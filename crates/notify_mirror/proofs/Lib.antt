@@ -1,4 +1,0 @@
-pub mod Prints
-pub mod Endings
-pub mod Runs
-pub mod Forms

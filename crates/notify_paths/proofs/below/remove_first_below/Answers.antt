@@ -1,0 +1,14 @@
+use Rattle.std.proofs.Common.{◌≡◌, ◌∙◌, ap, not, false}
+use Rattle.notify_paths.specs.Path.{is_below}
+use Rattle.notify_paths.specs.Below.{without_below}
+use Rattle.notify_paths.proofs.Removals.{filter-remove_entry}
+use Rattle.notify_paths.proofs.below.remove_first_below.Goals as goal
+
+pub returns-then-copy_first_below : goal.returns-then-copy_first_below
+returns-then-copy_first_below g c =
+    let path = c.args.path.now in
+    let key = c.copy_first_below.new.spare in
+    let gone : not (is_below key path) ≡ false =
+    ap not (c.copy_first_below.ensures c.if-copy_first_below.true) in
+    ap (λ es. without_below es path) c.remove.ensures.entries
+    ∙ filter-remove_entry (λ k. not (is_below k path)) key c.args.map.now.entries gone

@@ -1,3 +1,0 @@
-mod MarkLemmas
-mod SaidCores
-mod SaidSteps

@@ -1,5 +1,0 @@
-pub mod Keys
-pub mod ReplyLemmas
-pub mod HonestLemmas
-pub mod ClockLemmas
-mod PairLemmas

@@ -1,7 +1,0 @@
-use Rattle.std.proofs.Common.{◌≡◌, drop}
-use Rattle.poll_roots.specs.Polled.{is_watched}
-use Rattle.poll_roots.proofs.polled.is_watched.Given as goal
-
--- the roots that are left decide
-abbrev pub invariant-loop-root : goal.invariant-loop-root
-invariant-loop-root g l = is_watched (drop l.root-index l.roots) l.path ≡ is_watched l.roots l.path

@@ -1,8 +1,0 @@
-//! What a polling watcher keeps: its roots, their last listing, and where its last round failed; and its steps.
-#![tactic(auto)]
-
-mod deep;
-pub mod polled;
-pub mod round_folders;
-mod said;
-pub mod watched;

@@ -1,0 +1,4 @@
+mod WorkLemmas
+pub mod RootsLemmas
+mod HintSetLemmas
+mod EntriesLemmas

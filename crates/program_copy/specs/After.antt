@@ -1,0 +1,75 @@
+-- What a batch makes of a mirror.
+use Rattle.std.specs.Prelude.{◌≡◌, ◌⊎◌, Bool, true, false, List, [], ◌∷◌, ◌++◌, map, Option, None, Some, Ok, Err, is_some}
+use Rattle.std.specs.List.{list_any}
+use Rattle.std.specs.Map.{keys_of}
+use Rattle.std.specs.declared.alloc.Global.{Global}
+use Rattle.notify_paths.specs.Path.{PathValue}
+use Rattle.notify_types.specs.Event.{EventValue, Timed}
+use Rattle.notify_watch.specs.Handler.{Outcome}
+use Rattle.debounce_model.specs.Play.{has_path}
+use Rattle.reader_paths.specs.Plan.Action.{ActionValue}
+use Rattle.reader_paths.specs.Plan.Naming.{naming_again}
+use Rattle.reader_paths.specs.Plan.Plan.{is_named, look_at, stands, wanted}
+use Rattle.reader_paths.specs.declared.plan.action.Standing.{Standing}
+use Rattle.program_copy.specs.Copy.{CopiedValue}
+use Rattle.program_copy.specs.Looked.{IsSeen, Sees}
+
+-- the paths that wait, and whether each is wanted
+abbrev pub WaitingValue : Type 0
+WaitingValue = List (PathValue × Bool)
+
+-- the events by which what waits is looked at again
+abbrev pub again_of : WaitingValue → List Timed
+again_of waiting = map (λ e. naming_again e.0 e.1) waiting
+
+-- the path waits
+abbrev pub waits : WaitingValue → PathValue → Bool
+waits waiting path = stands (look_at waiting) path
+
+-- what waited waits still
+abbrev pub StayWaiting : WaitingValue → WaitingValue → Type 0
+StayWaiting old new = (path : PathValue) → waits old path ≡ true → waits new path ≡ true
+
+-- each path that an event names first waits
+abbrev pub AllWait : List EventValue → WaitingValue → Type 0
+AllWait events waiting = (path : PathValue) → is_named events path ≡ true → waits waiting path ≡ true
+
+-- each path that an event names first waits, or the copy has of it what a look gave: what stands there, if the events
+-- want the path, and else nothing
+abbrev pub WaitOrAreCopied : Sees → List EventValue → WaitingValue → CopiedValue → Type 0
+WaitOrAreCopied sees events waiting copied = (path : PathValue) → is_named events path ≡ true →
+    (waits waiting path ≡ true) ⊎ IsSeen sees path (has_path (wanted events) path) (look_at copied path)
+
+-- the copy was asked for what is wanted at the path, last, and that went well; so it counts as copied. What is to go
+-- doesn't any more
+abbrev pub IsDone : {C : Type 0} → (C → PathValue → Standing → Type 0) → PathValue → Option Standing → Bool → C →
+    CopiedValue → Type 0
+IsDone has_put path (Some standing) goes copy copied =
+    has_put copy path standing × (look_at copied path ≡ Some standing)
+IsDone has_put path None goes copy copied = goes ≡ true → look_at copied path ≡ None
+
+-- the action was carried out, or its path waits
+abbrev pub IsCarriedOut : {C : Type 0} → (C → PathValue → Standing → Type 0) → ActionValue → Bool → C → CopiedValue →
+    WaitingValue → Type 0
+IsCarriedOut has_put action goes copy copied waiting =
+    (waits waiting action.path ≡ true) ⊎ IsDone has_put action.path action.wanted goes copy copied
+
+-- an event asks to look at all anew
+abbrev pub has_request : List Timed → Bool
+has_request batch = list_any (λ x. is_some x.event.attrs.flag) batch
+
+-- an event of the report does
+abbrev pub asks_anew : Outcome Global → Bool
+asks_anew (Ok batch) = has_request batch.items
+asks_anew (Err errors) = false
+
+-- the events by which each path that was copied is looked at again
+abbrev pub IsAgainOf : CopiedValue → List Timed → Type 0
+IsAgainOf copied events = (again : WaitingValue) × (keys_of again ≡ keys_of copied) × (events ≡ again_of again)
+
+-- what a batch is taken with: nothing more, or, if it asks to look at all anew, events by which each path that was
+-- copied is looked at again, and then those that name what stands in the folder
+abbrev pub IsTakenWith : (List Timed → Type 0) → Bool → CopiedValue → List Timed → Type 0
+IsTakenWith names false copied added = added ≡ []
+IsTakenWith names true copied added = (again : List Timed) × (listed : List Timed)
+    × IsAgainOf copied again × names listed × (added ≡ again ++ listed)

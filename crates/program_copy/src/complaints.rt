@@ -1,0 +1,101 @@
+//! What is said of paths at which something fails: once, and again after it has changed.
+use crate::NAME;
+use notify_paths::{Error, ErrorKind, PathBuf};
+use program_frame::write_errors;
+use std::alloc::{AllocError, Global};
+use std::collections::BTreeMap;
+use std::io::Write;
+use std::{io, mem};
+
+/// What failed, in a word, and why.
+type Said = (&'static str, io::ErrorKind);
+
+/// What was said, and where that goes.
+#[derive(Drop)]
+pub(crate) struct SaidOnce<E: Drop> {
+    alloc: Global,
+    said: BTreeMap<PathBuf, Said>,
+    /// What was said before what failed is tried again.
+    before: BTreeMap<PathBuf, Said>,
+    /// At what the watcher couldn't look, and why.
+    watched: BTreeMap<PathBuf, io::ErrorKind>,
+    pub(crate) err: E,
+}
+
+impl<E: Write + Drop> SaidOnce<E> {
+    /// Returns that of a program that has said nothing yet.
+    pub(crate) fn new(alloc: Global, err: E) -> SaidOnce<E> {
+        SaidOnce {
+            alloc,
+            said: BTreeMap::new(alloc),
+            before: BTreeMap::new(alloc),
+            watched: BTreeMap::new(alloc),
+            err,
+        }
+    }
+
+    /// All that failed is tried again: what doesn't fail then will be said anew when it does.
+    pub(crate) fn begin_again(&mut self) {
+        self.before = mem::replace(&mut self.said, BTreeMap::new(self.alloc));
+    }
+
+    /// All that failed was tried again.
+    pub(crate) fn end_again(&mut self) {
+        self.before = BTreeMap::new(self.alloc);
+    }
+
+    /// Nothing fails any more.
+    pub(crate) fn forget(&mut self) {
+        self.said = BTreeMap::new(self.alloc);
+        self.before = BTreeMap::new(self.alloc);
+    }
+
+    /// Says the watcher's errors.
+    pub(crate) fn say_errors(&mut self, errors: &[Error]) -> Result<(), AllocError> {
+        write_errors(errors, NAME, &mut self.err);
+        for error in errors {
+            if let (ErrorKind::Io(kind), [path]) = (&error.kind, error.paths.as_slice()) {
+                self.watched.insert(path.clone()?, *kind)?;
+            }
+        }
+        Ok(())
+    }
+
+    /// Says that a look of the mirror's own fails at the path, unless the watcher has said so, which says it again if
+    /// the path was open meanwhile.
+    pub(crate) fn say_look(
+        &mut self,
+        word: &'static str,
+        path: &PathBuf,
+        error: &io::Error,
+    ) -> Result<(), AllocError> {
+        match self.watched.get(path) {
+            Some(kind) if *kind == error.kind() => Ok(()),
+            _ => self.say(word, path, error),
+        }
+    }
+
+    /// Says that something fails at the path, if that wasn't said yet.
+    pub(crate) fn say(
+        &mut self,
+        word: &'static str,
+        path: &PathBuf,
+        error: &io::Error,
+    ) -> Result<(), AllocError> {
+        let what = (word, error.kind());
+        if !is_said(&self.said, path, what) && !is_said(&self.before, path, what) {
+            let text = path.as_str();
+            let _ = writeln!(self.err, "{NAME}: cannot {word} {text}: {error}");
+        }
+        self.said.insert(path.clone()?, what)?;
+        Ok(())
+    }
+}
+
+/// Whether this was said of the path.
+fn is_said(said: &BTreeMap<PathBuf, Said>, path: &PathBuf, what: Said) -> bool {
+    match said.get(path) {
+        Some((word, kind)) => *word == what.0 && *kind == what.1,
+        None => false,
+    }
+}

@@ -1,0 +1,22 @@
+//! A folder and its copy on a disk.
+//!
+//! A [`FolderCopy`] is a folder and its copy, for a mirror. All that it changes goes through a [`Disk`], which takes
+//! a `Target` and no other path. [`RealDisk`] is that of a runtime.
+//!
+//! ```text
+//! let disk = RealDisk::new(rt);
+//! let copy = FolderCopy::new(disk, from, to, leave)?;
+//! let mut mirror = Mirror::new(rt.alloc(), copy, leave, rt.stdout(), rt.stderr());
+//! ```
+
+mod apart;
+mod copy;
+mod disk;
+mod places;
+mod real;
+mod writing;
+
+pub use apart::check_apart;
+pub use copy::FolderCopy;
+pub use disk::Disk;
+pub use real::RealDisk;

@@ -1,0 +1,456 @@
+//! Where a folder and its copy lie, and what is done there.
+ghost use Rattle.std.specs.Prelude.{◌≡◌, IfOk, OnOk};
+ghost use Rattle.std.specs.Option.{option_map};
+ghost use Rattle.reader_paths.specs.Plan.Target.{target_of};
+ghost use Rattle.program_copy.specs.Files.Writes.{ChangesOnly, IsAt, IsAtEither, IsAtOrBeside, IsChanged, IsEither, IsPartial, IsPlaceOrBeside};
+
+use crate::copied::Copied;
+use crate::files::disk::Disk;
+use crate::files::writing::{Original, fill, has_name, partial_name, target_named};
+use crate::{Had, Leave, Seen, is_missing};
+use notify_paths::PathBuf;
+use poll_listing::{EntryKind, Listing};
+use reader_paths::plan::{Standing, Target, target_of};
+use std::alloc::Global;
+use std::fs::Metadata;
+use std::io;
+
+/// A folder, its copy, and what is allowed.
+#[derive(Drop)]
+pub(crate) struct Places {
+    pub(crate) from: PathBuf,
+    pub(crate) to: PathBuf,
+    pub(crate) leave: Leave,
+}
+
+impl Places {
+    /// The path of the copy that stands for this one of the folder.
+    pub(crate) fn target_of(&self, path: &PathBuf) -> io::Result<Option<Target<'_>>>
+        ensures target { IfOk result (λ r. option_map (λ t. t.path) r
+            ≡ target_of self.now.from self.now.to path.now) }
+    {
+        match Target::of(&self.from, &self.to, path) {
+            Ok(target) => Ok(target),
+            Err(_) => Err(io::Error::from(io::ErrorKind::OutOfMemory)),
+        }
+    }
+
+    /// Looks at the path of the folder. A link is followed at the folder itself alone: below another one nothing is
+    /// there.
+    pub(crate) fn look_at<D: Disk>(&self, disk: &D, path: &PathBuf) -> Seen {
+        let found = if *path == self.from {
+            disk.look_through(path.as_str())
+        } else {
+            disk.look(path.as_str())
+        };
+        let seen = match found {
+            Ok(found) if found.is_dir() => Seen::Stands(Standing::Folder),
+            Ok(found) if found.is_file() => Seen::Stands(Standing::File),
+            Ok(_) => Seen::Other,
+            Err(error) => return Seen::of(error),
+        };
+        match check_folders(disk, path, &self.from) {
+            Ok(()) => seen,
+            Err(error) => Seen::of(error),
+        }
+    }
+
+    /// The folder that permission closes above the path, or the path itself.
+    pub(crate) fn closed_above<D: Disk>(&self, disk: &D, path: &PathBuf) -> io::Result<PathBuf> {
+        for folder in path.folders() {
+            if disk.look(folder.as_os_str()).is_ok() {
+                return parsed(disk.allocator(), folder.as_os_str());
+            }
+        }
+        parsed(disk.allocator(), path.as_str())
+    }
+
+    /// What stands in the copy: a folder, or something else, which counts as a file here.
+    pub(crate) fn kind_at<D: Disk>(
+        &self,
+        disk: &D,
+        target: &Target<'_>,
+    ) -> io::Result<Option<Standing>> {
+        match self.found_at(disk, target) {
+            Ok(Some(found)) if found.is_dir() => Ok(Some(Standing::Folder)),
+            Ok(Some(_)) => Ok(Some(Standing::File)),
+            Ok(None) => Ok(None),
+            Err(error) if is_missing(&error) => Ok(None),
+            Err(error) => Err(error),
+        }
+    }
+
+    /// What stands there, and not what a link on the way leads to. In a dry run the folders above may be
+    /// missing, since they weren't made.
+    fn found_at<D: Disk>(&self, disk: &D, target: &Target<'_>) -> io::Result<Option<Metadata>> {
+        match check_folders(disk, target.path(), &self.to) {
+            Err(error) if self.leave.dry_run && is_missing(&error) => return Ok(None),
+            checked => checked?,
+        }
+        match disk.look(target.as_str()) {
+            Ok(found) => Ok(Some(found)),
+            Err(error) if is_missing(&error) => Ok(None),
+            Err(error) => Err(error),
+        }
+    }
+
+    /// Has what stands at the path of the folder stand there too, where the copy had this before.
+    pub(crate) fn put<D: Disk>(
+        &self,
+        disk: &mut D,
+        path: &PathBuf,
+        target: &Target<'_>,
+        standing: Standing,
+        had: Had,
+    ) -> io::Result<bool>
+        ensures last { IfOk result (IsChanged (D.changed disk.new) target.now.path
+            self.now.leave.dry_run) }
+        ensures only { ChangesOnly D.changes (IsAtOrBeside self.now.leave.dry_run
+            self.now.to target.now.path) disk.old disk.new }
+    {
+        if self.leave.dry_run
+            && let Some(done) = done_dry(standing, had)
+        {
+            return Ok(done);
+        }
+        match standing {
+            Standing::Folder => self.make(disk, target),
+            Standing::File => self.copy(disk, path, target, is_known(had)),
+        }
+    }
+
+    /// Makes a folder there. What is no folder makes way only if it may be removed.
+    pub(crate) fn make<D: Disk>(&self, disk: &mut D, target: &Target<'_>) -> io::Result<bool>
+        ensures last { IfOk result (IsChanged (D.changed disk.new) target.now.path
+            self.now.leave.dry_run) }
+        ensures only { ChangesOnly D.changes (IsAt self.now.leave.dry_run target.now.path)
+            disk.old disk.new }
+    {
+        match self.found_at(disk, target)? {
+            Some(found) if found.is_dir() => Ok(false),
+            Some(_) if !self.leave.delete => Err(io::Error::from(io::ErrorKind::AlreadyExists)),
+            Some(_) => {
+                self.remove_file(disk, target)?;
+                self.create_folder(disk, target)
+            }
+            None => self.create_folder(disk, target),
+        }
+    }
+
+    fn create_folder<D: Disk>(&self, disk: &mut D, target: &Target<'_>) -> io::Result<bool>
+        ensures last { IfOk result (IsChanged (D.changed disk.new) target.now.path
+            self.now.leave.dry_run) }
+        ensures only { ChangesOnly D.changes (IsAt self.now.leave.dry_run target.now.path)
+            disk.old disk.new }
+    {
+        if self.leave.dry_run {
+            return Ok(true);
+        }
+        disk.create_folder(target)?;
+        Ok(true)
+    }
+
+    /// Removes the folder if it is empty.
+    pub(crate) fn remove_folder<D: Disk>(
+        &self,
+        disk: &mut D,
+        target: &Target<'_>,
+    ) -> io::Result<bool>
+        ensures last { IfOk result (IsChanged (D.changed disk.new) target.now.path
+            self.now.leave.dry_run) }
+        ensures only { ChangesOnly D.changes (IsAt self.now.leave.dry_run target.now.path)
+            disk.old disk.new }
+    {
+        if self.leave.dry_run {
+            return Ok(true);
+        }
+        match disk.remove_folder(target) {
+            Ok(()) => Ok(true),
+            Err(error) if error.kind() == io::ErrorKind::DirectoryNotEmpty => Ok(false),
+            Err(error) => Err(error),
+        }
+    }
+
+    pub(crate) fn remove_file<D: Disk>(&self, disk: &mut D, target: &Target<'_>) -> io::Result<bool>
+        ensures last { IfOk result (IsChanged (D.changed disk.new) target.now.path
+            self.now.leave.dry_run) }
+        ensures only { ChangesOnly D.changes (IsAt self.now.leave.dry_run target.now.path)
+            disk.old disk.new }
+    {
+        if self.leave.dry_run {
+            return Ok(true);
+        }
+        disk.remove_file(target)?;
+        Ok(true)
+    }
+
+    pub(crate) fn remove_all<D: Disk>(&self, disk: &mut D, target: &Target<'_>) -> io::Result<bool>
+        ensures last { IfOk result (IsChanged (D.changed disk.new) target.now.path
+            self.now.leave.dry_run) }
+        ensures only { ChangesOnly D.changes (IsAt self.now.leave.dry_run target.now.path)
+            disk.old disk.new }
+    {
+        if self.leave.dry_run {
+            return Ok(true);
+        }
+        disk.remove_all(target)?;
+        Ok(true)
+    }
+
+    /// Copies the file, unless the copy has the same bytes, or was there before with the same length and time.
+    /// The copy has the old bytes or the new ones at each moment.
+    pub(crate) fn copy<D: Disk>(
+        &self,
+        disk: &mut D,
+        path: &PathBuf,
+        target: &Target<'_>,
+        is_known: bool,
+    ) -> io::Result<bool>
+        ensures last { IfOk result (IsChanged (D.changed disk.new) target.now.path
+            self.now.leave.dry_run) }
+        ensures only { ChangesOnly D.changes (IsAtOrBeside self.now.leave.dry_run
+            self.now.to target.now.path) disk.old disk.new }
+    {
+        let of_folder = match self.found_at(disk, target)? {
+            Some(found) if found.is_dir() => {
+                if !self.leave.delete {
+                    return Err(io::Error::from(io::ErrorKind::AlreadyExists));
+                }
+                true
+            }
+            Some(found) => {
+                if found.is_file() && is_same(disk, path, target, &found, is_known)? {
+                    return Ok(false);
+                }
+                false
+            }
+            None => false,
+        };
+        if self.leave.dry_run {
+            return Ok(true);
+        }
+        self.replace(disk, path, target, of_folder)?;
+        Ok(true)
+    }
+
+    /// Whether what stands at the target may be moved to the other one: no link is on the way, and nothing of it is the
+    /// copy's own. In a dry run that isn't looked at, since what was copied may be missing.
+    pub(crate) fn may_move<D: Disk>(
+        &self,
+        disk: &D,
+        old: &Target<'_>,
+        new: &Target<'_>,
+        copied: &Copied,
+    ) -> io::Result<bool> {
+        if self.leave.dry_run {
+            return Ok(true);
+        }
+        check_folders(disk, old.path(), &self.to)?;
+        check_folders(disk, new.path(), &self.to)?;
+        match disk.whole(old.path()) {
+            Some(listing) => self.is_all_copied(&listing, old, copied),
+            None => Ok(false),
+        }
+    }
+
+    /// Whether all that the listing has at and below the target was copied.
+    fn is_all_copied(
+        &self,
+        listing: &Listing,
+        target: &Target<'_>,
+        copied: &Copied,
+    ) -> io::Result<bool> {
+        for (path, found) in listing.iter() {
+            if path.starts_with(target.path()) && !self.is_copied(path, found.kind, copied)? {
+                return Ok(false);
+            }
+        }
+        Ok(true)
+    }
+
+    /// Whether what stands at the path of the copy was copied.
+    fn is_copied(&self, path: &PathBuf, kind: EntryKind, copied: &Copied) -> io::Result<bool> {
+        let Some(original) = target_of(&self.to, &self.from, path)? else {
+            return Ok(false);
+        };
+        Ok(match copied.get(&original) {
+            Some(Standing::Folder) => kind.is_folder(),
+            Some(Standing::File) => kind.is_file(),
+            None => false,
+        })
+    }
+
+    /// Moves what stands at the one target to the other, if nothing stands there.
+    pub(crate) fn move_free<D: Disk>(
+        &self,
+        disk: &mut D,
+        old: &Target<'_>,
+        new: &Target<'_>,
+    ) -> io::Result<bool>
+        ensures last { IfOk result (IsChanged (D.changed disk.new) new.now.path
+            self.now.leave.dry_run) }
+        ensures only { ChangesOnly D.changes (IsAtEither self.now.leave.dry_run
+            old.now.path new.now.path) disk.old disk.new }
+    {
+        if !disk.is_free(new) {
+            return Ok(false);
+        }
+        if self.leave.dry_run {
+            return Ok(true);
+        }
+        disk.move_to(old, new)?;
+        Ok(true)
+    }
+
+    /// Copies the file beside its place, and then puts it there. What was begun doesn't stay.
+    fn replace<D: Disk>(
+        &self,
+        disk: &mut D,
+        path: &PathBuf,
+        target: &Target<'_>,
+        of_folder: bool,
+    ) -> io::Result<()>
+        ensures last { OnOk result (D.changed disk.new target.now.path) }
+        ensures only { ChangesOnly D.changes (IsPlaceOrBeside self.now.to target.now.path)
+            disk.old disk.new }
+    {
+        let original = Original::open(disk, path.as_str())?;
+        let (partial, file) = self.open_new(disk)?;
+        match fill(original, file) {
+            Ok(()) => put_there(disk, &partial, target, of_folder),
+            Err(error) => Err(give_up(disk, &partial, error)),
+        }
+    }
+
+    /// Makes a file in the copy, to be written. It has a name that neither the copy nor the folder has.
+    fn open_new<D: Disk>(&self, disk: &mut D) -> io::Result<(Target<'_>, D::File)>
+        ensures beside { IfOk result (λ made. IsPartial self.now.to made.0.path) }
+        ensures only { ChangesOnly D.changes (IsPartial self.now.to) disk.old disk.new }
+    {
+        for number in 0..u64::MAX {
+            let name = partial_name(disk.allocator(), number)?;
+            if has_name(disk, &self.from, name.as_str())? {
+                continue;
+            }
+            let partial = target_named(&self.to, name.as_str())?;
+            match disk.create_file(&partial) {
+                Ok(file) => return Ok((partial, file)),
+                Err(error) if error.kind() == io::ErrorKind::AlreadyExists => {}
+                Err(error) => return Err(error),
+            }
+        }
+        Err(io::Error::from(io::ErrorKind::AlreadyExists))
+    }
+}
+
+/// Whether it would be said in a dry run that this was put where the copy had that, if that is known without a look:
+/// what was of another kind stands still, and what came along with a move stands at its old place.
+fn done_dry(standing: Standing, had: Had) -> Option<bool> {
+    match had {
+        Had::Nothing => None,
+        Had::Copied(was) if was == standing => None,
+        Had::Moved(was) if was == standing => Some(false),
+        Had::Copied(_) | Had::Moved(_) => Some(true),
+    }
+}
+
+/// Whether a change was reported of what was copied there.
+fn is_known(had: Had) -> bool {
+    match had {
+        Had::Copied(_) => true,
+        Had::Nothing | Had::Moved(_) => false,
+    }
+}
+
+/// Gives the file that was written its place. What was begun doesn't stay.
+fn put_there<D: Disk>(
+    disk: &mut D,
+    partial: &Target<'_>,
+    target: &Target<'_>,
+    of_folder: bool,
+) -> io::Result<()>
+    ensures last { OnOk result (D.changed disk.new target.now.path) }
+    ensures only { ChangesOnly D.changes (IsEither partial.now.path target.now.path)
+        disk.old disk.new }
+{
+    match rename_there(disk, partial, target, of_folder) {
+        Ok(()) => Ok(()),
+        Err(error) => Err(give_up(disk, partial, error)),
+    }
+}
+
+/// Gives the file that was written its place, for which a folder makes way.
+fn rename_there<D: Disk>(
+    disk: &mut D,
+    partial: &Target<'_>,
+    target: &Target<'_>,
+    of_folder: bool,
+) -> io::Result<()>
+    ensures last { OnOk result (D.changed disk.new target.now.path) }
+    ensures only { ChangesOnly D.changes (IsEither partial.now.path target.now.path)
+        disk.old disk.new }
+{
+    if !of_folder {
+        return disk.rename(partial, target);
+    }
+    disk.remove_all(target)?;
+    disk.rename(partial, target)
+}
+
+/// Removes what was begun, and returns why.
+fn give_up<D: Disk>(disk: &mut D, partial: &Target<'_>, error: io::Error) -> io::Error
+    ensures only { D.changes disk.old partial.now.path disk.new }
+{
+    let _ = disk.remove_file(partial);
+    error
+}
+
+/// Whether both files have the same bytes. They count as the same if their lengths and times are, unless a
+/// change was reported of what was copied.
+fn is_same<D: Disk>(
+    disk: &D,
+    path: &PathBuf,
+    target: &Target<'_>,
+    found: &Metadata,
+    is_known: bool,
+) -> io::Result<bool> {
+    let original = disk.look(path.as_str())?;
+    if original.len() != found.len() {
+        return Ok(false);
+    }
+    if !is_known && same_time(&original, found) {
+        return Ok(true);
+    }
+    let new = disk.read(path.as_str())?;
+    let old = disk.read(target.as_str())?;
+    Ok(old.as_slice() == new.as_slice())
+}
+
+/// It is an error if a folder above the path and below the top is none, as a link to one.
+fn check_folders<D: Disk>(disk: &D, path: &PathBuf, top: &PathBuf) -> io::Result<()> {
+    for folder in path.folders() {
+        if folder.as_os_str().len() <= top.as_str().len() {
+            break;
+        }
+        if !disk.look(folder.as_os_str())?.is_dir() {
+            return Err(io::Error::from(io::ErrorKind::NotADirectory));
+        }
+    }
+    Ok(())
+}
+
+/// Whether both were modified at the same time.
+fn same_time(one: &Metadata, other: &Metadata) -> bool {
+    match (one.modified(), other.modified()) {
+        (Ok(one), Ok(other)) => one == other,
+        _ => false,
+    }
+}
+
+/// The path of this text.
+fn parsed(alloc: Global, text: &str) -> io::Result<PathBuf> {
+    match PathBuf::parse(alloc, text) {
+        Ok(path) => Ok(path),
+        Err(_) => Err(io::Error::from(io::ErrorKind::OutOfMemory)),
+    }
+}

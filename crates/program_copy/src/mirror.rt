@@ -1,0 +1,712 @@
+//! The mirror: batches carried out on the copy.
+ghost use Rattle.std.specs.Prelude.{◌≡◌, ◌==◌, ◌⊎◌, List, length, is_some, None, Some, true, false, slice_get, IfSome, MatchResult, OnOk, IfOk, if◌then◌else◌, ◌&&◌, ◌++◌, not};
+ghost use Rattle.std.specs.BTreeMap.{insert_entry};
+ghost use Rattle.notify_paths.specs.Path.{PathValue, path_cmp};
+ghost use Rattle.notify_types.specs.Event.{Timed};
+ghost use Rattle.debounce_model.specs.Play.{events_of};
+ghost use Rattle.reader_paths.specs.Plan.Plan.{is_named, look_at};
+ghost use Rattle.program_copy.specs.After.{AllWait, IsAgainOf, IsCarriedOut, IsTakenWith, StayWaiting, WaitOrAreCopied, again_of, asks_anew, has_request, waits};
+ghost use Rattle.program_copy.specs.Looked.{is_kept, lets_go_of};
+
+use crate::NAME;
+use crate::came::Came;
+use crate::kept::Kept;
+use crate::looks::Looks;
+use crate::seen::{FolderAndCopy, Seen};
+use crate::waiting::OwedPaths;
+use crate::words::Words;
+use notify_paths::PathBuf;
+use notify_types::DebouncedEvent;
+use notify_watch::DebounceEventResult;
+use program_frame::reports::TakesReports;
+use program_frame::{Fault, write_missed, write_watching};
+use reader_paths::moves::Moves;
+use reader_paths::plan::{Action, Standing, name_again, name_removed, plan, wanted};
+use std::alloc::Global;
+use std::collections::BTreeMap;
+use std::io;
+use std::io::Write;
+use std::time::Duration;
+
+/// After how many milliseconds what waits is tried again.
+const PAUSE: u64 = 1000;
+
+/// Whether both are the same.
+fn is_like(one: Option<Standing>, other: Option<Standing>) -> bool
+    ensures { result ≡ true → one ≡ other }
+{
+    matches!(
+        (one, other),
+        (None, None)
+            | (Some(Standing::Folder), Some(Standing::Folder))
+            | (Some(Standing::File), Some(Standing::File))
+    )
+}
+
+/// Whether an event of the batch asks to look at all anew, since the watcher lost some.
+fn asks_anew(report: &DebounceEventResult) -> bool
+    ensures { result ≡ asks_anew report.now }
+{
+    match report {
+        Ok(batch) => has_request(batch.as_slice()),
+        Err(_) => false,
+    }
+}
+
+/// Whether one of the events asks for that.
+fn has_request(batch: &[DebouncedEvent]) -> bool
+    ensures { result ≡ has_request batch.now }
+{
+    batch.iter().any(|event| event.need_rescan())
+}
+
+/// Whether an event of the batch has a tracker.
+fn tells_moves(batch: &[DebouncedEvent]) -> bool {
+    batch.iter().any(|event| event.event.tracker().is_some())
+}
+
+/// What the words allow.
+#[derive(Clone, Copy, Debug)]
+pub struct Leave {
+    /// What the copy has and the folder never had may be removed.
+    pub delete: bool,
+    /// Nothing is done.
+    pub dry_run: bool,
+}
+
+/// A copy that follows its folder, where what it does is said. After each batch the copy has, at each path that
+/// was reported, what a reader of the batches has there, or the path waits.
+#[derive(Drop)]
+pub struct Mirror<C: Drop, O: Drop, E: Drop> {
+    pub(crate) alloc: Global,
+    leave: Leave,
+    pub kept: Kept<C>,
+    /// The moves of the last batch that told any.
+    pub(crate) earlier: Option<Moves>,
+    pub waiting: OwedPaths,
+    /// After how long what waits is tried again.
+    pause: Duration,
+    /// Something has failed since what waits was last tried again.
+    pub has_failed: bool,
+    /// The folder isn't there. Its copy stays as it is until the folder is there again.
+    is_gone: bool,
+    /// The number of the copy's folder, if it was there when it was last asked for.
+    copy_number: Option<u64>,
+    /// What the copy has beside the folder wasn't removed since the folder was there again.
+    has_beside: bool,
+    pub(crate) words: Words<O, E>,
+}
+
+impl<C: FolderAndCopy, O: Write + Drop, E: Write + Drop> Mirror<C, O, E> {
+    /// Returns the mirror of the copy. It says on `out` what it does, and on `err` what failed.
+    pub fn new(alloc: Global, copy: C, leave: Leave, out: O, err: E) -> Mirror<C, O, E> {
+        let copy_number = copy.copy_number();
+        Mirror {
+            alloc,
+            leave,
+            kept: Kept::new(alloc, copy),
+            earlier: None,
+            waiting: OwedPaths::new(alloc),
+            pause: Duration::from_millis(PAUSE),
+            has_failed: false,
+            is_gone: false,
+            copy_number,
+            has_beside: true,
+            words: Words::new(alloc, out, err),
+        }
+    }
+
+    /// Returns the folder that is mirrored.
+    pub fn from(&self) -> &PathBuf {
+        self.kept.copy.folder()
+    }
+
+    /// Tries once more what waits. The copy isn't complete if something fails still, or if events were
+    /// lost.
+    pub fn end(&mut self, missed: u64) -> Result<(), Fault>
+        ensures ok { OnOk result ((missed ≡ 0) × (self.new.has_failed ≡ false)) }
+        ensures again { OnOk result (WaitOrAreCopied (C.sees self.old.kept.copy)
+            (events_of (again_of self.old.waiting)) self.new.waiting self.new.kept.copied) }
+    {
+        write_missed(missed, NAME, &mut self.words.said.err);
+        self.try_again()?;
+        if self.has_failed || missed > 0 {
+            return Err(Fault::Incomplete);
+        }
+        Ok(())
+    }
+
+    /// Tries again what waits.
+    fn try_again(&mut self) -> Result<(), Fault>
+        ensures { OnOk result (WaitOrAreCopied (C.sees self.old.kept.copy)
+            (events_of (again_of self.old.waiting)) self.new.waiting self.new.kept.copied) }
+    {
+        self.has_failed = false;
+        // What no batch has told by now counts as any other copy.
+        self.kept.came = Came::new(self.alloc);
+        self.words.said.begin_again();
+        let batch = self.waiting.take_all()?;
+        self.carry_out_all(batch.as_slice())?;
+        self.words.said.end_again();
+        Ok(())
+    }
+
+    /// Makes the moves that the batch tells, and then carries out what it asks for, and these events.
+    fn take_moved(
+        &mut self,
+        batch: Vec<DebouncedEvent>,
+        added: Vec<DebouncedEvent>,
+    ) -> Result<(), Fault>
+        ensures { OnOk result ((copy : C) × WaitOrAreCopied (C.sees copy)
+            (events_of (batch.items ++ added.items)) self.new.waiting self.new.kept.copied) }
+    {
+        let mut batch = batch;
+        let left = self.move_first(batch.as_slice())?;
+        let mut events = self.gone_of(left)?;
+        events.append(&mut batch)?;
+        self.take_both(events, added)
+    }
+
+    /// Makes the moves that the batch tells, if the folder and its copy are there. Returns removals of what came
+    /// along and isn't told yet.
+    fn move_first(&mut self, batch: &[DebouncedEvent]) -> Result<Vec<DebouncedEvent>, Fault> {
+        self.kept.came.forget_told(self.alloc);
+        if !tells_moves(batch) || !self.has_folders()? {
+            return Ok(Vec::new(self.alloc));
+        }
+        self.tell_more(batch)?;
+        self.make_moves(batch)
+    }
+
+    /// Returns those of the removals at whose paths nothing stands, to be carried out before the batch. The others
+    /// wait: the next batch may tell them.
+    fn gone_of(&mut self, left: Vec<DebouncedEvent>) -> Result<Vec<DebouncedEvent>, Fault> {
+        let mut gone = Vec::new(self.alloc);
+        for event in left {
+            if self.is_still(&event)? {
+                continue;
+            }
+            gone.push(event)?;
+        }
+        Ok(gone)
+    }
+
+    /// Whether something may stand at the event's path: then it waits.
+    fn is_still(&mut self, event: &DebouncedEvent) -> Result<bool, Fault> {
+        let Some(path) = event.first_path() else {
+            return Ok(false);
+        };
+        if self.is_gone_from(path) {
+            return Ok(false);
+        }
+        self.has_failed = true;
+        self.waiting.insert(path, false)?;
+        Ok(true)
+    }
+
+    /// Carries out what the batch asks for, and then these events.
+    fn take_both(
+        &mut self,
+        batch: Vec<DebouncedEvent>,
+        added: Vec<DebouncedEvent>,
+    ) -> Result<(), Fault>
+        ensures { OnOk result (WaitOrAreCopied (C.sees self.old.kept.copy)
+            (events_of (batch.items ++ added.items)) self.new.waiting self.new.kept.copied) }
+    {
+        let (mut batch, mut added) = (batch, added);
+        batch.append(&mut added)?;
+        self.take_batch(batch)
+    }
+
+    /// Carries out what the batch asks for, and what waits at its paths.
+    fn take_batch(&mut self, batch: Vec<DebouncedEvent>) -> Result<(), Fault>
+        ensures { OnOk result (WaitOrAreCopied (C.sees self.old.kept.copy)
+            (events_of batch.items) self.new.waiting self.new.kept.copied) }
+    {
+        let mut batch = batch;
+        let mut events = self.waiting.take_named(batch.as_slice())?;
+        events.append(&mut batch)?;
+        self.carry_out_all(events.as_slice())
+    }
+
+    /// Returns what a batch is taken with that asks to look at all anew, and else nothing.
+    fn anew(&self, is_asked: bool) -> Result<Vec<DebouncedEvent>, Fault>
+        ensures { IfOk result (λ added. IsTakenWith (C.names self.now.kept.copy) is_asked
+            self.now.kept.copied added.items) }
+    {
+        if !is_asked {
+            return Ok(Vec::new(self.alloc));
+        }
+        let mut added = self.copied_again()?;
+        // Listed after the looks: what has come since is named again.
+        let mut listed = self.kept.copy.all()?;
+        added.append(&mut listed)?;
+        Ok(added)
+    }
+
+    /// Returns events by which what was copied is looked at again, a removal of what is gone from a folder that is
+    /// there.
+    fn copied_again(&self) -> Result<Vec<DebouncedEvent>, Fault>
+        ensures { IfOk result (λ batch. IsAgainOf self.now.kept.copied batch.items) }
+    {
+        let mut batch = Vec::new(self.alloc);
+        for path in &self.kept.copied.all()? {
+            name_again(&mut batch, path, !self.is_gone_from(path))?;
+        }
+        Ok(batch)
+    }
+
+    /// Whether nothing stands at the path of a folder that is there.
+    fn is_gone_from(&self, path: &PathBuf) -> bool {
+        // Asked after the look: a folder that is there now was there when it found nothing.
+        matches!(self.kept.copy.look_at(path), Seen::Nothing)
+            && matches!(self.kept.copy.has_folder(), Ok(true))
+    }
+
+    /// Carries out what the batch asks for, one action after the other.
+    fn carry_out_all(&mut self, batch: &[DebouncedEvent]) -> Result<(), Fault>
+        ensures { OnOk result (WaitOrAreCopied (C.sees self.old.kept.copy)
+            (events_of batch.now) self.new.waiting self.new.kept.copied) }
+    {
+        if !self.has_folders()? {
+            return self.keep_for_later(batch);
+        }
+        let looks = Looks::new(self.alloc, &self.kept, batch)?;
+        // Asked after the looks too: a folder that is there now was there when they found nothing.
+        if !self.has_folders()? {
+            return self.keep_for_later(batch);
+        }
+        self.carry_plan(batch, &looks)?;
+        self.keep_others(&looks)?;
+        self.keep_unlike(batch, &looks)
+    }
+
+    /// Carries out the plan for the batch, over what was seen.
+    fn carry_plan(&mut self, batch: &[DebouncedEvent], looks: &Looks) -> Result<(), Fault> {
+        for action in &plan(self.alloc, &looks.standing, batch)? {
+            self.carry_out(action, looks)?;
+        }
+        Ok(())
+    }
+
+    /// The paths of the batch wait for the folder, or for its copy.
+    fn keep_for_later(&mut self, batch: &[DebouncedEvent]) -> Result<(), Fault>
+        ensures wait { OnOk result (AllWait (events_of batch.now) self.new.waiting) }
+        ensures same { self.new.kept ≡ self.old.kept }
+    {
+        let paths = wanted(self.alloc, batch)?;
+        for event in batch {
+            self.keep_event(event, &paths)?;
+        }
+        Ok(())
+    }
+
+    /// The event's path waits.
+    fn keep_event(
+        &mut self,
+        event: &DebouncedEvent,
+        paths: &BTreeMap<PathBuf, ()>,
+    ) -> Result<(), Fault>
+        ensures wait { OnOk result (IfSome (slice_get event.now.event.paths 0) (λ path.
+            waits self.new.waiting path ≡ true)) }
+        ensures stay { OnOk result (StayWaiting self.old.waiting self.new.waiting) }
+        ensures same { self.new.kept ≡ self.old.kept }
+    {
+        let Some(path) = event.first_path() else {
+            return Ok(());
+        };
+        self.has_failed = true;
+        Ok(self.waiting.insert(path, paths.contains_key(path))?)
+    }
+
+    /// Whether the folder and its copy are there.
+    fn has_folders(&mut self) -> Result<bool, Fault>
+        ensures same { OnOk result (self.new.kept ≡ self.old.kept) }
+    {
+        let has_copy = self.has_copy()?;
+        Ok(self.has_folder() && has_copy)
+    }
+
+    /// Whether the folder is there. Says so if it isn't any more.
+    fn has_folder(&mut self) -> bool
+        ensures same { self.new.kept ≡ self.old.kept }
+    {
+        let found = self.kept.copy.has_folder();
+        let has_folder = matches!(found, Ok(true));
+        if !has_folder && !self.is_gone {
+            self.words.say_gone(self.kept.copy.folder(), found);
+            self.has_beside = true;
+        }
+        self.is_gone = !has_folder;
+        has_folder
+    }
+
+    /// Whether the copy's folder is there. Says so if it isn't any more. In another one in its place all has to
+    /// be copied again.
+    fn has_copy(&mut self) -> Result<bool, Fault>
+        ensures same { OnOk result (self.new.kept ≡ self.old.kept) }
+    {
+        if self.leave.dry_run {
+            return Ok(true);
+        }
+        let number = self.kept.copy.copy_number();
+        if number == self.copy_number && number.is_some() {
+            return Ok(true);
+        }
+        self.has_failed = true;
+        if number.is_some() {
+            self.copy_again()?;
+        } else if self.copy_number.is_some() {
+            self.words.say_copy_gone(self.kept.copy.copy());
+        }
+        self.copy_number = number;
+        Ok(number.is_some())
+    }
+
+    /// All that was copied waits.
+    fn copy_again(&mut self) -> Result<(), Fault>
+        ensures same { OnOk result (self.new.kept ≡ self.old.kept) }
+    {
+        for path in &self.kept.copied.all()? {
+            if !self.waiting.has(path) {
+                self.waiting.insert(path, true)?;
+            }
+        }
+        Ok(())
+    }
+
+    /// Removes what the copy has beside the folder, if that is allowed.
+    fn remove_beside(&mut self) -> Result<(), Fault> {
+        if !self.leave.delete || !self.has_beside || !self.has_folders()? {
+            return Ok(());
+        }
+        self.has_beside = false;
+        let beside = self.kept.copy.beside()?;
+        let batch = self.not_copied(beside.as_slice())?;
+        self.take_batch(batch)
+    }
+
+    /// A batch of removals of what these events name and wasn't copied: that goes by its own removal.
+    fn not_copied(&self, events: &[DebouncedEvent]) -> Result<Vec<DebouncedEvent>, Fault> {
+        let mut batch = Vec::new(self.alloc);
+        for event in events {
+            if let Some(path) = event.first_path()
+                && self.kept.copied.get(path).is_none()
+            {
+                name_removed(&mut batch, path)?;
+            }
+        }
+        Ok(batch)
+    }
+
+    /// Carries the action out, and says what was done, or what failed.
+    fn carry_out(&mut self, action: &Action, looks: &Looks) -> Result<(), Fault>
+        ensures { OnOk result (IsCarriedOut C.has_put action.now
+            (lets_go_of (look_at looks.now.others.entries action.now.path)
+            (is_kept looks.now.wanted.entries looks.now.removed.entries action.now.path))
+            self.new.kept.copy self.new.kept.copied self.new.waiting) }
+    {
+        match action.wanted {
+            None => self.remove_gone(&action.path, looks),
+            Some(standing) => self.put_there(action, standing),
+        }
+    }
+
+    /// Has what stands at the action's path stand in the copy too. If nothing is there any more, it waits for what is
+    /// reported of it.
+    fn put_there(&mut self, action: &Action, standing: Standing) -> Result<(), Fault>
+        ensures { OnOk result (IsCarriedOut C.has_put (record {
+          path = action.now.path;
+          wanted = Some standing;
+        }) false self.new.kept.copy self.new.kept.copied
+            self.new.waiting) }
+    {
+        match self.kept.put(&action.path, standing)? {
+            Ok(done) => {
+                self.say_done(action, done)?;
+                self.look_into(action, standing)
+            }
+            Err(error) => self.keep_unput(action, &error),
+        }
+    }
+
+    /// Has the path wait at which nothing could be put: for what is reported of it, if nothing is there any more.
+    fn keep_unput(&mut self, action: &Action, error: &io::Error) -> Result<(), Fault>
+        ensures wait { OnOk result (waits self.new.waiting action.now.path ≡ true) }
+        ensures same { self.new.kept ≡ self.old.kept }
+    {
+        if matches!(self.kept.copy.look_at(&action.path), Seen::Nothing) {
+            return Ok(self.waiting.insert(&action.path, true)?);
+        }
+        self.keep_failed(action, error)
+    }
+
+    /// Removes what goes of the path and of what was copied below it.
+    fn remove_gone(&mut self, path: &PathBuf, looks: &Looks) -> Result<(), Fault>
+        ensures { OnOk result (IsCarriedOut C.has_put (record { path = path.now; wanted = None })
+            (lets_go_of (look_at looks.now.others.entries path.now)
+            (is_kept looks.now.wanted.entries looks.now.removed.entries path.now))
+            self.new.kept.copy self.new.kept.copied self.new.waiting) }
+    {
+        if looks.standing_at(path) == Some(Standing::Folder) {
+            // The copy may have something of its own in a folder that is a new one now.
+            self.has_beside = true;
+        }
+        if looks.lets_go(path) {
+            self.remove(path, looks)
+        } else {
+            self.remove_below(path, looks)
+        }
+    }
+
+    /// Removes the topmost paths that go of what was copied below the path.
+    fn remove_below(&mut self, path: &PathBuf, looks: &Looks) -> Result<(), Fault> {
+        for below in &looks.gone_below(&self.kept.copied, path)? {
+            self.remove(below, looks)?;
+        }
+        Ok(())
+    }
+
+    /// Removes what the copy has of the path and goes.
+    fn remove(&mut self, path: &PathBuf, looks: &Looks) -> Result<(), Fault>
+        ensures { OnOk result (IsCarriedOut C.has_put (record { path = path.now; wanted = None })
+            true self.new.kept.copy self.new.kept.copied self.new.waiting) }
+    {
+        let done = self.kept.remove(path, looks, self.leave.delete)?;
+        let action = Action {
+            path: path.clone()?,
+            wanted: None,
+        };
+        match done {
+            Ok(done) => self.say_done(&action, done),
+            Err(error) => self.keep_failed(&action, &error),
+        }
+    }
+
+    /// Says what was done, if anything was.
+    fn say_done(&mut self, action: &Action, is_done: bool) -> Result<(), Fault>
+        ensures done { self.new.waiting ≡ self.old.waiting }
+        ensures same { self.new.kept ≡ self.old.kept }
+    {
+        if is_done {
+            self.words.say_done(action)?;
+        }
+        Ok(())
+    }
+
+    /// Says what failed, and has its path wait: it is tried again later.
+    fn keep_failed(&mut self, action: &Action, error: &io::Error) -> Result<(), Fault>
+        ensures kept { OnOk result (self.new.waiting
+            ≡ insert_entry path_cmp self.old.waiting action.now.path (is_some action.now.wanted)) }
+        ensures wait { OnOk result (waits self.new.waiting action.now.path ≡ true) }
+        ensures failed { self.new.has_failed ≡ true }
+        ensures same { self.new.kept ≡ self.old.kept }
+    {
+        self.has_failed = true;
+        self.words.say_failed(action, error)?;
+        self.waiting.insert(&action.path, action.wanted.is_some())?;
+        Ok(())
+    }
+
+    /// Has those paths wait at which the copy hasn't what was seen, whatever the reason.
+    fn keep_unlike(&mut self, batch: &[DebouncedEvent], looks: &Looks) -> Result<(), Fault>
+        ensures like { OnOk result ((path : PathValue) → is_named (events_of batch.now) path ≡ true
+            → (waits self.new.waiting path ≡ true)
+            ⊎ (look_at self.new.kept.copied path ≡ look_at looks.now.standing.entries path)) }
+        ensures same { self.new.kept ≡ self.old.kept }
+    {
+        for event in batch {
+            self.keep_event_unlike(event, looks)?;
+        }
+        Ok(())
+    }
+
+    /// Has the event's path wait if the copy hasn't what was seen there.
+    fn keep_event_unlike(&mut self, event: &DebouncedEvent, looks: &Looks) -> Result<(), Fault>
+        ensures like { OnOk result (IfSome (slice_get event.now.event.paths 0) (λ path.
+            (waits self.new.waiting path ≡ true)
+            ⊎ (look_at self.new.kept.copied path ≡ look_at looks.now.standing.entries path))) }
+        ensures stay { OnOk result (StayWaiting self.old.waiting self.new.waiting) }
+        ensures same { self.new.kept ≡ self.old.kept }
+    {
+        match event.first_path() {
+            Some(path) => self.keep_if_unlike(path, looks),
+            None => Ok(()),
+        }
+    }
+
+    /// Has the path wait if the copy hasn't what was seen there.
+    fn keep_if_unlike(&mut self, path: &PathBuf, looks: &Looks) -> Result<(), Fault>
+        ensures like { OnOk result ((waits self.new.waiting path.now ≡ true)
+            ⊎ (look_at self.new.kept.copied path.now
+            ≡ look_at looks.now.standing.entries path.now)) }
+        ensures stay { OnOk result (StayWaiting self.old.waiting self.new.waiting) }
+        ensures same { self.new.kept ≡ self.old.kept }
+    {
+        if is_like(self.kept.copied.get(path), looks.standing_at(path)) {
+            return Ok(());
+        }
+        if self.waiting.has(path) {
+            return Ok(());
+        }
+        self.has_failed = true;
+        Ok(self.waiting.insert(path, looks.is_named(path))?)
+    }
+
+    /// Has those paths wait at which the looks don't say what was reported.
+    fn keep_others(&mut self, looks: &Looks) -> Result<(), Fault>
+        ensures same { OnOk result (self.new.kept ≡ self.old.kept) }
+    {
+        for (path, seen) in &looks.others {
+            if looks.is_named(path) || !self.waiting.has(path) {
+                self.keep(path, seen, looks.is_wanted(path))?;
+            }
+        }
+        if self.waiting.is_empty() {
+            self.words.said.forget();
+        }
+        Ok(())
+    }
+
+    /// Has the path wait, if what was seen there isn't what was reported: nothing stands at a path that is wanted, or
+    /// something does at one that was removed, or nobody can say. Its next report, or a later look, says more.
+    fn keep(&mut self, path: &PathBuf, seen: &Seen, is_wanted: bool) -> Result<(), Fault>
+        ensures same { self.new.kept ≡ self.old.kept }
+    {
+        match seen {
+            Seen::Closed(error) => self.keep_closed(path, error, is_wanted),
+            Seen::Nothing if is_wanted => Ok(self.waiting.insert(path, true)?),
+            Seen::Other if is_wanted && self.waiting.has(path) => {
+                Ok(self.waiting.insert(path, true)?)
+            }
+            Seen::Other | Seen::Stands(_) if !is_wanted => self.keep_unseen(path),
+            _ => Ok(()),
+        }
+    }
+
+    /// Has a path wait that can't be looked at.
+    fn keep_closed(
+        &mut self,
+        path: &PathBuf,
+        error: &io::Error,
+        is_wanted: bool,
+    ) -> Result<(), Fault>
+        ensures same { self.new.kept ≡ self.old.kept }
+    {
+        if is_wanted || self.leave.delete || self.kept.copied.get(path).is_some() {
+            self.waiting.insert(path, is_wanted)?;
+            self.say_closed(path, error)?;
+        }
+        Ok(())
+    }
+
+    /// Has a path wait that was reported as removed, and at which something stands, of what was copied: it comes
+    /// again as created, unless its folder's names can't be read.
+    fn keep_unseen(&mut self, path: &PathBuf) -> Result<(), Fault>
+        ensures same { self.new.kept ≡ self.old.kept }
+    {
+        if self.kept.copied.get(path).is_none() {
+            return Ok(());
+        }
+        self.waiting.insert(path, false)?;
+        self.has_failed = true;
+        if let Some(folder) = path.parent()?
+            && let Err(error) = self.kept.copy.check_names(&folder)
+        {
+            self.say_trouble("look into", &folder, &error)?;
+        }
+        Ok(())
+    }
+
+    /// Says which folder permission closes, or which path can't be looked at for another cause.
+    fn say_closed(&mut self, path: &PathBuf, error: &io::Error) -> Result<(), Fault>
+        ensures same { self.new.kept ≡ self.old.kept }
+    {
+        if error.kind() == io::ErrorKind::PermissionDenied {
+            let Ok(folder) = self.kept.copy.closed_above(path) else {
+                return Err(Fault::Memory);
+            };
+            self.say_trouble("look into", &folder, error)
+        } else {
+            self.say_trouble("look at", path, error)
+        }
+    }
+
+    /// Says that a folder's names can't be read, if it is one: then it waits.
+    fn look_into(&mut self, action: &Action, standing: Standing) -> Result<(), Fault>
+        ensures stay { OnOk result (StayWaiting self.old.waiting self.new.waiting) }
+        ensures same { self.new.kept ≡ self.old.kept }
+    {
+        if standing == Standing::Folder
+            && let Err(error) = self.kept.copy.check_names(&action.path)
+        {
+            self.waiting.insert(&action.path, true)?;
+            self.say_trouble("look into", &action.path, &error)?;
+        }
+        Ok(())
+    }
+
+    /// Says what fails at the path, once.
+    fn say_trouble(
+        &mut self,
+        word: &'static str,
+        path: &PathBuf,
+        error: &io::Error,
+    ) -> Result<(), Fault>
+        ensures waiting { self.new.waiting ≡ self.old.waiting }
+        ensures failed { self.new.has_failed ≡ true }
+        ensures same { self.new.kept ≡ self.old.kept }
+    {
+        self.has_failed = true;
+        self.words.said.say_look(word, path, error)?;
+        Ok(())
+    }
+}
+
+impl<C: FolderAndCopy, O: Write + Drop, E: Write + Drop> TakesReports for Mirror<C, O, E> {
+    ghost takes = { λ before report answer after. OnOk answer (MatchResult report
+        (λ batch. (copy : C) × (added : List Timed)
+        × IsTakenWith (C.names before.kept.copy) (asks_anew report) before.kept.copied added
+        × WaitOrAreCopied (C.sees copy) (events_of (batch.items ++ added))
+        after.waiting after.kept.copied)
+        (λ _. Unit {0})) };
+
+    ghost waits = { λ mirror. if length mirror.waiting == 0
+        && not (mirror.leave.delete && mirror.has_beside) then None else Some mirror.pause };
+
+    /// What stands in the folder is reported: the copy is made as of any other change.
+    fn begin(&mut self) -> Result<(), Fault> {
+        let _ = write_watching(
+            self.kept.copy.folder().as_str(),
+            NAME,
+            &mut self.words.said.err,
+        );
+        self.remove_beside()
+    }
+
+    /// Takes a batch, or prints a line for each error. After an error the watcher looks again, so no change
+    /// is lost by one.
+    fn take(&mut self, report: DebounceEventResult) -> Result<(), Fault> {
+        let added = self.anew(asks_anew(&report))?;
+        // What is beside goes before the batch is taken, so that the copy is as the batch says in the end.
+        self.remove_beside()?;
+        match report {
+            Ok(batch) => self.take_moved(batch, added),
+            Err(errors) => Ok(self.words.said.say_errors(errors.as_slice())?),
+        }
+    }
+
+    /// What waits is tried again after a pause, and so is what is beside.
+    fn patience(&self) -> Option<Duration> {
+        if self.waiting.is_empty() && !(self.leave.delete && self.has_beside) {
+            None
+        } else {
+            Some(self.pause)
+        }
+    }
+
+    fn pass(&mut self) -> Result<(), Fault> {
+        self.remove_beside()?;
+        self.try_again()
+    }
+}

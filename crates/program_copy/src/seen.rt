@@ -1,0 +1,139 @@
+//! A folder and its copy, and what they are asked.
+ghost use Rattle.std.specs.Prelude.{◌≡◌, IfOk, OnOk};
+ghost use Rattle.program_copy.specs.Seen.{standing_of};
+
+use crate::copied::Copied;
+use notify_paths::PathBuf;
+use notify_types::DebouncedEvent;
+use program_frame::Fault;
+use reader_paths::plan::Standing;
+use std::io;
+
+/// What a look at a path of the folder answers.
+#[derive(Drop)]
+pub enum Seen {
+    /// What is copied.
+    Stands(Standing),
+    /// What isn't, as a link.
+    Other,
+    /// Nothing is there.
+    Nothing,
+    /// What is there can't be said, for instance since permission closes a folder above.
+    Closed(io::Error),
+}
+
+impl Seen {
+    /// Returns what the error of a look says.
+    pub fn of(error: io::Error) -> Seen {
+        if is_missing(&error) {
+            Seen::Nothing
+        } else {
+            Seen::Closed(error)
+        }
+    }
+
+    /// Returns what a copy is to have of it.
+    pub fn standing(&self) -> Option<Standing>
+        ensures { result ≡ standing_of self.now }
+    {
+        match self {
+            Seen::Stands(standing) => Some(*standing),
+            Seen::Other | Seen::Nothing | Seen::Closed(_) => None,
+        }
+    }
+}
+
+/// Whether the error says that nothing is there.
+pub fn is_missing(error: &io::Error) -> bool {
+    matches!(
+        error.kind(),
+        io::ErrorKind::NotFound | io::ErrorKind::NotADirectory
+    )
+}
+
+/// Whether the error says that an allocation failed.
+pub(crate) fn is_memory(error: &io::Error) -> bool {
+    error.kind() == io::ErrorKind::OutOfMemory && error.raw_os_error().is_none()
+}
+
+/// What the copy had of a path before something is put there.
+#[derive(Clone, Copy)]
+pub enum Had {
+    /// Nothing that counts as copied.
+    Nothing,
+    /// What was copied there.
+    Copied(Standing),
+    /// What came along with a move, by what the batch tells of it.
+    Moved(Standing),
+}
+
+/// A folder and its copy, which are asked by paths of the folder. A call that changes the copy says whether
+/// there was anything to do.
+///
+/// Its ghost members say what a look may answer, what may stand in the folder, what was put into the copy last, and
+/// from what a move led to what.
+pub trait FolderAndCopy: Drop {
+    ghost use Rattle.std.specs.Prelude.{List};
+    ghost use Rattle.notify_paths.specs.Path.{PathValue};
+    ghost use Rattle.notify_types.specs.Event.{Timed};
+    ghost use Rattle.reader_paths.specs.declared.plan.action.Standing.{Standing};
+    ghost use Rattle.program_copy.specs.declared.seen.Seen.{Seen};
+
+    /// What a look at the path may answer.
+    ghost sees: { Self → PathValue → Seen → Type 0 };
+
+    /// These events may name what stands in the folder.
+    ghost names: { Self → List Timed → Type 0 };
+
+    /// The last call put this there, and went well.
+    ghost has_put: { Self → PathValue → Standing → Type 0 };
+
+    /// A call that was asked to move the one path to the other leads from this to that.
+    ghost moves: { Self → PathValue → PathValue → Self → Type 0 };
+
+    /// Returns the folder.
+    fn folder(&self) -> &PathBuf;
+
+    /// Returns the copy's folder.
+    fn copy(&self) -> &PathBuf;
+
+    /// Whether the folder is there, on the disk on which it was, and apart from the copy.
+    fn has_folder(&self) -> io::Result<bool>;
+
+    /// Returns the number of the copy's folder, if it is there, on the disk on which it was.
+    fn copy_number(&self) -> Option<u64>;
+
+    /// Looks at the path of the folder.
+    fn look_at(&self, path: &PathBuf) -> Seen
+        ensures { sees self.now path.now result };
+
+    /// Returns the folder that permission closes above the path, or the path itself.
+    fn closed_above(&self, path: &PathBuf) -> io::Result<PathBuf>;
+
+    /// It is an error if the folder's names can't be read. What doesn't lie in the folder that is copied is
+    /// left alone.
+    fn check_names(&self, folder: &PathBuf) -> io::Result<()>;
+
+    /// Returns a batch that names all that stands in the folder.
+    fn all(&self) -> Result<Vec<DebouncedEvent>, Fault>
+        ensures { IfOk result (λ batch. names self.now batch.items) };
+
+    /// Returns a batch of removals of what the copy has beside what stands in the folder.
+    fn beside(&self) -> Result<Vec<DebouncedEvent>, Fault>;
+
+    /// Has what stands at the path of the folder stand in the copy too, of which the copy had this before.
+    fn put(&mut self, path: &PathBuf, standing: Standing, had: Had) -> io::Result<bool>
+        ensures { OnOk result (has_put self.new path.now standing) };
+
+    /// Has what stands in the copy for the path `from` stand there for `to`, if nothing does yet and nothing at or
+    /// below `from` is the copy's own: all of it was copied. In a dry run the copy's own isn't looked for.
+    fn move_to(&mut self, from: &PathBuf, to: &PathBuf, copied: &Copied) -> io::Result<bool>
+        ensures { moves self.old from.now to.now self.new };
+
+    /// Removes from the copy what was put there for this path alone: a folder only if it is empty. What
+    /// stands there of the copy's own stays.
+    fn take_out(&mut self, path: &PathBuf, standing: Standing) -> io::Result<bool>;
+
+    /// Removes what stands in the copy for this path, whatever it is, with all below it.
+    fn clear(&mut self, path: &PathBuf) -> io::Result<bool>;
+}

@@ -1,0 +1,88 @@
+//! What a mirror says.
+use crate::NAME;
+use crate::complaints::SaidOnce;
+use notify_paths::PathBuf;
+use program_frame::{Fault, push_field, write_now};
+use reader_paths::plan::{Action, Standing};
+use std::alloc::{AllocError, Global};
+use std::io;
+use std::io::Write;
+
+/// Where a mirror says what it does, and what fails.
+#[derive(Drop)]
+pub(crate) struct Words<O: Drop, E: Drop> {
+    alloc: Global,
+    out: O,
+    pub(crate) said: SaidOnce<E>,
+}
+
+impl<O: Write + Drop, E: Write + Drop> Words<O, E> {
+    /// Returns those of a program that has said nothing yet.
+    pub(crate) fn new(alloc: Global, out: O, err: E) -> Words<O, E> {
+        Words {
+            alloc,
+            out,
+            said: SaidOnce::new(alloc, err),
+        }
+    }
+
+    /// Says what was done.
+    pub(crate) fn say_done(&mut self, action: &Action) -> Result<(), Fault> {
+        let mut line = Vec::new(self.alloc);
+        line.extend_from_slice(word_of(action.wanted).as_bytes())?;
+        line.push(b' ')?;
+        push_field(&mut line, action.path.as_str().as_bytes())?;
+        line.push(b'\n')?;
+        write_now(line.as_slice(), &mut self.out)
+    }
+
+    /// Says what was moved.
+    pub(crate) fn say_moved(&mut self, from: &PathBuf, to: &PathBuf) -> Result<(), Fault> {
+        let mut line = Vec::new(self.alloc);
+        line.extend_from_slice(b"move ")?;
+        push_field(&mut line, from.as_str().as_bytes())?;
+        line.push(b'\t')?;
+        push_field(&mut line, to.as_str().as_bytes())?;
+        line.push(b'\n')?;
+        write_now(line.as_slice(), &mut self.out)
+    }
+
+    /// Says what failed, once.
+    pub(crate) fn say_failed(
+        &mut self,
+        action: &Action,
+        error: &io::Error,
+    ) -> Result<(), AllocError> {
+        self.said.say(word_of(action.wanted), &action.path, error)
+    }
+
+    /// Says that the folder is gone, or can't be looked at.
+    pub(crate) fn say_gone(&mut self, folder: &PathBuf, found: io::Result<bool>) {
+        let folder = folder.as_str();
+        let _ = match found {
+            Err(error) => writeln!(
+                self.said.err,
+                "{NAME}: cannot look at {folder}: {error}, and its copy stays"
+            ),
+            Ok(_) => writeln!(
+                self.said.err,
+                "{NAME}: {folder} is gone, and its copy stays"
+            ),
+        };
+    }
+
+    /// Says that the copy is gone.
+    pub(crate) fn say_copy_gone(&mut self, copy: &PathBuf) {
+        let copy = copy.as_str();
+        let _ = writeln!(self.said.err, "{NAME}: {copy} is gone");
+    }
+}
+
+/// What is done, in one word.
+fn word_of(wanted: Option<Standing>) -> &'static str {
+    match wanted {
+        None => "remove",
+        Some(Standing::Folder) => "make",
+        Some(Standing::File) => "copy",
+    }
+}

@@ -1,0 +1,8 @@
+use Rattle.program_frame.proofs.HintsLemmas.LineLemmas.{text_some, text_none}
+use Rattle.program_frame.proofs.hints.lines.text_in.Goals as goal
+
+pub returns-in-Ok : goal.returns-in-Ok
+returns-in-Ok c = text_some _ _ c.in-Ok.ensures.cases.0 c.in-Ok.ensures.cases.1
+
+pub returns-in-Err : goal.returns-in-Err
+returns-in-Err c = text_none _ c.in-Err.ensures.cases.0

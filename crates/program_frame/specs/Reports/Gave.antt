@@ -1,0 +1,29 @@
+-- What a source gave, and what a program was called with, one beside the other.
+use Rattle.std.specs.Prelude.{◌≡◌, ℕ, List, [], ◌∷◌, ◌++◌, Option, Some, Ok, map}
+use Rattle.std.specs.declared.time.Duration.{Duration}
+use Rattle.program_frame.specs.declared.reports.source.Given.TheVariants.{Over}
+use Rattle.program_frame.specs.declared.reports.source.Rest.{Rest}
+use Rattle.program_frame.specs.Reports.Loop.{Calls, Program, Source, Step, given_of}
+
+-- each wait gave one of these, in order, and the last that the life is over
+abbrev pub GaveEach : {S : Type 0} → Source S → List Step → S → S → Type 0
+GaveEach source [] s s' = (pause : Option Duration) × source.gives s pause Over s'
+GaveEach {S} source (step ∷ steps) s s' =
+    (pause : Option Duration) × (s1 : S) × source.gives s pause (given_of step) s1 × GaveEach source steps s1 s'
+
+-- these are all that the source gave, in order: what was waited for, and then what was left; so much was lost
+abbrev pub Gave : {S : Type 0} → Source S → S → List Step → ℕ → Type 0
+Gave {S} source s steps missed =
+    (waited : List Step) × (s' : S) × (rest : Rest) × GaveEach source waited s s' × source.ends s' (Ok rest)
+    × (steps ≡ waited ++ map (λ report. Some report) rest.reports.items) × (missed ≡ rest.missed)
+
+-- the program was called with each of these, in order, once, and no call failed
+abbrev pub CalledWith : {P : Type 0} → Program P → List Step → P → P → Type 0
+CalledWith program [] p p' = p' ≡ p
+CalledWith {P} program (step ∷ steps) p p' =
+    (p1 : P) × Calls program step p (Ok tt) p1 × CalledWith program steps p1 p'
+
+-- the program began, and was called with all that the source gave
+abbrev pub TookAll : {S P : Type 0} → Source S → Program P → S → P → List Step → ℕ → P → Type 0
+TookAll {S} {P} source program s p steps missed p' =
+    (p1 : P) × Gave source s steps missed × program.begins p (Ok tt) p1 × CalledWith program steps p1 p'

@@ -1,0 +1,4 @@
+pub mod JournalLemmas
+pub mod TriggerLemmas
+pub mod ConfigLemmas
+pub mod WordsLemmas

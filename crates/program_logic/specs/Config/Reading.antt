@@ -1,0 +1,24 @@
+-- What a reading of a file gives, and what becomes of it.
+use Rattle.std.specs.Prelude.{◌≡◌, ◌⊎◌, ℕ, List, Option, None, Some, Result, Ok, Err, MatchResult}
+use Rattle.std.specs.String.{string_bytes}
+use Rattle.std.specs.declared.string.String.{String}
+use Rattle.notify_paths.specs.Path.{PathValue}
+use Rattle.program_frame.specs.Reports.Loop.{Answer}
+use Rattle.program_logic.specs.Config.InForce.{Becomes, Prints, PrintsFront}
+use Rattle.program_logic.specs.declared.config.reloader.Reloader.{Reloader}
+
+-- what a reading of the file at a path gives at its moment, a text or none, and leaves
+abbrev pub GivesText : Type 0 → Type 1
+GivesText F = F → PathValue → Option (List ℕ) → F → Type 0
+
+-- the text that a reading gave, or none if it failed
+abbrev pub given_by : {Z E : Type 0} → Result (String Z) E → Option (List ℕ)
+given_by (Ok text) = Some (string_bytes text)
+given_by (Err error) = None
+
+-- what the reading gave is in force or refused, and lines were printed that say so; after a fault a beginning of them
+-- was, or nothing was done
+abbrev pub Shows : Option (List ℕ) → Reloader → Option (List ℕ) → Answer → Reloader → Option (List ℕ) → Type 0
+Shows given old out answer new out' =
+    MatchResult answer (λ _. Prints out out' (Becomes given old.in_force new.in_force))
+    (λ fault. PrintsFront out out' (Becomes given old.in_force new.in_force) ⊎ ((new ≡ old) × (out' ≡ out)))

@@ -1,0 +1,4 @@
+pub mod Journal
+pub mod Trigger
+pub mod Config
+pub mod Words

@@ -1,0 +1,61 @@
+//! What an index has of what moved.
+ghost use Rattle.std.specs.Prelude.{◌≡◌, IfOk, option_map};
+ghost use Rattle.debounce_model.specs.Play.{events_of};
+ghost use Rattle.program_logic.specs.Words.Before.{IsBefore, words_before};
+
+use crate::words::Words;
+use crate::words::index::DocumentIndex;
+use notify_paths::PathBuf;
+use notify_types::DebouncedEvent;
+use program_frame::Fault;
+use reader_paths::moves::Moves;
+use std::alloc::Global;
+use std::collections::BTreeMap;
+use std::marker::Model;
+
+/// What an index has of what a batch tells as moved, before it takes the batch: the words at the old path of what
+/// stands at a path now.
+#[derive(Drop)]
+pub struct Before<'i> {
+    index: &'i DocumentIndex,
+    sources: BTreeMap<PathBuf, PathBuf>,
+}
+
+impl<'i> Model for Before<'i> {
+    ghost use Rattle.program_logic.specs.Words.Before.{BeforeValue};
+
+    ghost Value = { BeforeValue };
+
+    ghost view = { λ a. record { index = a.index.now; sources = a.sources.entries } };
+}
+
+impl<'i> Before<'i> {
+    /// Returns what the index has of what the batch tells as moved.
+    pub fn of(
+        alloc: Global,
+        index: &'i DocumentIndex,
+        batch: &[DebouncedEvent],
+    ) -> Result<Before<'i>, Fault>
+        ensures { IfOk result (λ before. IsBefore index.now (events_of batch.now) before) }
+    {
+        let Ok(moves) = Moves::of(alloc, batch) else {
+            return Err(Fault::Memory);
+        };
+        let Ok(sources) = moves.sources(batch) else {
+            return Err(Fault::Memory);
+        };
+        Ok(Before { index, sources })
+    }
+
+    /// Returns the words of what is told to have moved to this path, as they were read at its old one. Whether it was
+    /// changed since then is for the caller to see: [`Words::is_of`].
+    pub fn words(&self, path: &PathBuf) -> Option<&Words>
+        ensures { option_map (λ words. words.now) result
+            ≡ words_before self.now path.now }
+    {
+        match self.sources.get(path) {
+            Some(source) => self.index.get(source),
+            None => None,
+        }
+    }
+}

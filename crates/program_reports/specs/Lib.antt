@@ -1,0 +1,5 @@
+pub mod FollowsFolder
+pub mod PathSteps
+pub mod Whole
+pub mod WholeProgram
+pub mod Folders

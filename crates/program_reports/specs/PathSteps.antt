@@ -1,0 +1,22 @@
+-- What a batch says of its paths, one by one.
+use Rattle.std.specs.Prelude.{List, [], ◌∷◌, ◌++◌, map, if◌then◌else◌}
+use Rattle.notify_paths.specs.Path.{PathValue}
+use Rattle.notify_types.specs.Event.{EventValue, Timed}
+use Rattle.notify_types.specs.Kinds.{is_removal}
+use Rattle.notify_types.specs.declared.kind.EventKind.{EventKind}
+use Rattle.reader_paths.specs.Plan.Naming.{naming, removing}
+use Rattle.reader_paths.specs.Plan.Plan.{wanted}
+
+-- the path that an event of this kind says was removed, if it does: the first of its paths
+abbrev pub removed_first : EventKind → List PathValue → List PathValue
+removed_first kind [] = []
+removed_first kind (path ∷ others) = if is_removal kind then path ∷ [] else []
+
+-- the paths that the events say were removed, in order
+abbrev pub removed : List EventValue → List PathValue
+removed [] = []
+removed (event ∷ events) = removed_first event.kind event.paths ++ removed events
+
+-- first what was removed, and then what the events want
+abbrev pub path_steps : List EventValue → List Timed
+path_steps events = map removing (removed events) ++ map naming (wanted events)

@@ -1,0 +1,71 @@
+-- What a program took that followed folders to the end.
+use Rattle.std.specs.Prelude.{◌≡◌, ℕ, List, [], ◌∷◌, ◌++◌, true, Option, None, Some, map}
+use Rattle.std.specs.Map.{keys_of}
+use Rattle.std.specs.declared.alloc.Global.{Global}
+use Rattle.notify_types.specs.Event.{Timed}
+use Rattle.notify_watch.specs.Handler.{Outcome}
+use Rattle.notify_watch.specs.declared.config.Config.{Config}
+use Rattle.debounce_model.specs.PathsLaw.{read_paths}
+use Rattle.debounce_model.specs.Play.{Paths, events_of, play}
+use Rattle.debounce_model.specs.Tick.{IsOutlook}
+use Rattle.debounce_book.specs.Book.{Kept}
+use Rattle.debounce_book.specs.Journal.{EntryValue}
+use Rattle.debounce_book.specs.JournalLaws.{EndsInRawPaths, LosesNoChange, replies_of}
+use Rattle.debounce_lock.specs.History.{Begins, picked}
+use Rattle.debounce_run.specs.Access.Adds.{FeedsItem}
+use Rattle.debounce_run.specs.Access.Happened.{History, entries_of, is_emitting, missed_in}
+use Rattle.debounce_run.specs.Access.Stands.{HasAllFed, Known, LeadsTo}
+use Rattle.poll_listing.specs.Listing.{ListingValue}
+use Rattle.poll_rounds.specs.Reports.{Reported}
+use Rattle.debounce_cache.specs.declared.cache.NoCache.{NoCache}
+use Rattle.notify_debouncer_full.specs.Emitted.{events_in, plain, reports_of}
+use Rattle.program_frame.specs.Reports.Gave.{Gave}
+use Rattle.program_frame.specs.Reports.Loop.{Step}
+use Rattle.program_reports.specs.Folders.Rest.{Waits}
+use Rattle.program_reports.specs.Folders.Start.{BeganWith, Followed}
+use Rattle.program_reports.specs.FollowsFolder.{folder_source}
+
+-- the reports that were taken, in order
+abbrev pub taken_in : List Step → List (Outcome Global)
+taken_in [] = []
+taken_in (Some report ∷ steps) = report ∷ taken_in steps
+taken_in (None ∷ steps) = taken_in steps
+
+-- what a program has that began with these paths, and plays each batch that it takes
+abbrev pub played_by : Paths → List Step → Paths
+played_by paths steps = play paths (events_of (events_in (map plain (taken_in steps))))
+
+-- with initial events, what was fed in this history is just what leads from nothing to this listing
+abbrev pub LeadsToLast : Option (Known × Config) → ListingValue → History → Type 0
+LeadsToLast made found log =
+    (begun : Known) (config : Config) → made ≡ Some (begun, config) → config.initial_events ≡ true
+    → (now : Known) × Reported FeedsItem begun found now × HasAllFed now.seen log
+
+-- one history goes on from what was seen of the debouncer, and leads to its book at the end. If nothing was lost, the
+-- debouncer missed nothing, and what was taken is all that was emitted in it, each report once and in order, and then
+-- all that waits by the book. Who plays every batch of it, and then what waits, has the raw paths; and without renames
+-- no change that an event told is lost. If the watcher began with nothing, and nothing was lost, he has the paths of
+-- what it found last, and so has a program that plays what it took
+pub record TookAllOf (s : Followed) (steps : List Step) (lost : ℕ) : Type 0 where
+  pub log : History
+  pub goes_on : Begins s.seen log
+  pub book : Kept NoCache
+  pub missed : ℕ
+  pub parts : List EntryValue
+  pub leads : LeadsTo book missed parts log
+  pub waiting : List (Outcome Global)
+  pub waits : Waits book.core.state waiting
+  pub none_missed : lost ≡ 0 → missed_in log ≡ 0
+  pub all : lost ≡ 0 → map plain (taken_in steps) ≡ reports_of (picked is_emitting log) ++ map plain waiting
+  pub raw : (rest : List Timed) → IsOutlook book.core.state rest → EndsInRawPaths (entries_of log) rest
+  pub found : ListingValue
+  pub fed : LeadsToLast s.made found log
+  pub paths : BeganWith true s.made → lost ≡ 0 → (rest : List Timed) → IsOutlook book.core.state rest
+      → read_paths [] (replies_of (entries_of log)) rest ≡ keys_of found
+  pub played : BeganWith true s.made → lost ≡ 0 → played_by [] steps ≡ keys_of found
+  pub kept : LosesNoChange book.core.state.timeout (entries_of log)
+
+-- who took all that was given of a debouncer's reports, of which none was given before, took all of them
+abbrev pub TakesAllReports : Type 0
+TakesAllReports = (s : Followed) (steps : List Step) (lost : ℕ) → s.awaited.queue.given ≡ [] →
+    Gave folder_source s steps lost → TookAllOf s steps lost

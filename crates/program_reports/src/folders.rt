@@ -1,0 +1,20 @@
+//! What is reported of folders, until a program's life is over: a debouncer that watches them, hints from
+//! another program, the end of standard input, and what still waits then.
+//!
+//! ```text
+//! let mut reports = FolderReports::start(rt, &folder, RecursiveMode::Recursive, pace, complaints)?;
+//! while let Some(report) = reports.next() { .. }
+//! let rest = reports.finish()?;
+//! ```
+
+mod folder_watch;
+mod hint_reader;
+mod input_end;
+mod live;
+mod reports;
+mod rest;
+mod waiting;
+
+pub use folder_watch::FolderWatch;
+pub use reports::FolderReports;
+pub use waiting::ReportWait;

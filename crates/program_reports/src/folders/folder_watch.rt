@@ -1,0 +1,92 @@
+//! A folder that is watched, apart from the wait for its reports.
+ghost use Rattle.std.specs.Prelude.{◌≡◌, IfErr, IfOk};
+ghost use Rattle.program_reports.specs.Folders.Rest.{IsLeft};
+ghost use Rattle.program_reports.specs.Folders.Start.{followed};
+ghost use Rattle.notify_debouncer_full.specs.Emitted.{IsTied};
+ghost use Rattle.program_frame.specs.declared.fault.Fault.TheVariants.{Memory};
+
+use crate::folders::rest::rest_of;
+use crate::folders::waiting::ReportWait;
+use notify_debouncer_full::{
+    ClosedCount, DebouncerRuntime, QueueingDebouncer, RecommendedWatcher, Reports,
+};
+use program_frame::reports::Rest;
+use program_frame::{Complaints, Fault};
+use std::io::Write;
+
+/// The debouncer of a folder's reports.
+pub(crate) type Watching<R> = QueueingDebouncer<RecommendedWatcher<R>, R>;
+
+/// A folder that is watched, apart from the wait for its reports: `FolderReports::apart`.
+#[derive(Drop)]
+pub struct FolderWatch<'n, R: DebouncerRuntime, E: Drop> {
+    rt: R,
+    debouncer: Watching<R>,
+    complaints: Complaints<'n, E>,
+}
+
+impl<'n, R: DebouncerRuntime + AllocGlobal, E: Write + Drop> FolderWatch<'n, R, E> {
+    /// Returns what this debouncer watches.
+    pub(crate) fn new(
+        rt: R,
+        debouncer: Watching<R>,
+        complaints: Complaints<'n, E>,
+    ) -> FolderWatch<'n, R, E>
+        ensures { result.debouncer ≡ debouncer }
+    {
+        FolderWatch {
+            rt,
+            debouncer,
+            complaints,
+        }
+    }
+
+    /// How many names of the folder are left out, since they aren't UTF-8.
+    pub(crate) fn names_left_out(&self) -> u64 {
+        self.debouncer.watcher().names_left_out()
+    }
+
+    /// How many folders lie so deep that what is in them is left out.
+    pub(crate) fn folders_too_deep(&self) -> u64 {
+        self.debouncer.watcher().folders_too_deep()
+    }
+
+    /// Says how many these are, once each, if any is.
+    pub(crate) fn say_left_out(&mut self)
+        ensures same { self.new.debouncer ≡ self.old.debouncer }
+    {
+        let names = self.names_left_out();
+        self.complaints.leave_out(names);
+        let folders = self.folders_too_deep();
+        self.complaints.leave_deep(folders);
+    }
+
+    /// Returns what tells how many paths can't be looked at, also after the end.
+    fn closed(&self) -> Result<ClosedCount, Fault>
+        ensures err { IfErr result (λ e. e ≡ Memory) }
+    {
+        match self.debouncer.watcher().closed_count() {
+            Ok(closed) => Ok(closed),
+            Err(_) => Err(Fault::Memory),
+        }
+    }
+
+    /// Ends the folder's reports, as `FolderReports::finish`.
+    pub fn finish(mut self, waiting: ReportWait<R>) -> Result<Rest, Fault>
+        requires tied { IsTied self.debouncer.began waiting.queue }
+        ensures ok { IfOk result (IsLeft (followed self.entry.debouncer waiting)) }
+        ensures err { IfErr result (λ e. e ≡ Memory) }
+    {
+        self.say_left_out();
+        let closed = self.closed()?;
+        let FolderWatch {
+            rt,
+            debouncer,
+            mut complaints,
+        } = self;
+        let reports = Reports::of(rt, debouncer, waiting.into_queue());
+        let rest = rest_of(rt.alloc(), reports.finish());
+        complaints.note_closed(closed.get());
+        rest
+    }
+}

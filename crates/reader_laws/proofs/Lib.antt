@@ -1,0 +1,6 @@
+mod FedLemmas
+mod FeederLemmas
+mod ListingLemmas
+mod ReportLemmas
+mod Unmissed
+mod CallersLemmas

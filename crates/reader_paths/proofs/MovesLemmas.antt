@@ -1,0 +1,3 @@
+pub mod MoveLaw
+pub mod SourceLemmas
+pub mod ToldLemmas

@@ -1,9 +1,0 @@
-use Rattle.std.proofs.Common.{map, string_bytes}
-use Rattle.real_entries.proofs.ReadingLemmas.{Reading}
-use Rattle.real_entries.proofs.names.read_names.Given as goal
-
--- the names that were read so far were added
-abbrev pub invariant-loop : goal.invariant-loop
-invariant-loop g l =
-    Reading (g.F.Read.remaining l.fn.folder) (g.F.Read.remaining l.folder) (map string_bytes l.names.items)
-    l.fn.left_out l.left_out

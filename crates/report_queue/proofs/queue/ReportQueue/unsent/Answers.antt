@@ -1,5 +1,0 @@
-use Rattle.report_queue.proofs.Puts.{may_rest}
-use Rattle.report_queue.proofs.queue.ReportQueue.unsent.Goals as goal
-
-pub give-requires-clause-may : goal.give-requires-clause-may
-give-requires-clause-may g c = let took = c.take-guard.ensures.took in may_rest _ _ _ took.holds took.stands

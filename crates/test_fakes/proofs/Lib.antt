@@ -1,0 +1,2 @@
+mod AllocatorLemmas
+pub mod FoldersLemmas

@@ -1,8 +1,0 @@
--- .. and any thread may share it.
-use denote.RattleType.{RattleType}
-use denote.Param.Send.{IsSync, part_keyless}
-use Rattle.told_lock.specs.contracts.shown.Shown.{the_row}
-use Rattle.told_lock.proofs.shown.Shown.TheSendSync.Send.{send}
-
-pub sync : (Y : RattleType) → IsSync (the_row Y)
-sync Y = record { shared = λ d b o κ q. part_keyless (the_row Y) (send Y) q d b o }

@@ -1,5 +1,0 @@
-pub mod FaultLemmas
-pub mod FolderLemmas
-pub mod PlayedLemmas
-pub mod WholeLemmas
-pub mod WordLemmas

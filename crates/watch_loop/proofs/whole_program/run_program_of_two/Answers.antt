@@ -1,5 +1,0 @@
-use Rattle.std.proofs.Common.{inr}
-use Rattle.watch_loop.proofs.whole_program.run_program_of_two.Goals as goal
-
-pub returns-in-Ok-clause-run : goal.returns-in-Ok-clause-run
-returns-in-Ok-clause-run g c = inr (_, _, c.line_of_two-line.ensures, c.run_line.ensures.run)

@@ -1,4 +1,0 @@
-pub mod FollowsFolder
-pub mod PathSteps
-pub mod Whole
-pub mod WholeProgram

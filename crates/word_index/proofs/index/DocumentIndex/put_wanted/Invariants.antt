@@ -1,9 +1,0 @@
-use Rattle.std.proofs.Common.{◌≡◌}
-use Rattle.std.specs.Map.{keys_of}
-use Rattle.word_index.specs.Index.{put_wanted}
-use Rattle.word_index.proofs.index.DocumentIndex.put_wanted.Given as goal
-
--- what is put in so far, and then the rest
-abbrev pub invariant-loop-path : goal.invariant-loop-path
-invariant-loop-path g l = put_wanted (keys_of l.paths.entries) l.self l.path-iterator
-    ≡ put_wanted (keys_of l.paths.entries) l.fn.self l.fn.read.entries

@@ -1,9 +1,0 @@
-use Rattle.std.proofs.Common.{◌∙◌, ap}
-use Rattle.std.specs.String.{string_bytes}
-use Rattle.word_index.specs.Words.{has_word}
-use Rattle.word_index.proofs.WordLemmas.{any_by_bytes}
-use Rattle.word_index.proofs.words.Words.has.Goals as goal
-
-pub returns : goal.returns
-returns g c = c.contains.ensures ∙ any_by_bytes string_bytes c.args.word.now c.self.inside.words.keys
-    ∙ ap (λ words. has_word words c.args.word.now) c.self.view_is
