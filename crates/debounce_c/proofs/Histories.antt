@@ -5,7 +5,7 @@ use Rattle.debounce_model.specs.Command.{ReplyValue}
 use Rattle.debounce_c.specs.Desk.Answers.{Answers, AnswersFor}
 use Rattle.debounce_c.specs.Desk.Calls.{CallValue, Keeps, Makes, MakesAll, Reads, reply_to}
 use Rattle.debounce_c.specs.Desk.Codes.{fault_code}
-use Rattle.debounce_c.specs.Desk.Desk.{DeskValue}
+use Rattle.debounce_c.specs.Desk.{DeskValue}
 use Rattle.debounce_c.specs.Desk.Tells.{TellsCounts}
 use Rattle.debounce_c.specs.declared.desk.fault.Fault.{Fault}
 use Rattle.debounce_c.specs.declared.desk.fault.Fault.TheVariants.{Empty, NoMemory, Full, NotText, NoKind, Unread, AtEnd, TooShort, TooManyPaths, BadCounts}

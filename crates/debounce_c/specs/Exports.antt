@@ -12,7 +12,7 @@ use Rattle.debounce_c.specs.Numbered.Numbers.{number_at, said_numbers}
 use Rattle.debounce_c.specs.Desk.Answers.{Answers}
 use Rattle.debounce_c.specs.Desk.Calls.{Forgets, Keeps, Makes, Notes, Says, Unwatches, Watches}
 use Rattle.debounce_c.specs.Desk.Codes.{fault_code}
-use Rattle.debounce_c.specs.Desk.Desk.{DeskValue, IsAsked, IsForeseen, IsOpened, IsTicked, entry_at, stepped}
+use Rattle.debounce_c.specs.Desk.{DeskValue, IsAsked, IsForeseen, IsOpened, IsTicked, entry_at, stepped}
 use Rattle.debounce_c.specs.Desk.Faults.{batch_fault, entry_fault, error_fault, errors_fault, errors_need, event_fault, event_needs, next_error_fault, next_fault, no_fault, text_fault, tick_needs}
 use Rattle.debounce_c.specs.Desk.Said.{error_of, event_of, id_of, mode_of}
 use Rattle.debounce_c.specs.Desk.Tells.{LeavesEntryTold, LeavesErrorTold, LeavesTold, Tells, TellsCounts, TellsEntry, TellsError, TellsNumber, entry_texts, error_in, error_texts, event_in, texts_of, written}

@@ -11,7 +11,7 @@ use Rattle.debounce_model.specs.PathsLaw.{LeavesRawPaths}
 use Rattle.debounce_model.specs.Soon.{is_soon}
 use Rattle.debounce_model.specs.State.{State}
 use Rattle.debounce_c.specs.Desk.Calls.{CallValue, Asks, Feeds, Forgets, IsWrittenDown, Keeps, MakesAll, Notes, Reads, Says, Ticks, Unwatches, Watches, changes_journal, commands_of}
-use Rattle.debounce_c.specs.Desk.Desk.{DeskValue, IsOpened}
+use Rattle.debounce_c.specs.Desk.{DeskValue, IsOpened}
 use Rattle.debounce_c.specs.Desk.Said.{error_of, event_of, id_of, mode_of}
 use Rattle.debounce_c.specs.declared.desk.records.Attributes.{Attributes}
 use Rattle.debounce_c.specs.declared.desk.records.Change.{Change}

@@ -6,7 +6,7 @@ ghost use Rattle.std.specs.Prelude.{◌≡◌, ◌<◌, ◌≤◌, ◌+◌, ◌-
 ghost use Rattle.std.specs.Option.{option_copied};
 ghost use Rattle.debounce_model.specs.Calls.{recursive_mode};
 ghost use Rattle.debounce_c.specs.Numbered.Numbers.{number_at, with_number, with_numbers, without_numbers};
-ghost use Rattle.debounce_c.specs.Desk.Desk.{IsAsked, IsForeseen, IsOpened, IsTicked, begun, entries_in, entry_at};
+ghost use Rattle.debounce_c.specs.Desk.{IsAsked, IsForeseen, IsOpened, IsTicked, begun, entries_in, entry_at};
 ghost use Rattle.debounce_c.specs.Desk.Faults.{errors_need, tick_needs};
 ghost use Rattle.debounce_c.specs.Desk.Tells.{TellsCounts};
 ghost use Rattle.debounce_c.specs.declared.desk.fault.Fault.TheVariants.{NoMemory};
@@ -47,7 +47,7 @@ pub struct Desk {
 
 impl Model for Desk {
     ghost use Rattle.std.specs.Option.{option_map};
-    ghost use Rattle.debounce_c.specs.Desk.Desk.{DeskValue};
+    ghost use Rattle.debounce_c.specs.Desk.{DeskValue};
 
     ghost Value = { DeskValue };
 

@@ -342,7 +342,7 @@ pub(crate) fn start_fed<
     ensures err { IfErr result (λ e. (e ≡ out_of_memory) ⊎ IsIo e) }
 {
     let start = start_of(&shared.rt, shared.alloc)?;
-    let feed = shared.feed(start)?;
+    let feed = shared.new_feed(start)?;
     let pace = Pace { start, tick };
     let worker = start_worker::<F, E, L, C, R, A>(shared, handler, began, pace)?;
     Ok(Fed { feed, worker })

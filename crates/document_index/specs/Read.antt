@@ -6,7 +6,7 @@ use Rattle.std.specs.Map.{keys_of}
 use Rattle.notify_paths.specs.Path.{PathValue, path_cmp}
 use Rattle.debounce_model.specs.Play.{Paths, has_path}
 use Rattle.program_logic.specs.Words.Index.{IndexValue}
-use Rattle.program_logic.specs.Words.Words.{WordsValue}
+use Rattle.program_logic.specs.Words.{WordsValue}
 
 -- nothing was read but at these paths
 abbrev pub IsReadAmong : Paths → IndexValue → Type 0

@@ -1,6 +1,6 @@
 -- What the exit status of a run says. `script_run` and `check_run` cite these.
 use Rattle.std.proofs.Common.{◌≡◌, ◌⊎◌, ℕ, inl, inr, refl, Option, List, Result, Ok, Err, OnOk, IfErr, IfSome, None, Some, arith}
-use Rattle.mirror_run.specs.Script.Script.{ScriptValue, Fails, script_of}
+use Rattle.mirror_run.specs.Script.{ScriptValue, Fails, script_of}
 use Rattle.mirror_run.specs.Script.ScriptView.{IsScript, IsFaulty}
 use Rattle.mirror_run.specs.declared.script.fault.Fault.{Fault}
 use Rattle.mirror_run.specs.declared.script.fault.Fault.TheVariants.{Usage, NotUtf8, CannotRead, NotCommand, Memory, CannotWatch, OutputFailed, NoThread}

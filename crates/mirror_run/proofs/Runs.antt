@@ -6,7 +6,7 @@ use Rattle.debounce_model.specs.Command.{CommandValue, ReplyValue}
 use Rattle.debounce_model.specs.Play.{Paths}
 use Rattle.debounce_model.specs.State.{Core, counted_state}
 use Rattle.reader_paths.specs.Played.{with_paths}
-use Rattle.mirror_run.specs.Script.Script.{ScriptValue}
+use Rattle.mirror_run.specs.Script.{ScriptValue}
 use Rattle.mirror_run.specs.declared.script.fault.Fault.{Fault}
 use Rattle.mirror_run.specs.declared.script.fault.Fault.TheVariants.{Memory, OutputFailed}
 use Rattle.mirror_run.specs.declared.transcript.Report.{Report}

@@ -1,7 +1,7 @@
 -- How a run ends: its exit status, and what it has printed.
 use Rattle.std.specs.Prelude.{◌≡◌, ◌⊎◌, ℕ, Option, List, Result, Ok, Err, IfSome}
 use Rattle.mirror_run.specs.Script.Faults.{fault_status}
-use Rattle.mirror_run.specs.Script.Script.{Fails, script_of}
+use Rattle.mirror_run.specs.Script.{Fails, script_of}
 use Rattle.mirror_run.specs.declared.script.fault.Fault.{Fault}
 use Rattle.mirror_run.specs.declared.script.fault.Fault.TheVariants.{CannotRead, NotCommand, Memory, CannotWatch, OutputFailed, NoThread}
 use Rattle.mirror_run.specs.declared.transcript.Report.{Report}

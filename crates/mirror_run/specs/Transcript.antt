@@ -12,7 +12,7 @@ use Rattle.debounce_model.specs.Tick.{IsOutlook}
 use Rattle.reader_paths.specs.Played.{with_paths, reader_paths}
 use Rattle.reader_paths.specs.Clock.{clock_kept}
 use Rattle.reader_paths.specs.Stream.{is_honest}
-use Rattle.mirror_run.specs.Script.Script.{ScriptValue, Reads, script_of}
+use Rattle.mirror_run.specs.Script.{ScriptValue, Reads, script_of}
 use Rattle.mirror_run.specs.declared.script.fault.Fault.{Fault}
 use Rattle.mirror_run.specs.declared.script.fault.Fault.TheVariants.{Memory}
 use Rattle.mirror_run.specs.declared.transcript.Report.{Report}

@@ -2,7 +2,7 @@
 use Rattle.std.specs.Prelude.{ℕ, Bool, List, [], ◌∷◌, ◌&&◌, nat_eq, nat_lt, codes, Option, None, Some, if◌then◌else◌}
 use Rattle.std.specs.List.{starts_with}
 use Rattle.std.specs.Str.{bytes_eq}
-use Rattle.mirror_run.specs.Script.Script.{number_of}
+use Rattle.mirror_run.specs.Script.{number_of}
 
 -- a form of the program, with the name of a script, or with a folder and a number of ticks, or with scripts
 pub data FormValue : Type 0 where

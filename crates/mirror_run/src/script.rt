@@ -11,7 +11,7 @@
 ghost use Rattle.std.specs.Prelude.{◌≡◌, ◌==◌, ◌<◌, ◌∷◌, [], length, position, IfSome, IfNone, IfOk, IfErr, OnOk};
 ghost use Rattle.std.specs.Str.Lines.{lines, strip_carriage_return};
 ghost use Rattle.mirror_run.specs.Script.Faults.{IsScriptFault};
-ghost use Rattle.mirror_run.specs.Script.Script.{said, is_skipped, after_line, nothing_read, Reads, script_of};
+ghost use Rattle.mirror_run.specs.Script.{said, is_skipped, after_line, nothing_read, Reads, script_of};
 ghost use Rattle.mirror_run.specs.Script.ScriptView.{script_value, reading_value, said_next};
 ghost use Rattle.mirror_run.specs.declared.script.line.LineFault.TheVariants.{NotCommand};
 

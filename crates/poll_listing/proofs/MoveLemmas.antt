@@ -1,5 +1,5 @@
--- The changes with the trackers of the moves are as honest as without, and lead to the same paths. `told_events` cites
--- the last.
+-- The changes with the trackers of the moves are as honest as without, and lead to the same paths. `compare_moves`
+-- cites the last.
 use Rattle.std.proofs.Common.{◌≡◌, ℕ, ◌&&◌, List, [], ◌∷◌, ◌++◌, map, refl, ap, sym, ◌∙◌, Some, None}
 use Rattle.std.specs.Prelude.{Option, option_and_then}
 use Rattle.std.specs.List.{AllZip}

@@ -37,7 +37,13 @@ pub fn compare_moves<A: Allocator + Copy>(
         LeadsTo (keys_of old.now) (keys_of (updated old.now updates.now.entries)) events.items) }
     ensures err { IfErr result (λ e. e ≡ out_of_memory) }
 {
-    told_events(alloc, old, updates, trackers).map_err(|_| Error::out_of_memory(alloc))
+    let Ok(events) = update_events(alloc, &old.entries, updates) else {
+        return Err(Error::out_of_memory(alloc));
+    };
+    let Some(first) = trackers else {
+        return Ok(events);
+    };
+    tracked(alloc, old, updates, events, first).map_err(|_| Error::out_of_memory(alloc))
 }
 
 /// Returns the first tracker that is free after so many events, of which the given one was the first. It is
@@ -48,22 +54,20 @@ pub fn trackers_after(trackers: Option<u64>, events: usize) -> Option<u64>
     trackers?.checked_add(events as u64)
 }
 
-fn told_events<A: Allocator + Copy>(
+/// Puts in the trackers of what moved, from this one on.
+fn tracked<A: Allocator + Copy>(
     alloc: A,
     old: &Listing<A>,
     updates: &Updates<A>,
-    trackers: Option<u64>,
+    events: Vec<Event<A>, A>,
+    first: u64,
 ) -> Result<Vec<Event<A>, A>, AllocError>
-    requires { IsUpdate old.now updates.now.entries }
-    ensures ok { IfOk result (λ events. events.items
-        ≡ told_changes trackers old.now (updated old.now updates.now.entries)) }
-    ensures honest { IfOk result (λ events.
-        LeadsTo (keys_of old.now) (keys_of (updated old.now updates.now.entries)) events.items) }
+    requires listing { IsListing old.now }
+    requires update { IsUpdate old.now updates.now.entries }
+    requires events { events.items ≡ changes old.now (updated old.now updates.now.entries) }
+    ensures { IfOk result (λ told. told.items
+        ≡ tracked_changes first old.now (updated old.now updates.now.entries)) }
 {
-    let events = update_events(alloc, &old.entries, updates)?;
-    let Some(first) = trackers else {
-        return Ok(events);
-    };
     let places = find_places(alloc, old, updates, events.as_slice())?;
     put_trackers(alloc, events, first, places.as_slice())
 }

@@ -7,7 +7,7 @@ use Rattle.std.proofs.lemmas.Map.Made.{is_some-lookup}
 use Rattle.notify_paths.specs.Path.{PathValue, path_cmp}
 use Rattle.notify_types.specs.Event.{EventValue, Timed}
 use Rattle.debounce_model.specs.Play.{events_of, has_path}
-use Rattle.reader_paths.specs.Plan.Plan.{is_named, look_at, wanted}
+use Rattle.reader_paths.specs.Plan.{is_named, look_at, wanted}
 use Rattle.program_copy.specs.After.{WaitOrAreCopied, WaitingValue, waits}
 use Rattle.program_copy.specs.Copy.{CopiedValue}
 use Rattle.program_copy.specs.Looked.{AreSeen, IsSeen, OthersSeen, PathMap, Sees, is_known}

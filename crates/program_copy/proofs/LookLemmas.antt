@@ -6,7 +6,7 @@ use Rattle.notify_paths.specs.Path.{PathValue, path_cmp}
 use Rattle.notify_paths.specs.PathLaws.{path_cmp_total}
 use Rattle.debounce_model.proofs.Entries.{lookup-insert_other, lookup-insert_same}
 use Rattle.debounce_laws.proofs.PathSets.{tied, tied_to_itself}
-use Rattle.reader_paths.specs.Plan.Plan.{look_at, stands}
+use Rattle.reader_paths.specs.Plan.{look_at, stands}
 use Rattle.reader_paths.specs.declared.plan.action.Standing.{Standing}
 use Rattle.program_copy.specs.Copy.{CopiedValue}
 use Rattle.program_copy.specs.Looked.{AreSeen, IsNoted, OthersSeen, PathMap, Sees, StayKnown, is_known}

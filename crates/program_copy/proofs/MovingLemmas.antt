@@ -14,9 +14,9 @@ use Rattle.debounce_model.specs.Kept.{has_first}
 use Rattle.debounce_model.specs.Play.{events_of}
 use Rattle.debounce_model.proofs.Entries.{lookup-insert_other}
 use Rattle.debounce_laws.proofs.PathSets.{prefix_of, tied}
-use Rattle.reader_paths.specs.Moves.Moves.{AreSourcesOf, MoveValue, MovesValue, is_new, is_old}
+use Rattle.reader_paths.specs.Moves.{AreSourcesOf, MoveValue, MovesValue, is_new, is_old}
 use Rattle.reader_paths.specs.Plan.Naming.{removing}
-use Rattle.reader_paths.specs.Plan.Plan.{is_named, look_at, stands}
+use Rattle.reader_paths.specs.Plan.{is_named, look_at, stands}
 use Rattle.reader_paths.specs.Plan.Target.{is_inside, target_of}
 use Rattle.reader_paths.specs.declared.plan.action.Standing.{Standing}
 use Rattle.program_copy.specs.Copy.{CopiedValue}

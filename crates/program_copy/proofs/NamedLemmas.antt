@@ -9,7 +9,7 @@ use Rattle.debounce_model.proofs.Lists.{drop_at}
 use Rattle.debounce_model.specs.Kept.{has_first}
 use Rattle.debounce_model.specs.Play.{Paths, events_of, has_path, with_path, without_at}
 use Rattle.debounce_laws.proofs.PathSets.{has_with, has_without, prefix_of}
-use Rattle.reader_paths.specs.Plan.Plan.{is_named, wanted, wanted_first, wanted_from}
+use Rattle.reader_paths.specs.Plan.{is_named, wanted, wanted_first, wanted_from}
 
 -- of the paths that all the events name, each is done, or the rest names it
 abbrev pub LeftToDo : (PathValue → Type 0) → List EventValue → List EventValue → Type 0

@@ -9,7 +9,7 @@ use Rattle.notify_watch.specs.Handler.{Outcome}
 use Rattle.debounce_model.specs.Play.{has_path}
 use Rattle.reader_paths.specs.Plan.Action.{ActionValue}
 use Rattle.reader_paths.specs.Plan.Naming.{naming_again}
-use Rattle.reader_paths.specs.Plan.Plan.{is_named, look_at, stands, wanted}
+use Rattle.reader_paths.specs.Plan.{is_named, look_at, stands, wanted}
 use Rattle.reader_paths.specs.declared.plan.action.Standing.{Standing}
 use Rattle.program_copy.specs.Copy.{CopiedValue}
 use Rattle.program_copy.specs.Looked.{IsSeen, Sees}

@@ -1,7 +1,7 @@
 -- What was seen at the paths of a batch.
 use Rattle.std.specs.Prelude.{◌≡◌, Bool, true, false, not, ◌||◌, List, Option, None, Some, if◌then◌else◌}
 use Rattle.notify_paths.specs.Path.{PathValue}
-use Rattle.reader_paths.specs.Plan.Plan.{look_at, stands}
+use Rattle.reader_paths.specs.Plan.{look_at, stands}
 use Rattle.reader_paths.specs.declared.plan.action.Standing.{Standing}
 use Rattle.program_copy.specs.Copy.{CopiedValue}
 use Rattle.program_copy.specs.Seen.{standing_of}

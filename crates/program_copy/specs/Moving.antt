@@ -6,8 +6,8 @@ use Rattle.std.specs.Map.{keys_of, values_of}
 use Rattle.std.specs.Ordering.{nat_cmp}
 use Rattle.notify_paths.specs.Path.{PathValue, is_prefix}
 use Rattle.notify_types.specs.Event.{EventValue}
-use Rattle.reader_paths.specs.Moves.Moves.{AreMovesOf, MoveValue, MovesValue, is_new, is_old}
-use Rattle.reader_paths.specs.Plan.Plan.{is_named, look_at, stands}
+use Rattle.reader_paths.specs.Moves.{AreMovesOf, MoveValue, MovesValue, is_new, is_old}
+use Rattle.reader_paths.specs.Plan.{is_named, look_at, stands}
 use Rattle.reader_paths.specs.declared.plan.action.Standing.{Standing}
 use Rattle.reader_paths.specs.declared.plan.action.Standing.TheVariants.{Folder, File}
 use Rattle.program_copy.specs.Copy.{CopiedValue}

@@ -4,7 +4,7 @@ ghost use Rattle.std.specs.BTreeMap.{insert_entry, is_at};
 ghost use Rattle.std.specs.Map.{keys_of, remove_entry};
 ghost use Rattle.std.specs.List.{list_all};
 ghost use Rattle.notify_paths.specs.Path.{is_prefix, path_cmp};
-ghost use Rattle.reader_paths.specs.Plan.Plan.{look_at};
+ghost use Rattle.reader_paths.specs.Plan.{look_at};
 
 use notify_paths::PathBuf;
 use reader_paths::plan::Standing;

@@ -1,6 +1,6 @@
 //! A copy, and what is known of it.
 ghost use Rattle.std.specs.Prelude.{◌≡◌, None, Some, IfOk, OnOk};
-ghost use Rattle.reader_paths.specs.Plan.Plan.{look_at};
+ghost use Rattle.reader_paths.specs.Plan.{look_at};
 
 use crate::came::Came;
 use crate::copied::Copied;

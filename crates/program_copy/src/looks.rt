@@ -4,7 +4,7 @@ ghost use Rattle.std.specs.List.{list_all};
 ghost use Rattle.std.specs.Map.{keys_of};
 ghost use Rattle.notify_paths.specs.Path.{PathValue, is_prefix};
 ghost use Rattle.debounce_model.specs.Play.{events_of};
-ghost use Rattle.reader_paths.specs.Plan.Plan.{is_named, look_at, stands, wanted};
+ghost use Rattle.reader_paths.specs.Plan.{is_named, look_at, stands, wanted};
 ghost use Rattle.program_copy.specs.Looked.{AreSeen, StayKnown, is_kept, is_known, lets_go_of};
 ghost use Rattle.program_copy.specs.Seen.{standing_of};
 

@@ -4,7 +4,7 @@ ghost use Rattle.std.specs.BTreeMap.{insert_entry};
 ghost use Rattle.notify_paths.specs.Path.{PathValue, path_cmp};
 ghost use Rattle.notify_types.specs.Event.{Timed};
 ghost use Rattle.debounce_model.specs.Play.{events_of};
-ghost use Rattle.reader_paths.specs.Plan.Plan.{is_named, look_at};
+ghost use Rattle.reader_paths.specs.Plan.{is_named, look_at};
 ghost use Rattle.program_copy.specs.After.{AllWait, IsAgainOf, IsCarriedOut, IsTakenWith, StayWaiting, WaitOrAreCopied, again_of, asks_anew, has_request, waits};
 ghost use Rattle.program_copy.specs.Looked.{is_kept, lets_go_of};
 

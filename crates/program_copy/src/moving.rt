@@ -8,8 +8,8 @@ ghost use Rattle.std.specs.Map.{keys_of, remove_entry, values_of};
 ghost use Rattle.std.specs.Ordering.{nat_cmp};
 ghost use Rattle.notify_paths.specs.Path.{is_prefix, path_cmp};
 ghost use Rattle.debounce_model.specs.Play.{events_of};
-ghost use Rattle.reader_paths.specs.Moves.Moves.{AreMovesOf, AreSourcesOf};
-ghost use Rattle.reader_paths.specs.Plan.Plan.{look_at, stands};
+ghost use Rattle.reader_paths.specs.Moves.{AreMovesOf, AreSourcesOf};
+ghost use Rattle.reader_paths.specs.Plan.{look_at, stands};
 ghost use Rattle.program_copy.specs.Moving.{AreAlone, AreMade, ChangesBoth, IsAsked, IsDue, IsMade, IsToldOrLeft, LeavesOthers, MakesMoves, MovesAlone, is_any_old, is_due};
 
 use crate::came::{Came, Sources};

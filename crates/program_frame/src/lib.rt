@@ -1,5 +1,5 @@
-//! What programs that watch a folder share: the words of their command lines, the faults by which they
-//! end, and lines that are written at once. It knows nothing of a debouncer's threads.
+//! What programs that watch a folder share: the words of their command lines, hints, the faults by which they end, lines
+//! that are written at once, and the loop over a source of reports. It knows nothing of a debouncer's threads.
 //!
 //! [`reports`] is the loop over a source of reports, [`pace`] how a program watches, [`hints`] lines that say where to
 //! look, and [`whole`] a write to the end. [`fault_runs`] says what a run that ended in a fault has written.

@@ -11,7 +11,7 @@ ghost use Rattle.program_logic.specs.Journal.Kept.{passing};
 ghost use Rattle.program_logic.specs.Journal.KeptView.{filter_rule};
 ghost use Rattle.serde_json.specs.Read.{read};
 ghost use Rattle.debounce_model.specs.Play.{events_of};
-ghost use Rattle.reader_paths.specs.Moves.Moves.{AreMovesOf, source_of};
+ghost use Rattle.reader_paths.specs.Moves.{AreMovesOf, source_of};
 ghost use Rattle.program_logic.specs.Journal.Json.{event_data, json_text};
 ghost use Rattle.program_logic.specs.Journal.Lines.{AreReadBack, BeginsTimed, WritesTimed, after, entries_of, entry_of, source_in};
 ghost use Rattle.program_frame.specs.Whole.Output.{WritesFront};

@@ -13,7 +13,7 @@
 //! ```
 ghost use Rattle.std.specs.Prelude.{◌≡◌, Some, IfOk, OnOk};
 ghost use Rattle.std.specs.String.{string_bytes};
-ghost use Rattle.program_logic.specs.Words.Words.{has_word, is_unchanged, no_words, with_word, words_of};
+ghost use Rattle.program_logic.specs.Words.{has_word, is_unchanged, no_words, with_word, words_of};
 
 mod answer;
 mod before;
@@ -41,7 +41,7 @@ pub struct Words<A: Allocator = Global> {
 impl<A: Allocator> Model for Words<A> {
     ghost use Rattle.std.specs.Prelude.{map};
     ghost use Rattle.std.specs.String.{string_bytes};
-    ghost use Rattle.program_logic.specs.Words.Words.{WordsValue};
+    ghost use Rattle.program_logic.specs.Words.{WordsValue};
 
     ghost Value = { WordsValue };
 

@@ -5,7 +5,7 @@ use Rattle.notify_types.specs.Event.{EventValue, Timed}
 use Rattle.notify_types.specs.Kinds.{is_removal}
 use Rattle.notify_types.specs.declared.kind.EventKind.{EventKind}
 use Rattle.reader_paths.specs.Plan.Naming.{naming, removing}
-use Rattle.reader_paths.specs.Plan.Plan.{wanted}
+use Rattle.reader_paths.specs.Plan.{wanted}
 
 -- the path that an event of this kind says was removed, if it does: the first of its paths
 abbrev pub removed_first : EventKind → List PathValue → List PathValue

@@ -1,4 +1,5 @@
-//! A reader's set of paths, and the tests of what a stream of events must be for the set to be right.
+//! What a reader of batches may know: its set of paths, what a stream of events must be for the set to be right, the
+//! moves that a batch tells, and a plan for a copy.
 //!
 //! A reader of batches keeps a [`PathSet`] and plays each batch on it. [`is_honest`] says whether the
 //! events of a run are honest from a set on, which is when the reader's paths are promised to be the

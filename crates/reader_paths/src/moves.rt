@@ -16,7 +16,7 @@ ghost use Rattle.std.specs.Map.{keys_of, values_of};
 ghost use Rattle.std.specs.Ordering.{nat_cmp};
 ghost use Rattle.notify_paths.specs.Errors.{out_of_memory};
 ghost use Rattle.debounce_model.specs.Play.{events_of};
-ghost use Rattle.reader_paths.specs.Moves.Moves.{AreMovesOf, LeavesPlayed, source_at, source_of};
+ghost use Rattle.reader_paths.specs.Moves.{AreMovesOf, LeavesPlayed, source_at, source_of};
 ghost use Rattle.reader_paths.specs.Moves.Told.{kept_from, kept_with, move_told};
 
 mod sources;
@@ -38,7 +38,7 @@ pub struct Move<A: Allocator = Global> {
 }
 
 impl<A: Allocator> Model for Move<A> {
-    ghost use Rattle.reader_paths.specs.Moves.Moves.{MoveValue};
+    ghost use Rattle.reader_paths.specs.Moves.{MoveValue};
 
     ghost Value = { MoveValue };
 
@@ -58,7 +58,7 @@ pub struct Moves<A: Allocator = Global> {
 }
 
 impl<A: Allocator> Model for Moves<A> {
-    ghost use Rattle.reader_paths.specs.Moves.Moves.{MovesValue};
+    ghost use Rattle.reader_paths.specs.Moves.{MovesValue};
 
     ghost Value = { MovesValue };
 

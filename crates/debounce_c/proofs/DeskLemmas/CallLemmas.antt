@@ -10,7 +10,7 @@ use Rattle.debounce_model.specs.WellFormed.{IsWellFormed}
 use Rattle.debounce_laws.proofs.StateRuns.{StateRun}
 use Rattle.debounce_c.specs.Numbered.Numbers.{Numbers, said_numbers, with_numbers}
 use Rattle.debounce_c.specs.Desk.Calls.{CallValue, Feeds, Notes, Watches, Unwatches, Asks, Ticks, Says, Forgets, Keeps, Reads, IsRenumbered, MakesAll, RunsBetween, changes_numbers, commands_of}
-use Rattle.debounce_c.specs.Desk.Desk.{DeskValue}
+use Rattle.debounce_c.specs.Desk.{DeskValue}
 
 -- none of the calls changes the numbers
 abbrev pub IsConstant : List CallValue → Type 0

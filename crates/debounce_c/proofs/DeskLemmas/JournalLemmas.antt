@@ -6,7 +6,7 @@ use Rattle.debounce_model.specs.State.{State}
 use Rattle.debounce_book.specs.Book.{with_entry}
 use Rattle.debounce_book.specs.Journal.{EntryValue, Replays}
 use Rattle.debounce_c.specs.Desk.Calls.{CallValue, Feeds, Notes, Watches, Unwatches, Asks, Ticks, Says, Forgets, Keeps, Reads, MakesAll, changes_journal, commands_of, entries_of, with_entries}
-use Rattle.debounce_c.specs.Desk.Desk.{DeskValue}
+use Rattle.debounce_c.specs.Desk.{DeskValue}
 
 -- none of the calls begins a journal or ends it
 abbrev pub KeepsJournal : List CallValue → Type 0

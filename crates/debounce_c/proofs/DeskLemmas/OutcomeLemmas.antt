@@ -2,7 +2,7 @@
 use Rattle.std.proofs.Common.{◌≡◌, Option, None, true, refl}
 use Rattle.std.specs.Prelude.{⊤, Result, Ok, Err, OnOk, IfErr}
 use Rattle.debounce_c.specs.Desk.Answers.{Outcome}
-use Rattle.debounce_c.specs.Desk.Desk.{DeskValue}
+use Rattle.debounce_c.specs.Desk.{DeskValue}
 use Rattle.debounce_c.specs.declared.desk.fault.Fault.{Fault}
 use Rattle.debounce_c.specs.declared.desk.fault.Fault.TheVariants.{NoMemory}
 

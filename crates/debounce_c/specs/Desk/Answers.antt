@@ -1,7 +1,7 @@
 -- What a call answers, and what it leaves. Assumes nothing: these are definitions.
 use Rattle.std.specs.Prelude.{◌≡◌, ◌⊎◌, ℕ, Bool, true, Option, None, Some, Result, Ok, Err}
 use Rattle.debounce_c.specs.Desk.Codes.{fault_code}
-use Rattle.debounce_c.specs.Desk.Desk.{DeskValue}
+use Rattle.debounce_c.specs.Desk.{DeskValue}
 use Rattle.debounce_c.specs.declared.desk.fault.Fault.{Fault}
 use Rattle.debounce_c.specs.declared.desk.fault.Fault.TheVariants.{Empty, NoMemory}
 

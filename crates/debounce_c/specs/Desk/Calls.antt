@@ -20,7 +20,7 @@ use Rattle.debounce_model.specs.declared.file_id.FileId.{FileId}
 use Rattle.debounce_book.specs.Book.{entry_of}
 use Rattle.debounce_book.specs.Journal.{EntryValue, Replays}
 use Rattle.debounce_c.specs.Numbered.Numbers.{Numbers, said_numbers, with_number, with_numbers, without_numbers}
-use Rattle.debounce_c.specs.Desk.Desk.{DeskValue, IsAsked, IsOpened, IsTicked, begun, stepped}
+use Rattle.debounce_c.specs.Desk.{DeskValue, IsAsked, IsOpened, IsTicked, begun, stepped}
 
 -- a call that did what it says: it fed an event, kept an error, watched or unwatched a path, asked for the errors,
 -- made a tick; it said a file number, or took out those at a path; it began a journal, or ended it; or it read what

@@ -5,7 +5,7 @@ use Rattle.notify_paths.specs.Errors.{ErrorValue}
 use Rattle.notify_types.specs.Event.{Timed}
 use Rattle.debounce_model.specs.Tick.{is_due}
 use Rattle.debounce_book.specs.Journal.{EntryValue}
-use Rattle.debounce_c.specs.Desk.Desk.{DeskValue}
+use Rattle.debounce_c.specs.Desk.{DeskValue}
 use Rattle.debounce_c.specs.Desk.Tells.{entry_texts, error_texts, texts_of, total}
 use Rattle.debounce_c.specs.declared.desk.fault.Fault.{Fault}
 use Rattle.debounce_c.specs.declared.desk.fault.Fault.TheVariants.{Full, NotText, NoKind, Unread, AtEnd, TooShort, TooManyPaths, BadCounts}

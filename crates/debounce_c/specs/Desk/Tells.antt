@@ -12,7 +12,7 @@ use Rattle.debounce_model.specs.Command.{CommandValue, EventCommand, ErrorComman
 use Rattle.debounce_model.specs.State.{waiting}
 use Rattle.debounce_model.specs.declared.file_id.FileId.{FileId}
 use Rattle.debounce_book.specs.Journal.{EntryValue}
-use Rattle.debounce_c.specs.Desk.Desk.{DeskValue, entries_in}
+use Rattle.debounce_c.specs.Desk.{DeskValue, entries_in}
 use Rattle.debounce_c.specs.Desk.Said.{mode_of}
 use Rattle.debounce_c.specs.declared.desk.fault.Fault.{Fault}
 use Rattle.debounce_c.specs.declared.desk.fault.Fault.TheVariants.{TooShort}

@@ -10,7 +10,7 @@ ghost use Rattle.debounce_model.specs.Step.{IsTaken, IsRooted, IsUnrooted};
 ghost use Rattle.debounce_book.specs.Journal.{EntryValue};
 ghost use Rattle.debounce_c.specs.Numbered.Numbers.{number_at, said_numbers, with_number, with_numbers, without_numbers};
 ghost use Rattle.debounce_c.specs.Desk.Answers.{Outcome};
-ghost use Rattle.debounce_c.specs.Desk.Desk.{IsAsked, IsForeseen, IsTicked, entry_at, stepped};
+ghost use Rattle.debounce_c.specs.Desk.{IsAsked, IsForeseen, IsTicked, entry_at, stepped};
 ghost use Rattle.debounce_c.specs.Desk.Faults.{batch_fault, entry_fault, error_fault, errors_fault, errors_need, event_fault, event_needs, next_error_fault, next_fault, text_fault, tick_needs};
 ghost use Rattle.debounce_c.specs.Desk.Said.{error_of, event_of, id_of, mode_of};
 ghost use Rattle.debounce_c.specs.Desk.Tells.{LeavesEntryTold, LeavesErrorTold, LeavesTold, Tells, TellsEntry, TellsError, TellsNumber, entry_texts, error_in, error_texts, event_in, texts_of, written};

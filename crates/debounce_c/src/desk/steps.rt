@@ -7,7 +7,7 @@ ghost use Rattle.debounce_model.specs.State.{with_error, with_state, without_err
 ghost use Rattle.debounce_model.specs.Step.{IsTaken, IsRooted, IsUnrooted};
 ghost use Rattle.debounce_model.specs.Tick.{IsBatch, IsOnlyBatch, after_tick};
 ghost use Rattle.debounce_c.specs.Numbered.Numbers.{said_numbers};
-ghost use Rattle.debounce_c.specs.Desk.Desk.{stepped};
+ghost use Rattle.debounce_c.specs.Desk.{stepped};
 ghost use Rattle.debounce_c.specs.Desk.Faults.{errors_need, tick_needs};
 ghost use Rattle.debounce_c.specs.declared.desk.fault.Fault.TheVariants.{NoMemory};
 

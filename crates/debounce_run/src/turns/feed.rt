@@ -79,7 +79,7 @@ impl<C: FileIdCache<A> + Drop, A: Allocator> Model for Receipt<C, A> {
 
 impl<C: FileIdCache<A> + Drop, R: Wait + Copy + Drop, A: Allocator + Copy> Shared<C, R, A> {
     /// The feed of the debouncer, which counts from this start, and alone feeds from then on.
-    pub fn feed(&mut self, start: Instant) -> Result<Feed<C, R, A>, Error<A>>
+    pub fn new_feed(&mut self, start: Instant) -> Result<Feed<C, R, A>, Error<A>>
         requires { self.old.owner.feeds ≡ true }
         ensures same { StaysButFeeds self.old.owner self.new.owner }
         ensures ok { IfOk result (λ f.

@@ -8,7 +8,7 @@ use Rattle.std.proofs.lemmas.Bool.{false_from_ne_true, cond-false}
 use Rattle.std.proofs.lemmas.Bool.Decides.{nat_tests}
 use Rattle.std.proofs.lemmas.List.Splits.{slice_split_first, length-slice_split}
 use Rattle.std.proofs.lemmas.Str.{IsUtf8-from_is_utf8}
-use Rattle.mirror_run.specs.Script.Script.{ReadingValue, line_of, is_skipped, said_if, after_line}
+use Rattle.mirror_run.specs.Script.{ReadingValue, line_of, is_skipped, said_if, after_line}
 
 -- a part before a line feed is a line, without its carriage return
 part_first : (x : List ℕ) (parts : List (List ℕ)) → 0 < length parts → lines_of_parts (x ∷ parts)

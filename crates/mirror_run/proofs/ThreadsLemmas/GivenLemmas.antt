@@ -5,13 +5,13 @@ use Rattle.std.proofs.lemmas.List.Elements.{All-get_or, All-push, All-same}
 use Rattle.std.proofs.lemmas.List.Sums.{sum_by_push}
 use Rattle.std.specs.List.{All, AllZip, Contains, count_by, sum_by}
 use Rattle.mirror_run.specs.Script.Faults.{IsReadFault}
-use Rattle.mirror_run.specs.Script.Script.{ScriptValue}
+use Rattle.mirror_run.specs.Script.{ScriptValue}
 use Rattle.mirror_run.specs.Script.ScriptView.{IsFaulty}
 use Rattle.mirror_run.specs.declared.script.fault.Fault.{Fault}
 use Rattle.mirror_run.specs.declared.script.fault.Fault.TheVariants.{Usage, NotUtf8, CannotRead, NotCommand, Memory, CannotWatch, OutputFailed, NoThread}
 use Rattle.mirror_run.specs.declared.threads.stop.Stop.{Stop}
 use Rattle.mirror_run.specs.declared.threads.stop.Stop.TheVariants.{Faulty, Timeouts}
-use Rattle.mirror_run.specs.Threads.Threads.{AreGiven, HasCounts, IsEarlyFault, IsEarlyStop, IsGiven, IsPlainFault, IsPlainStop}
+use Rattle.mirror_run.specs.Threads.{AreGiven, HasCounts, IsEarlyFault, IsEarlyStop, IsGiven, IsPlainFault, IsPlainStop}
 
 -- one element more, and one more beside it
 all_zip-push : {A B : Type 0} (R : A → B → Type 0) (xs : List A) (ys : List B) (x : A) (y : B) → AllZip R xs ys →

@@ -5,7 +5,7 @@ use Rattle.mirror_run.specs.declared.script.fault.Fault.{Fault}
 use Rattle.mirror_run.specs.declared.script.fault.Fault.TheVariants.{Usage, NotUtf8, CannotRead, NotCommand, Memory, CannotWatch, OutputFailed, NoThread}
 use Rattle.mirror_run.specs.declared.threads.stop.Stop.{Stop}
 use Rattle.mirror_run.specs.declared.threads.stop.Stop.TheVariants.{Faulty, Timeouts}
-use Rattle.mirror_run.specs.Threads.Threads.{AreScripts, Given, IsEarlyFault, IsEarlyStatus, IsEarlyStop, IsOneUnfit, IsStop, IsThreadsStatus, IsThreadsStop, IsUnread, stop_status}
+use Rattle.mirror_run.specs.Threads.{AreScripts, Given, IsEarlyFault, IsEarlyStatus, IsEarlyStop, IsOneUnfit, IsStop, IsThreadsStatus, IsThreadsStop, IsUnread, stop_status}
 
 -- a fault's status is none of a run that went to its end
 pub other_status : (fault : Fault) → (fault_status fault ≢ 0) × (fault_status fault ≢ 7)

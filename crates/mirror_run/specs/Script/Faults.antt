@@ -1,7 +1,7 @@
 -- How a run ends that can't begin, or can't go on: its exit status, and its line on standard error.
 use Rattle.std.specs.Prelude.{◌≡◌, ℕ, List, [], ◌∷◌, ◌++◌, codes, Option, IfSome}
 use Rattle.std.specs.Fmt.{decimal}
-use Rattle.mirror_run.specs.Script.Script.{Outcome, Fails, script_of}
+use Rattle.mirror_run.specs.Script.{Outcome, Fails, script_of}
 use Rattle.mirror_run.specs.declared.script.fault.Fault.{Fault}
 use Rattle.mirror_run.specs.declared.script.fault.Fault.TheVariants.{Usage, NotUtf8, CannotRead, NotCommand, Memory, CannotWatch, OutputFailed, NoThread}
 

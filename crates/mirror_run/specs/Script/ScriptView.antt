@@ -7,7 +7,7 @@ use Rattle.mirror_run.specs.declared.script.line.Line.TheVariants as line
 use Rattle.mirror_run.specs.declared.script.line.Options.{Options}
 use Rattle.mirror_run.specs.declared.script.Reading.{Reading}
 use Rattle.mirror_run.specs.declared.script.Script.{Script}
-use Rattle.mirror_run.specs.Script.Script.{LineValue, TimeoutLine, CountsLine, StartLine, CommandLine, ScriptValue, OptionsValue, ReadingValue, Reads, Fails, said, script_of, number_of, with_tracker}
+use Rattle.mirror_run.specs.Script.{LineValue, TimeoutLine, CountsLine, StartLine, CommandLine, ScriptValue, OptionsValue, ReadingValue, Reads, Fails, said, script_of, number_of, with_tracker}
 
 module _ {Z : Type 0} where
   -- a line of the code as a value

@@ -1,6 +1,6 @@
 //! How many events went before a script's first command.
 ghost use Rattle.std.specs.Prelude.{◌≡◌};
-ghost use Rattle.mirror_run.specs.Script.Script.{no_counts, counts_of};
+ghost use Rattle.mirror_run.specs.Script.{no_counts, counts_of};
 
 use std::marker::Model;
 
@@ -13,7 +13,7 @@ pub struct Counts {
 
 impl Model for Counts {
     ghost use Rattle.std.specs.Prelude.{◌≤◌};
-    ghost use Rattle.mirror_run.specs.Script.Script.{CountsValue};
+    ghost use Rattle.mirror_run.specs.Script.{CountsValue};
 
     ghost Value = { CountsValue };
 

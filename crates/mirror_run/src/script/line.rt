@@ -3,7 +3,7 @@ ghost use Rattle.std.specs.Prelude.{◌≡◌, map, IfOk, IfErr, OnOk};
 ghost use Rattle.std.specs.List.{list_any};
 ghost use Rattle.notify_paths.specs.ErrorView.{kind_value};
 ghost use Rattle.debounce_model.specs.CommandView.{command_value};
-ghost use Rattle.mirror_run.specs.Script.Script.{number_of, moment_of, path_of, kind_of, error_kind_of, mode_of, no_options, with_info, with_rescan, with_exists, with_assignment, with_word, options_of, fields_of, timeout_line, counts_line, start_line, event_command, error_command, root_command, unroot_command, errors_command, tick_command, worded_command, worded_line, is_empty, line_of};
+ghost use Rattle.mirror_run.specs.Script.{number_of, moment_of, path_of, kind_of, error_kind_of, mode_of, no_options, with_info, with_rescan, with_exists, with_assignment, with_word, options_of, fields_of, timeout_line, counts_line, start_line, event_command, error_command, root_command, unroot_command, errors_command, tick_command, worded_command, worded_line, is_empty, line_of};
 ghost use Rattle.mirror_run.specs.Script.ScriptView.{line_value, options_value, texts, tracked};
 ghost use Rattle.mirror_run.specs.declared.script.line.LineFault.TheVariants.{Memory, NotCommand};
 

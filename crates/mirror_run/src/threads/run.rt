@@ -1,7 +1,7 @@
 //! The run of scripts in threads over readers and writers.
 ghost use Rattle.std.specs.Prelude.{◌≡◌, ◌⊎◌, true, false, map, IfErr, IfOk, OnOk};
 ghost use Rattle.std.specs.Io.KnownBytes.{Appends};
-ghost use Rattle.mirror_run.specs.Threads.Threads.{threads_lines, AreScripts, IsUnread, IsEarlyStatus, IsStop, IsThreadsStatus, IsThreadsStop, PrintsLines};
+ghost use Rattle.mirror_run.specs.Threads.{threads_lines, AreScripts, IsUnread, IsEarlyStatus, IsStop, IsThreadsStatus, IsThreadsStop, PrintsLines};
 
 use crate::script::Fault;
 use crate::threads::replay::is_same;

@@ -3,7 +3,7 @@ ghost use Rattle.std.specs.Prelude.{◌≡◌, ◌⊎◌, ◌≤◌, ◌<◌, �
 ghost use Rattle.std.specs.List.{count_by};
 ghost use Rattle.debounce_model.specs.CommandView.{command_value, command_values};
 ghost use Rattle.mirror_run.specs.Script.ScriptView.{script_value};
-ghost use Rattle.mirror_run.specs.Threads.Threads.{command_count, event_count, is_event, AreGiven, BeginsLine, HasCounts, HaveTimeout, IsEarlyStop, IsGiven, IsPlainFault, IsPlainStop};
+ghost use Rattle.mirror_run.specs.Threads.{command_count, event_count, is_event, AreGiven, BeginsLine, HasCounts, HaveTimeout, IsEarlyStop, IsGiven, IsPlainFault, IsPlainStop};
 
 use crate::script::{Fault, Script, read_script};
 use crate::threads::stop::Stop;

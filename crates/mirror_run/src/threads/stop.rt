@@ -1,6 +1,6 @@
 //! Why a run in threads can't begin, or can't go on.
 ghost use Rattle.std.specs.Prelude.{◌≡◌, ◌≢◌};
-ghost use Rattle.mirror_run.specs.Threads.Threads.{stop_status};
+ghost use Rattle.mirror_run.specs.Threads.{stop_status};
 
 use crate::script::Fault;
 use std::io::Write;

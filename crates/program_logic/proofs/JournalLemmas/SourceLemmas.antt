@@ -7,7 +7,7 @@ use Rattle.notify_types.specs.Kinds.{is_creation}
 use Rattle.notify_paths.specs.Path.{PathValue}
 use Rattle.debounce_model.proofs.Lists.{drop_at}
 use Rattle.debounce_model.specs.Play.{events_of}
-use Rattle.reader_paths.specs.Moves.Moves.{AreMovesOf, MovesValue, move_with, source_first, source_of}
+use Rattle.reader_paths.specs.Moves.{AreMovesOf, MovesValue, move_with, source_first, source_of}
 use Rattle.program_logic.specs.Journal.Json.{event_data, json_text}
 use Rattle.program_logic.specs.Journal.Lines.{AreReadBack, after, entries_of, entry_of, next_of, source_in, told_in}
 use Rattle.program_logic.specs.declared.journal.form.Form.{Form}

@@ -6,7 +6,7 @@ use Rattle.notify_paths.specs.Path.{PathValue, path_cmp, path_eq}
 use Rattle.notify_paths.specs.PathLaws.{path_eq_decides}
 use Rattle.notify_types.specs.Event.{EventValue, Timed}
 use Rattle.debounce_laws.proofs.PathSets.{tied}
-use Rattle.reader_paths.specs.Plan.Plan.{goes, is_named, look_at, stands}
+use Rattle.reader_paths.specs.Plan.{goes, is_named, look_at, stands}
 use Rattle.program_logic.specs.Words.Index.{IndexValue, StaysExact}
 use Rattle.program_logic.specs.Words.Kept.{BecomesExact, Readings, Takes, TakesAnew, anew}
 

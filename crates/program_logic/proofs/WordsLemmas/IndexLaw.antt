@@ -14,10 +14,10 @@ use Rattle.notify_types.specs.declared.kind.EventKind.{EventKind}
 use Rattle.debounce_model.proofs.Entries.{lookup-insert_other, lookup-insert_same}
 use Rattle.debounce_laws.proofs.PathSets.{tied}
 use Rattle.debounce_model.specs.Play.{Paths, has_path}
-use Rattle.reader_paths.specs.Plan.Plan.{Stands, gone_first, goes, goes_at, goes_first, is_named, look_at, stands, wanted}
+use Rattle.reader_paths.specs.Plan.{Stands, gone_first, goes, goes_at, goes_first, is_named, look_at, stands, wanted}
 use Rattle.reader_paths.proofs.PlanLemmas.PlanLaw.{gone_where_named, not_wanted_goes, unnamed_not_wanted}
 use Rattle.program_logic.specs.Words.Index.{Documents, IndexValue, IsExact, IsIndexAfter, StaysExact, Tells, put_if, put_wanted, read_at, without_document, without_gone, without_if}
-use Rattle.program_logic.specs.Words.Words.{WordsValue}
+use Rattle.program_logic.specs.Words.{WordsValue}
 
 -- ---- the index without what goes
 

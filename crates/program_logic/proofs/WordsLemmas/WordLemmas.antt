@@ -11,7 +11,7 @@ use Rattle.std.specs.Str.{bytes_eq}
 use Rattle.std.proofs.lemmas.Map.Text.{is_eq-slice_cmp}
 use Rattle.notify_paths.specs.Path.{PathValue}
 use Rattle.program_logic.specs.Words.Index.{IndexValue, documents_with}
-use Rattle.program_logic.specs.Words.Words.{WordsValue, has_word}
+use Rattle.program_logic.specs.Words.{WordsValue, has_word}
 
 -- a text is among texts if it is among their bytes
 pub any_by_bytes : {T : Type 0} (bytes : T → List ℕ) (word : List ℕ) (ts : List T) →

@@ -7,7 +7,7 @@ use Rattle.notify_types.specs.KindWords.{word_of}
 use Rattle.notify_paths.specs.Path.{PathValue}
 use Rattle.notify_paths.specs.PathText.{text_of}
 use Rattle.debounce_model.specs.Play.{events_of}
-use Rattle.reader_paths.specs.Moves.Moves.{MoveValue, move_of, paths_with, source_first}
+use Rattle.reader_paths.specs.Moves.{MoveValue, move_of, paths_with, source_first}
 use Rattle.program_frame.specs.Fields.{field_of}
 use Rattle.program_logic.specs.declared.journal.form.Form.{Form}
 use Rattle.program_logic.specs.declared.journal.form.Form.TheVariants.{Plain, Json, Zero}

@@ -4,7 +4,7 @@ use Rattle.notify_paths.specs.Path.{PathValue}
 use Rattle.notify_paths.specs.PathText.{text_of}
 use Rattle.program_frame.specs.Fields.{field_of}
 use Rattle.program_logic.specs.Words.Index.{IndexValue, documents_with}
-use Rattle.program_logic.specs.Words.Words.{folded}
+use Rattle.program_logic.specs.Words.{folded}
 
 -- each path as a field, and a line feed
 abbrev pub lines_of : List PathValue → List ℕ

@@ -2,8 +2,8 @@
 use Rattle.std.specs.Prelude.{◌≡◌, List, option_and_then}
 use Rattle.notify_paths.specs.Path.{PathValue}
 use Rattle.notify_types.specs.Event.{EventValue}
-use Rattle.reader_paths.specs.Moves.Moves.{AreMovesOf, AreSourcesOf, MovesValue}
-use Rattle.reader_paths.specs.Plan.Plan.{look_at}
+use Rattle.reader_paths.specs.Moves.{AreMovesOf, AreSourcesOf, MovesValue}
+use Rattle.reader_paths.specs.Plan.{look_at}
 use Rattle.program_logic.specs.Words.Index.{Documents, IndexValue}
 
 -- an index, and the old paths of what moved, each at its new path

@@ -5,8 +5,8 @@ use Rattle.std.specs.Option.{option_or}
 use Rattle.notify_paths.specs.Path.{PathValue, path_cmp, is_prefix}
 use Rattle.notify_types.specs.Event.{EventValue}
 use Rattle.debounce_model.specs.Play.{Paths, has_path}
-use Rattle.reader_paths.specs.Plan.Plan.{Stands, gone_first, goes, is_named, look_at, stands, wanted}
-use Rattle.program_logic.specs.Words.Words.{WordsValue, has_word}
+use Rattle.reader_paths.specs.Plan.{Stands, gone_first, goes, is_named, look_at, stands, wanted}
+use Rattle.program_logic.specs.Words.{WordsValue, has_word}
 
 -- the documents with their words, in the order of their paths
 abbrev pub IndexValue : Type 0

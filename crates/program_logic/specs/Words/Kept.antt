@@ -9,7 +9,7 @@ use Rattle.notify_watch.specs.Handler.{Outcome}
 use Rattle.debounce_model.specs.Play.{Paths, events_of}
 use Rattle.poll_listing.specs.Listing.{ListingValue}
 use Rattle.reader_paths.specs.Plan.Naming.{naming, namings}
-use Rattle.reader_paths.specs.Plan.Plan.{is_named, wanted}
+use Rattle.reader_paths.specs.Plan.{is_named, wanted}
 use Rattle.program_logic.specs.Words.Index.{Documents, IndexValue, IsExact, IsIndexAfter, StaysExact, read_at}
 
 -- what may be read at paths

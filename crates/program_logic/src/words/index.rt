@@ -5,7 +5,7 @@ ghost use Rattle.std.specs.List.Sorted.{IsStrictlySortedBy};
 ghost use Rattle.notify_paths.specs.Path.{is_prefix, path_cmp};
 ghost use Rattle.debounce_model.specs.Play.{events_of};
 ghost use Rattle.reader_paths.specs.Plan.Naming.{naming};
-ghost use Rattle.reader_paths.specs.Plan.Plan.{look_at, stands};
+ghost use Rattle.reader_paths.specs.Plan.{look_at, stands};
 ghost use Rattle.program_logic.specs.Words.Index.{IsIndexAfter, StaysExact, documents_with, put_if, put_wanted, without_gone, without_document};
 
 use crate::words::Words;

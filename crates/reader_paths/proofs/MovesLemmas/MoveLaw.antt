@@ -21,7 +21,7 @@ use Rattle.debounce_model.proofs.OrderUnique.{Has, same_from_within}
 use Rattle.debounce_laws.proofs.PathSets.{tied, tied_to_itself}
 use Rattle.debounce_laws.proofs.PlayAt.{creates_at, clears_at, play_here, sorted_play}
 use Rattle.debounce_laws.proofs.Settling.{here}
-use Rattle.reader_paths.specs.Moves.Moves.{AreMovesOf, LeavesPlayed, MoveValue, MovesValue, are_apart, has_tracker, is_new, is_old, move_of, move_with, path_with, paths_with, source_among, source_by}
+use Rattle.reader_paths.specs.Moves.{AreMovesOf, LeavesPlayed, MoveValue, MovesValue, are_apart, has_tracker, is_new, is_old, move_of, move_with, path_with, paths_with, source_among, source_by}
 use Rattle.reader_paths.proofs.MovesLemmas.ToldLemmas.{gone_after}
 
 -- ---- what the events decide

@@ -9,7 +9,7 @@ use Rattle.notify_paths.specs.PathLaws.{path_matches_eq}
 use Rattle.notify_types.specs.Event.{EventValue, Timed}
 use Rattle.debounce_model.specs.Kept.{has_first}
 use Rattle.debounce_model.specs.Play.{events_of}
-use Rattle.reader_paths.specs.Moves.Moves.{MovesValue, source_among, source_by, source_of}
+use Rattle.reader_paths.specs.Moves.{MovesValue, source_among, source_by, source_of}
 use Rattle.reader_paths.specs.Moves.Told.{AddsSource}
 
 -- the source of an event, put in at its path

@@ -15,7 +15,7 @@ use Rattle.debounce_model.proofs.Entries.{lookup-insert_same, lookup-insert_othe
 use Rattle.notify_paths.specs.Path.{PathValue, is_prefix}
 use Rattle.notify_types.specs.Event.{EventValue}
 use Rattle.notify_types.specs.Kinds.{is_creation, is_removal}
-use Rattle.reader_paths.specs.Moves.Moves.{AreMovesOf, MoveValue, MovesValue, move_of, move_with, path_with, paths_with}
+use Rattle.reader_paths.specs.Moves.{AreMovesOf, MoveValue, MovesValue, move_of, move_with, path_with, paths_with}
 use Rattle.reader_paths.specs.Moves.Told.{IsTold, ToldValue, kept_from, kept_with, move_told, told_by, told_created, told_from, told_move, told_nothing, told_removed, told_with, with_created, with_removed}
 
 -- ---- one path more

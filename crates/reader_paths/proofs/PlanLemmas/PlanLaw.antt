@@ -19,7 +19,7 @@ use Rattle.debounce_laws.proofs.Folders.{closed_under}
 use Rattle.debounce_laws.proofs.PlayAt.{creates_at, clears_at, play_here, sorted_play}
 use Rattle.debounce_laws.proofs.Settling.{here}
 use Rattle.reader_paths.specs.Plan.Action.{ActionValue, carried_at, carried}
-use Rattle.reader_paths.specs.Plan.Plan.{Look, Stands, stands, goes_at, removal_of, copy_if, removals_first, removals, wanted_first, wanted_from, wanted, copies, planned, goes_first, goes, is_named, is_covered, AgreesWith, ActsAsPlayed, LeavesWhatStands, KeepsOthers}
+use Rattle.reader_paths.specs.Plan.{Look, Stands, stands, goes_at, removal_of, copy_if, removals_first, removals, wanted_first, wanted_from, wanted, copies, planned, goes_first, goes, is_named, is_covered, AgreesWith, ActsAsPlayed, LeavesWhatStands, KeepsOthers}
 use Rattle.reader_paths.specs.declared.plan.action.Standing.{Standing}
 
 -- ---- actions, one after the other

@@ -8,7 +8,7 @@ use Rattle.notify_paths.specs.Path.{PathValue, path_cmp, is_prefix}
 use Rattle.notify_types.specs.Event.{EventValue}
 use Rattle.notify_types.specs.Kinds.{is_creation, is_removal}
 use Rattle.notify_types.specs.declared.kind.EventKind.{EventKind}
-use Rattle.reader_paths.specs.Moves.Moves.{MoveValue, MovesValue, path_with, are_apart, source_by}
+use Rattle.reader_paths.specs.Moves.{MoveValue, MovesValue, path_with, are_apart, source_by}
 
 -- the first paths that were removed and created with a tracker, and whether these can be a move
 pub record ToldValue : Type 0 where

@@ -2,7 +2,7 @@
 ghost use Rattle.std.specs.Prelude.{◌≡◌, IfOk, IfErr, OnOk};
 ghost use Rattle.notify_paths.specs.Errors.{out_of_memory};
 ghost use Rattle.debounce_model.specs.Play.{events_of};
-ghost use Rattle.reader_paths.specs.Moves.Moves.{AreSourcesOf};
+ghost use Rattle.reader_paths.specs.Moves.{AreSourcesOf};
 ghost use Rattle.reader_paths.specs.Moves.Told.{AddsSource};
 
 use crate::moves::Moves;

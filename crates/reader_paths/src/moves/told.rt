@@ -2,7 +2,7 @@
 ghost use Rattle.std.specs.Prelude.{◌≡◌, ◌&&◌, not, IfOk, OnOk};
 ghost use Rattle.debounce_model.specs.Play.{events_of};
 ghost use Rattle.notify_paths.specs.Path.{is_prefix};
-ghost use Rattle.reader_paths.specs.Moves.Moves.{are_apart};
+ghost use Rattle.reader_paths.specs.Moves.{are_apart};
 ghost use Rattle.reader_paths.specs.Moves.Told.{IsTold, NotesEvent, told_created, told_move, told_nothing, told_of, told_removed};
 
 use crate::moves::Move;

@@ -3,7 +3,7 @@ ghost use Rattle.std.specs.Prelude.{◌≡◌, ◌++◌, IfOk, OnOk};
 ghost use Rattle.std.specs.Map.{keys_of};
 ghost use Rattle.std.specs.Option.{option_copied};
 ghost use Rattle.debounce_model.specs.Play.{events_of};
-ghost use Rattle.reader_paths.specs.Plan.Plan.{KeepsOthers, ActsAsPlayed, LeavesWhatStands, copies, copy_if, gone_first, look_at, planned, removals, removals_first, stands};
+ghost use Rattle.reader_paths.specs.Plan.{KeepsOthers, ActsAsPlayed, LeavesWhatStands, copies, copy_if, gone_first, look_at, planned, removals, removals_first, stands};
 
 use crate::plan::action::{Action, Standing};
 use crate::plan::wanting::wanted;

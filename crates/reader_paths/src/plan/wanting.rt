@@ -2,7 +2,7 @@
 ghost use Rattle.std.specs.Prelude.{◌≡◌, IfOk, OnOk};
 ghost use Rattle.std.specs.Map.{keys_of};
 ghost use Rattle.debounce_model.specs.Play.{events_of, with_path, without_at};
-ghost use Rattle.reader_paths.specs.Plan.Plan.{wanted, wanted_first};
+ghost use Rattle.reader_paths.specs.Plan.{wanted, wanted_first};
 
 use notify_paths::{PathBuf, drop_at_or_below};
 use notify_types::DebouncedEvent;

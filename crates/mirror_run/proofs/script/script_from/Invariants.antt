@@ -1,6 +1,6 @@
 use Rattle.std.proofs.Common.{◌≡◌, ◌≤◌, ◌+◌, length}
 use Rattle.std.specs.Str.Lines.{lines}
-use Rattle.mirror_run.specs.Script.Script.{read_on, script_of}
+use Rattle.mirror_run.specs.Script.{read_on, script_of}
 use Rattle.mirror_run.specs.Script.ScriptView.{reading_value}
 use Rattle.mirror_run.proofs.script.script_from.Given as goal
 

@@ -1,7 +1,7 @@
 use Rattle.std.proofs.Common.{◌≡◌}
 use Rattle.unicode_segmentation.specs.Iter.{unicode_words_left}
 use Rattle.unicode_segmentation.specs.Word.{words}
-use Rattle.program_logic.specs.Words.Words.{no_words, with_folded}
+use Rattle.program_logic.specs.Words.{no_words, with_folded}
 use Rattle.program_logic.proofs.words.words_of.Given as goal
 
 -- the words so far, with those that are left, are the text's

@@ -1,7 +1,7 @@
 use Rattle.std.proofs.Common.{◌≡◌, [], subst, sym}
 use Rattle.std.proofs.lemmas.Result.{IfOk-weaker}
 use Rattle.debounce_model.specs.Play.{events_of}
-use Rattle.reader_paths.specs.Moves.Moves.{AreMovesOf, LeavesPlayed}
+use Rattle.reader_paths.specs.Moves.{AreMovesOf, LeavesPlayed}
 use Rattle.reader_paths.specs.Moves.Told.{kept_from}
 use Rattle.reader_paths.proofs.MovesLemmas.MoveLaw.{leaves_played}
 use Rattle.reader_paths.proofs.MovesLemmas.ToldLemmas.{are_moves, sorted_moves}

@@ -1,6 +1,6 @@
 use Rattle.std.proofs.Common.{◌∙◌, sym, ap}
 use Rattle.std.proofs.lemmas.Str.{is_utf8-from_IsUtf8}
-use Rattle.mirror_run.specs.Script.Script.{line_of}
+use Rattle.mirror_run.specs.Script.{line_of}
 use Rattle.mirror_run.specs.Script.ScriptView.{reading_value}
 use Rattle.mirror_run.proofs.ScriptLemmas.Lines.{after_line-fault, after_line-skipped, after_line-said}
 use Rattle.mirror_run.proofs.script.Reading.take_bytes.Goals as goal

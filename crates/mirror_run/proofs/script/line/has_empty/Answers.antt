@@ -3,7 +3,7 @@ use Rattle.std.specs.Prelude.{◌||◌}
 use Rattle.std.specs.List.{list_any}
 use Rattle.std.proofs.lemmas.Iterator.{YieldsList-from_slice}
 use Rattle.std.proofs.lemmas.Iterator.Search.{any_from_yields_List}
-use Rattle.mirror_run.specs.Script.Script.{is_empty}
+use Rattle.mirror_run.specs.Script.{is_empty}
 use Rattle.mirror_run.proofs.script.line.has_empty.Goals as goal
 
 -- a test of some image

@@ -6,7 +6,7 @@ use Rattle.std.proofs.lemmas.Bool.{cond-false}
 use Rattle.std.proofs.lemmas.Iterator.Consumers.{YieldsList-at, YieldsList-turn, YieldsList-end}
 use Rattle.std.proofs.lemmas.Iterator.Splits.{YieldsList-from_str_split}
 use Rattle.std.proofs.lemmas.List.{at_drop_more, at_drop_all, length_push}
-use Rattle.mirror_run.specs.Script.Script.{OptionsValue, no_options, with_word, with_words, words_of, options_of}
+use Rattle.mirror_run.specs.Script.{OptionsValue, no_options, with_word, with_words, words_of, options_of}
 use Rattle.mirror_run.specs.Script.ScriptView.{options_value}
 use Rattle.mirror_run.specs.declared.script.line.LineFault.TheVariants.{NotCommand}
 use Rattle.mirror_run.proofs.script.line.read_options.Goals as goal

@@ -1,5 +1,5 @@
 use Rattle.std.proofs.Common.{◌≡◌, length, drop}
-use Rattle.mirror_run.specs.Script.Script.{with_words, words_of, no_options}
+use Rattle.mirror_run.specs.Script.{with_words, words_of, no_options}
 use Rattle.mirror_run.specs.Script.ScriptView.{options_value}
 use Rattle.mirror_run.proofs.script.line.read_options.Given as goal
 

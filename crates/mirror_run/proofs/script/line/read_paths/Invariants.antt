@@ -1,5 +1,5 @@
 use Rattle.std.proofs.Common.{◌≡◌, map, take}
-use Rattle.mirror_run.specs.Script.Script.{path_of}
+use Rattle.mirror_run.specs.Script.{path_of}
 use Rattle.mirror_run.proofs.script.line.read_paths.Given as goal
 
 -- the paths so far are those of the first fields

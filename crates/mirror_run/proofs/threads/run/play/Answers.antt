@@ -3,7 +3,7 @@ use Rattle.std.proofs.Common.{◌≡◌, ◌∙◌, ℕ, List, ap, inl, inr, map
 use Rattle.std.proofs.lemmas.Result.{err_from_is_err_and}
 use Rattle.std.specs.Io.KnownBytes.{Appends}
 use Rattle.mirror_run.specs.Script.ScriptView.{script_value}
-use Rattle.mirror_run.specs.Threads.Threads.{command_count, event_count, threads_lines, AreRead, HaveTimeout}
+use Rattle.mirror_run.specs.Threads.{command_count, event_count, threads_lines, AreRead, HaveTimeout}
 use Rattle.mirror_run.proofs.threads.run.play.Goals as goal
 
 pub returns-in_err-timeout-clause-err : goal.returns-in_err-timeout-clause-err

@@ -3,7 +3,7 @@ use Rattle.std.proofs.Common.{◌≡◌, ◌∙◌, ℕ, nat_eq, List, false, ap
 use Rattle.std.proofs.lemmas.List.{take_rest}
 use Rattle.std.specs.List.{starts_with}
 use borrow.Author.Count.{below_more}
-use Rattle.mirror_run.specs.Threads.Threads.{BeginsLine}
+use Rattle.mirror_run.specs.Threads.{BeginsLine}
 use Rattle.mirror_run.proofs.threads.scripts.counts_line.Goals as goal
 
 pub loop-at-preserved : goal.loop-at-preserved

@@ -4,9 +4,9 @@ use Rattle.std.proofs.lemmas.List.{length-map}
 use Rattle.std.proofs.lemmas.List.Sums.{count_by-le-length}
 use Rattle.std.specs.List.{count_by}
 use Rattle.debounce_model.specs.CommandView.{command_value, command_values}
-use Rattle.mirror_run.specs.Script.Script.{ScriptValue}
+use Rattle.mirror_run.specs.Script.{ScriptValue}
 use Rattle.mirror_run.specs.Script.ScriptView.{script_value}
-use Rattle.mirror_run.specs.Threads.Threads.{command_count, event_count, is_event}
+use Rattle.mirror_run.specs.Threads.{command_count, event_count, is_event}
 use Rattle.mirror_run.proofs.ThreadsLemmas.GivenLemmas.{sum-more}
 use Rattle.mirror_run.proofs.threads.scripts.counts_of.Goals as goal
 

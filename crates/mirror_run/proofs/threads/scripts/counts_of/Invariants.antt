@@ -1,7 +1,7 @@
 -- The commands so far are counted, and the events among them.
 use Rattle.std.proofs.Common.{◌≡◌, ◌≤◌, ◌*◌, map, take}
 use Rattle.mirror_run.specs.Script.ScriptView.{script_value}
-use Rattle.mirror_run.specs.Threads.Threads.{command_count, event_count}
+use Rattle.mirror_run.specs.Threads.{command_count, event_count}
 use Rattle.mirror_run.proofs.threads.scripts.counts_of.Given as goal
 
 abbrev pub invariant-loop-number : goal.invariant-loop-number

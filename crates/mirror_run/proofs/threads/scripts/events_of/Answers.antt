@@ -1,7 +1,7 @@
 -- One command more, which is an event or not.
 use Rattle.std.proofs.Common.{◌∙◌, ℕ, ◌+◌, ap, arith, sym}
 use Rattle.debounce_model.specs.CommandView.{command_value}
-use Rattle.mirror_run.specs.Threads.Threads.{is_event}
+use Rattle.mirror_run.specs.Threads.{is_event}
 use Rattle.mirror_run.proofs.ThreadsLemmas.GivenLemmas.{count-yes, count-no}
 use Rattle.mirror_run.proofs.threads.scripts.events_of.Goals as goal
 

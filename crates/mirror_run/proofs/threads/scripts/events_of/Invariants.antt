@@ -2,7 +2,7 @@
 use Rattle.std.proofs.Common.{◌≡◌, ◌≤◌, map, take}
 use Rattle.std.specs.List.{count_by}
 use Rattle.debounce_model.specs.CommandView.{command_value}
-use Rattle.mirror_run.specs.Threads.Threads.{is_event}
+use Rattle.mirror_run.specs.Threads.{is_event}
 use Rattle.mirror_run.proofs.threads.scripts.events_of.Given as goal
 
 abbrev pub invariant-loop-number : goal.invariant-loop-number

@@ -3,7 +3,7 @@ use Rattle.std.proofs.Common.{◌≡◌, ◌∙◌, ◌<◌, arith, length, subs
 use Rattle.std.proofs.lemmas.List.{length-set}
 use Rattle.std.proofs.lemmas.Result.{err_from_is_err_and}
 use Rattle.mirror_run.specs.Script.ScriptView.{script_value}
-use Rattle.mirror_run.specs.Threads.Threads.{IsGiven, IsPlainStop}
+use Rattle.mirror_run.specs.Threads.{IsGiven, IsPlainStop}
 use Rattle.mirror_run.proofs.ThreadsLemmas.GivenLemmas.{given_more, next_same, one_stops, rest_same}
 use Rattle.mirror_run.proofs.threads.scripts.read_scripts.Goals as goal
 

@@ -1,7 +1,7 @@
 -- The readers so far gave the scripts, and the others are as they were.
 use Rattle.std.proofs.Common.{◌≡◌, drop, length, map, take}
 use Rattle.mirror_run.specs.Script.ScriptView.{script_value}
-use Rattle.mirror_run.specs.Threads.Threads.{AreGiven}
+use Rattle.mirror_run.specs.Threads.{AreGiven}
 use Rattle.mirror_run.proofs.threads.scripts.read_scripts.Given as goal
 
 abbrev pub invariant-loop-number : goal.invariant-loop-number

@@ -2,7 +2,7 @@
 use Rattle.std.proofs.Common.{◌≡◌, ◌∙◌, ℕ, ap, arith, get_or, map, sym, take}
 use Rattle.std.proofs.lemmas.List.{take_all}
 use Rattle.std.proofs.lemmas.List.Elements.{All-same}
-use Rattle.mirror_run.specs.Script.Script.{ScriptValue}
+use Rattle.mirror_run.specs.Script.{ScriptValue}
 use Rattle.mirror_run.specs.Script.ScriptView.{script_value}
 use Rattle.mirror_run.proofs.ThreadsLemmas.GivenLemmas.{all-more, value_has}
 use Rattle.mirror_run.proofs.threads.scripts.timeout_of.Goals as goal

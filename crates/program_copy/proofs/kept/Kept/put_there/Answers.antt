@@ -1,5 +1,5 @@
 use Rattle.std.proofs.Common.{◌∙◌, ap}
-use Rattle.reader_paths.specs.Plan.Plan.{look_at}
+use Rattle.reader_paths.specs.Plan.{look_at}
 use Rattle.program_copy.proofs.KeptLemmas.{and_so}
 use Rattle.program_copy.proofs.LookLemmas.{look_at-put_here}
 use Rattle.program_copy.proofs.kept.Kept.put_there.Goals as goal

@@ -1,7 +1,7 @@
 use Rattle.std.proofs.Common.{◌≡◌, ◌∙◌, inl, inr, subst, true}
 use Rattle.std.specs.Prelude.{◌⊎◌, IfSome, slice_get}
 use Rattle.notify_paths.specs.Path.{PathValue}
-use Rattle.reader_paths.specs.Plan.Plan.{look_at}
+use Rattle.reader_paths.specs.Plan.{look_at}
 use Rattle.program_copy.specs.After.{waits}
 use Rattle.program_copy.proofs.NamedLemmas.{left_next, of_first, or_grows}
 use Rattle.program_copy.proofs.mirror.Mirror.keep_unlike.Goals as goal

@@ -1,7 +1,7 @@
 use Rattle.std.proofs.Common.{◌≡◌, drop, true}
 use Rattle.std.specs.Prelude.{◌⊎◌}
 use Rattle.debounce_model.specs.Play.{events_of}
-use Rattle.reader_paths.specs.Plan.Plan.{look_at}
+use Rattle.reader_paths.specs.Plan.{look_at}
 use Rattle.program_copy.specs.After.{waits}
 use Rattle.program_copy.proofs.NamedLemmas.{LeftToDo}
 use Rattle.program_copy.proofs.mirror.Mirror.keep_unlike.Given as goal

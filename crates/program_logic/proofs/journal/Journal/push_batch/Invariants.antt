@@ -1,5 +1,5 @@
 use Rattle.std.proofs.Common.{◌≡◌, ◌++◌, drop, option_map}
-use Rattle.reader_paths.specs.Moves.Moves.{source_of}
+use Rattle.reader_paths.specs.Moves.{source_of}
 use Rattle.program_logic.specs.Journal.Lines.{AreReadBack, entries_of, after}
 use Rattle.program_logic.specs.declared.journal.form.Form.TheVariants.{Json}
 use Rattle.program_logic.proofs.journal.Journal.push_batch.Given as goal

@@ -1,6 +1,6 @@
 use Rattle.std.proofs.Common.{◌∙◌, ap}
 use Rattle.std.specs.String.{string_bytes}
-use Rattle.program_logic.specs.Words.Words.{has_word}
+use Rattle.program_logic.specs.Words.{has_word}
 use Rattle.program_logic.proofs.WordsLemmas.WordLemmas.{any_by_bytes}
 use Rattle.program_logic.proofs.words.Words.has.Goals as goal
 

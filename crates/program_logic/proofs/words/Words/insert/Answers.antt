@@ -1,6 +1,6 @@
 use Rattle.std.proofs.Common.{◌∙◌, ap, map}
 use Rattle.std.specs.String.{string_bytes}
-use Rattle.program_logic.specs.Words.Words.{with_word}
+use Rattle.program_logic.specs.Words.{with_word}
 use Rattle.program_logic.proofs.WordsLemmas.WordLemmas.{bytes_of-insert_key}
 use Rattle.program_logic.proofs.words.Words.insert.Goals as goal
 

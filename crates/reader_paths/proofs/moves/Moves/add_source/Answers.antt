@@ -3,7 +3,7 @@ use Rattle.std.specs.Prelude.{slice_get}
 use Rattle.std.specs.BTreeMap.{is_at}
 use Rattle.std.specs.Map.{lookup}
 use Rattle.notify_paths.specs.Path.{path_cmp}
-use Rattle.reader_paths.specs.Moves.Moves.{source_of}
+use Rattle.reader_paths.specs.Moves.{source_of}
 use Rattle.reader_paths.proofs.MovesLemmas.SourceLemmas.{added}
 use Rattle.reader_paths.proofs.moves.Moves.add_source.Goals as goal
 

@@ -2,7 +2,7 @@ use Rattle.std.specs.BTreeMap.{is_at}
 use Rattle.std.specs.Map.{lookup}
 use Rattle.debounce_model.specs.Play.{events_of}
 use Rattle.notify_paths.specs.Path.{path_cmp}
-use Rattle.reader_paths.specs.Moves.Moves.{source_among}
+use Rattle.reader_paths.specs.Moves.{source_among}
 use Rattle.reader_paths.proofs.MovesLemmas.SourceLemmas.{next_source}
 use Rattle.reader_paths.proofs.moves.Moves.find_sources.Goals as goal
 

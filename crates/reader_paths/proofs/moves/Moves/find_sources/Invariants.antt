@@ -4,7 +4,7 @@ use Rattle.std.specs.Map.{lookup}
 use Rattle.std.specs.Option.{option_or}
 use Rattle.notify_paths.specs.Path.{PathValue, path_cmp}
 use Rattle.debounce_model.specs.Play.{events_of}
-use Rattle.reader_paths.specs.Moves.Moves.{source_among}
+use Rattle.reader_paths.specs.Moves.{source_among}
 use Rattle.reader_paths.proofs.moves.Moves.find_sources.Given as goal
 
 -- what the events that are left tell, and else the sources so far, are all

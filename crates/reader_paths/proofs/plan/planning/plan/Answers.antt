@@ -1,7 +1,7 @@
 use Rattle.std.proofs.Common.{◌∙◌, ◌++◌, ap, subst, sym}
 use Rattle.std.specs.Map.{keys_of}
 use Rattle.debounce_model.specs.Play.{events_of}
-use Rattle.reader_paths.specs.Plan.Plan.{KeepsOthers, ActsAsPlayed, LeavesWhatStands, copies, look_at, removals, wanted}
+use Rattle.reader_paths.specs.Plan.{KeepsOthers, ActsAsPlayed, LeavesWhatStands, copies, look_at, removals, wanted}
 use Rattle.reader_paths.proofs.PlanLemmas.PlanLaw.{keeps_others, leaves_played, leaves_what_stands}
 use Rattle.reader_paths.proofs.plan.planning.plan.Goals as goal
 

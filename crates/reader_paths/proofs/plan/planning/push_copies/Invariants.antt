@@ -1,6 +1,6 @@
 use Rattle.std.proofs.Common.{◌≡◌, ◌++◌}
 use Rattle.std.specs.Map.{keys_of}
-use Rattle.reader_paths.specs.Plan.Plan.{look_at, copies}
+use Rattle.reader_paths.specs.Plan.{look_at, copies}
 use Rattle.reader_paths.proofs.plan.planning.push_copies.Given as goal
 
 -- the actions so far, and the copies of what stands at the paths that are left, are all

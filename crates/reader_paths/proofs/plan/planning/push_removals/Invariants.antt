@@ -1,6 +1,6 @@
 use Rattle.std.proofs.Common.{◌≡◌, ◌++◌, drop}
 use Rattle.debounce_model.specs.Play.{events_of}
-use Rattle.reader_paths.specs.Plan.Plan.{look_at, removals}
+use Rattle.reader_paths.specs.Plan.{look_at, removals}
 use Rattle.reader_paths.proofs.plan.planning.push_removals.Given as goal
 
 -- the actions so far, and what the events that are left ask for, are all

@@ -1,7 +1,7 @@
 use Rattle.std.proofs.Common.{◌≡◌, drop}
 use Rattle.std.specs.Map.{keys_of}
 use Rattle.debounce_model.specs.Play.{events_of}
-use Rattle.reader_paths.specs.Plan.Plan.{wanted_from, wanted}
+use Rattle.reader_paths.specs.Plan.{wanted_from, wanted}
 use Rattle.reader_paths.proofs.plan.wanting.wanted.Given as goal
 
 -- what the events that are left make of the paths so far is what all want

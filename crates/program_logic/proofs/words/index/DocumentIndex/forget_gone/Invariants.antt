@@ -1,6 +1,6 @@
 use Rattle.std.proofs.Common.{◌≡◌, drop}
 use Rattle.debounce_model.specs.Play.{events_of}
-use Rattle.reader_paths.specs.Plan.Plan.{look_at, stands}
+use Rattle.reader_paths.specs.Plan.{look_at, stands}
 use Rattle.program_logic.specs.Words.Index.{without_gone}
 use Rattle.program_logic.proofs.words.index.DocumentIndex.forget_gone.Given as goal
 

@@ -2,7 +2,7 @@ use Rattle.std.proofs.Common.{◌∙◌, ap, subst, sym}
 use Rattle.std.proofs.lemmas.Result.{on_ok_weaker}
 use Rattle.std.specs.Map.{keys_of}
 use Rattle.debounce_model.specs.Play.{events_of}
-use Rattle.reader_paths.specs.Plan.Plan.{look_at, stands}
+use Rattle.reader_paths.specs.Plan.{look_at, stands}
 use Rattle.program_logic.specs.Words.Index.{IsIndexAfter, put_wanted, without_gone}
 use Rattle.program_logic.proofs.WordsLemmas.IndexLaw.{index_after, stays_exact}
 use Rattle.program_logic.proofs.words.index.DocumentIndex.take_batch.Goals as goal
