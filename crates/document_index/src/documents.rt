@@ -1,7 +1,8 @@
 //! Documents, read from files.
-ghost use Rattle.std.specs.Prelude.{◌≡◌, IfOk, OnOk};
+ghost use Rattle.std.specs.Prelude.{◌≡◌, IfErr, IfOk, OnOk};
 ghost use Rattle.std.specs.Map.{keys_of};
 ghost use Rattle.poll_listing.specs.Listing.{ListingValue};
+ghost use Rattle.program_frame.specs.declared.fault.Fault.TheVariants.{Memory};
 ghost use Rattle.reader_paths.specs.Plan.Naming.{namings};
 ghost use Rattle.document_index.specs.Read.{IsReadAmong, PutsAt};
 
@@ -55,6 +56,7 @@ impl<R: Files + Clock + AllocGlobal + Copy + Drop> Documents<R> {
     ) -> Result<BTreeMap<PathBuf, Words>, Fault>
         ensures among { IfOk result (λ read.
             IsReadAmong (keys_of paths.now.entries) read.entries) }
+        ensures err { IfErr result (λ e. e ≡ Memory) }
     {
         let mut read = BTreeMap::new(self.rt.alloc());
         for path in paths.keys() {
@@ -71,6 +73,7 @@ impl<R: Files + Clock + AllocGlobal + Copy + Drop> Documents<R> {
         before: &Before<'_>,
     ) -> Result<(), Fault>
         ensures put { OnOk result (PutsAt path.now read.old.entries read.new.entries) }
+        ensures err { IfErr result (λ e. e ≡ Memory) }
     {
         let key = path.clone()?;
         if let Some(words) = self.words_at(path, before)? {
@@ -80,7 +83,9 @@ impl<R: Files + Clock + AllocGlobal + Copy + Drop> Documents<R> {
     }
 
     /// What is looked at, with modified times and numbers. A link is followed at the folder itself, and nowhere else.
-    fn folders(&self) -> Result<RealFolders<R>, Fault> {
+    fn folders(&self) -> Result<RealFolders<R>, Fault>
+        ensures { IfErr result (λ e. e ≡ Memory) }
+    {
         let alloc = self.rt.alloc();
         let mut folders = RealFolders::with_modified_times(self.rt, alloc);
         folders.tell_numbers();
@@ -91,7 +96,9 @@ impl<R: Files + Clock + AllocGlobal + Copy + Drop> Documents<R> {
     }
 
     /// The words of what stands at the path, if something does that can be read. Links aren't followed.
-    fn words_at(&self, path: &PathBuf, before: &Before<'_>) -> Result<Option<Words>, Fault> {
+    fn words_at(&self, path: &PathBuf, before: &Before<'_>) -> Result<Option<Words>, Fault>
+        ensures { IfErr result (λ e. e ≡ Memory) }
+    {
         let mut folders = self.folders()?;
         match folders.look(path) {
             Ok(Some(found)) if found.kind.is_file() => {
@@ -109,7 +116,9 @@ impl<R: Files + Clock + AllocGlobal + Copy + Drop> Documents<R> {
         path: &PathBuf,
         found: Found,
         before: &Before<'_>,
-    ) -> Result<Option<Words>, Fault> {
+    ) -> Result<Option<Words>, Fault>
+        ensures { IfErr result (λ e. e ≡ Memory) }
+    {
         match before.words(path) {
             Some(words) if words.is_of(found) => Ok(Some(words.try_clone()?)),
             _ => self.words_read(folders, path, found),
@@ -122,7 +131,9 @@ impl<R: Files + Clock + AllocGlobal + Copy + Drop> Documents<R> {
         folders: &mut RealFolders<R>,
         path: &PathBuf,
         found: Found,
-    ) -> Result<Option<Words>, Fault> {
+    ) -> Result<Option<Words>, Fault>
+        ensures { IfErr result (λ e. e ≡ Memory) }
+    {
         let Some(words) = self.words_in(path)? else {
             return Ok(None);
         };
@@ -134,7 +145,9 @@ impl<R: Files + Clock + AllocGlobal + Copy + Drop> Documents<R> {
     }
 
     /// The words of the file, if it can be read. One that is no text has none.
-    fn words_in(&self, path: &PathBuf) -> Result<Option<Words>, Fault> {
+    fn words_in(&self, path: &PathBuf) -> Result<Option<Words>, Fault>
+        ensures { IfErr result (λ e. e ≡ Memory) }
+    {
         let alloc = self.rt.alloc();
         match fs::read_to_string(&self.rt, path.as_str()) {
             Ok(text) => Ok(Some(words_of(alloc, text.as_str())?)),

@@ -1,4 +1,7 @@
 //! Moves that a batch tells: a journal says from where, and an index has the words of what moved.
+ghost use Rattle.std.specs.Prelude.{◌≡◌, IfErr};
+ghost use Rattle.program_frame.specs.declared.fault.Fault.TheVariants.{Memory};
+
 use notify_paths::PathBuf;
 use notify_types::{DebouncedEvent, Event, EventKind};
 use poll_listing::{EntryKind, FileNumber, Found};
@@ -120,7 +123,9 @@ impl ReadsDocuments for Elm {
 
 impl Elm {
     /// The words of the document, read at its old path, and else those of before.
-    fn words_at(&self, path: &PathBuf, before: &Before<'_>) -> Result<Option<Words>, Fault> {
+    fn words_at(&self, path: &PathBuf, before: &Before<'_>) -> Result<Option<Words>, Fault>
+        ensures { IfErr result (λ e. e ≡ Memory) }
+    {
         let file = found(4, Some(9));
         if path.as_str() == "/w/lib/a" {
             return Ok(Some(words_of(self.alloc, "elm")?.of(file)));

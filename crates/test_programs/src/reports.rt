@@ -1,5 +1,8 @@
 //! Reports that the watcher that polls never makes by itself: a loss, and a request to read all anew. What each program
 //! makes of them, as its page says.
+ghost use Rattle.std.specs.Prelude.{◌≡◌, IfErr};
+ghost use Rattle.program_frame.specs.declared.fault.Fault.TheVariants.{Memory};
+
 use notify_paths::PathBuf;
 use notify_types::{DebouncedEvent, Event, EventKind, Flag};
 use notify_watch::DebounceEventResult;
@@ -249,7 +252,9 @@ impl ReadsDocuments for Texts {
 }
 
 /// The path of this text.
-fn path_of(alloc: Global, text: &str) -> Result<PathBuf, Fault> {
+fn path_of(alloc: Global, text: &str) -> Result<PathBuf, Fault>
+    ensures { IfErr result (λ e. e ≡ Memory) }
+{
     match PathBuf::parse(alloc, text) {
         Ok(path) => Ok(path),
         Err(_) => Err(Fault::Memory),

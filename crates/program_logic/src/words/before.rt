@@ -1,6 +1,7 @@
 //! What an index has of what moved.
-ghost use Rattle.std.specs.Prelude.{◌≡◌, IfOk, option_map};
+ghost use Rattle.std.specs.Prelude.{◌≡◌, IfErr, IfOk, option_map};
 ghost use Rattle.debounce_model.specs.Play.{events_of};
+ghost use Rattle.program_frame.specs.declared.fault.Fault.TheVariants.{Memory};
 ghost use Rattle.program_logic.specs.Words.Before.{IsBefore, words_before};
 
 use crate::words::Words;
@@ -36,7 +37,8 @@ impl<'i> Before<'i> {
         index: &'i DocumentIndex,
         batch: &[DebouncedEvent],
     ) -> Result<Before<'i>, Fault>
-        ensures { IfOk result (λ before. IsBefore index.now (events_of batch.now) before) }
+        ensures ok { IfOk result (λ before. IsBefore index.now (events_of batch.now) before) }
+        ensures err { IfErr result (λ e. e ≡ Memory) }
     {
         let Ok(moves) = Moves::of(alloc, batch) else {
             return Err(Fault::Memory);

@@ -1,7 +1,8 @@
 //! An index that follows what is reported.
-ghost use Rattle.std.specs.Prelude.{◌≡◌, [], IfOk, OnOk};
+ghost use Rattle.std.specs.Prelude.{◌≡◌, [], IfErr, IfOk, OnOk};
 ghost use Rattle.std.specs.Map.{keys_of};
 ghost use Rattle.debounce_model.specs.Play.{events_of};
+ghost use Rattle.program_frame.specs.declared.fault.Fault.TheVariants.{Memory};
 ghost use Rattle.program_logic.specs.Words.Kept.{ReadsAgain, Takes, TakesAnew, anew, asks_anew};
 
 use crate::words::Words;
@@ -36,7 +37,8 @@ pub trait ReadsDocuments {
         paths: &BTreeMap<PathBuf, ()>,
         before: &Before<'_>,
     ) -> Result<BTreeMap<PathBuf, Words>, Fault>
-        ensures { IfOk result (λ read. reads self.now (keys_of paths.now.entries) read.entries) };
+        ensures ok { IfOk result (λ read. reads self.now (keys_of paths.now.entries) read.entries) }
+        ensures err { IfErr result (λ e. e ≡ Memory) };
 
     /// Whether the path, at which nothing was read, is to be read later: nothing stands there, or what does can't
     /// be read now.
@@ -73,6 +75,7 @@ impl KeptIndex {
     ) -> Result<(), Fault>
         ensures taken { OnOk result (Takes (D.reads documents.now) (events_of batch.now)
             self.old.index self.new.index) }
+        ensures err { IfErr result (λ e. e ≡ Memory) }
     {
         let paths = wanted(self.alloc, batch)?;
         let read = self.read(documents, batch, &paths)?;
@@ -92,8 +95,9 @@ impl KeptIndex {
         batch: &[DebouncedEvent],
         paths: &BTreeMap<PathBuf, ()>,
     ) -> Result<BTreeMap<PathBuf, Words>, Fault>
-        ensures { IfOk result (λ read.
+        ensures ok { IfOk result (λ read.
             D.reads documents.now (keys_of paths.now.entries) read.entries) }
+        ensures err { IfErr result (λ e. e ≡ Memory) }
     {
         let before = Before::of(self.alloc, &self.index, batch)?;
         documents.read(paths, &before)
@@ -108,6 +112,7 @@ impl KeptIndex {
     ) -> Result<(), Fault>
         ensures anew { OnOk result (TakesAnew (D.reads documents.now)
             (anew self.old.index listed.items) self.old.index self.new.index) }
+        ensures err { IfErr result (λ e. e ≡ Memory) }
     {
         let mut listed = listed;
         let mut batch = self.index.named()?;
@@ -119,6 +124,7 @@ impl KeptIndex {
     pub fn read_again<D: ReadsDocuments>(&mut self, documents: &D) -> Result<(), Fault>
         ensures again { OnOk result (ReadsAgain (D.reads documents.now)
             (keys_of self.old.missing.paths.entries) self.old.index self.new.index) }
+        ensures err { IfErr result (λ e. e ≡ Memory) }
     {
         if self.missing.is_empty() {
             return Ok(());
