@@ -31,7 +31,8 @@ pub trait ReadsDocuments {
     /// What may be read at paths: who reads says which documents these are.
     ghost reads: { Self → Paths → IndexValue → Type 0 };
 
-    /// Reads what stands at these paths, or takes what there was before, of what moved and is as it was.
+    /// Reads what stands at these paths, or takes what there was before, of what moved and is as it was. What can't be
+    /// read is left out: the error is want of memory alone.
     fn read(
         &self,
         paths: &BTreeMap<PathBuf, ()>,
@@ -67,7 +68,7 @@ impl KeptIndex {
     }
 
     /// Brings the index up to date at the paths of the batch. A removal only removes, and what isn't there yet is
-    /// read later, by `read_again`.
+    /// read later, by `read_again`. The error is `Memory`: then the index may have a part of what was read.
     pub fn take_batch<D: ReadsDocuments>(
         &mut self,
         documents: &D,
@@ -104,7 +105,7 @@ impl KeptIndex {
     }
 
     /// Reads all anew: what stands at each path that the index has, and then at those that are listed. So it becomes
-    /// the index of what stands there, whatever was never reported.
+    /// the index of what stands there, whatever was never reported. An error is as that of `take_batch`.
     pub fn read_anew<D: ReadsDocuments>(
         &mut self,
         documents: &D,
@@ -120,7 +121,7 @@ impl KeptIndex {
         self.take_batch(documents, batch.as_slice())
     }
 
-    /// Reads again what was missing.
+    /// Reads again what was missing. An error is as that of `take_batch`.
     pub fn read_again<D: ReadsDocuments>(&mut self, documents: &D) -> Result<(), Fault>
         ensures again { OnOk result (ReadsAgain (D.reads documents.now)
             (keys_of self.old.missing.paths.entries) self.old.index self.new.index) }
