@@ -6,22 +6,33 @@
 //!
 //! `bench rounds|rounds-with-numbers|rounds-without-times N FOLDER` makes N rounds over the folder, and prints the
 //! nanoseconds of the fastest.
+//!
+//! `bench paths FOLDER` and `bench roots FOLDER OTHER` print the paths that a reader keeps of folders that change.
 #![tactic(auto)]
 
 mod checksum;
 mod events;
 mod kind;
 mod locked;
+mod paths;
+mod reader;
+mod roots;
 mod rounds;
 mod workloads;
 
 use anyhow::{Result, bail};
 use kind::{KINDS, Kind};
 use notify_debouncer_full::DebouncerRuntime;
+use paths::keep_paths;
+use roots::change_in_turns;
 use rounds::{Compared, fastest_round};
 use std::env::{self, Env};
 use std::process::ExitCode;
 use workloads::run_workload;
+
+/// The words that it takes.
+const USAGE: &str = "usage: bench [N KIND] | paths FOLDER | roots FOLDER OTHER \
+    | rounds|rounds-with-numbers|rounds-without-times N FOLDER";
 
 /// How many events a workload has if the command line doesn't say.
 const FEW: u64 = 10_000;
@@ -60,15 +71,19 @@ fn run_asked<R: Runs>(rt: &R, words: &[String]) -> Result<()> {
             }
             Ok(())
         }
+        [form, folder] if form.as_str() == "paths" => keep_paths(rt, folder.as_str()),
+        [form, folder, other] if form.as_str() == "roots" => {
+            change_in_turns(rt, folder.as_str(), other.as_str())
+        }
         [form, n, folder] => match Compared::from_word(form.as_str()) {
             Some(compared) => run_rounds(rt, n.as_str(), folder.as_str(), compared),
-            None => bail!("usage: bench rounds|rounds-with-numbers|rounds-without-times N FOLDER"),
+            None => bail!("{USAGE}"),
         },
         [n, kind] => match (n.parse::<u64>(), Kind::from_word(kind.as_str())) {
             (Ok(n), Some(kind)) if 0 < n && n <= MOST => run_kind(rt, kind, n),
-            _ => bail!("usage: bench [N KIND], with N from 1 to {MOST}"),
+            _ => bail!("{USAGE}, with N from 1 to {MOST}"),
         },
-        _ => bail!("usage: bench [N KIND]"),
+        _ => bail!("{USAGE}"),
     }
 }
 
