@@ -21,6 +21,7 @@ import time
 TICKS = os.sysconf("SC_CLK_TCK")
 KINDS = ["proof", "edits", "tests", "runs"]
 RUN = re.compile(r"/rt-run-[^/]*/bin/(\w+?)(_tests)?$")
+EDIT = re.compile(r"/rt-edit-[^/]*$")
 MINUTE = 60
 
 Process = collections.namedtuple("Process", "parent spent began")
@@ -39,6 +40,13 @@ def processes():
     return found
 
 
+def folder_of(number):
+    try:
+        return os.readlink(f"/proc/{number}/cwd")
+    except OSError:
+        return ""
+
+
 def task_of(number):
     """Returns the crate that the process works for, and at what, or nothing."""
     try:
@@ -54,9 +62,8 @@ def task_of(number):
     crate = words[words.index("--crate-name") + 1]
     if "--test" in words:
         return crate, "tests"
-    # A program is checked too before it is built; a library only for its edits.
-    has_edits = os.path.isdir(os.path.join("crates", crate, "must-fail"))
-    return crate, "edits" if words[1] == "check" and has_edits else "proof"
+    # An edited crate is checked in a folder of its own.
+    return crate, "edits" if EDIT.search(folder_of(number)) else "proof"
 
 
 class Costs:
