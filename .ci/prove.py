@@ -83,19 +83,20 @@ def digests_of(folder, edits):
 
     def digest(edit):
         crate = edit.split("/")[1]
-        paths = [edit, *(f"crates/{crate}/{part}" for part in OWN)]
+        paths = [f"crates/{crate}/{part}" for part in OWN]
         paths += [f"crates/{it}/{part}" for it in sorted(below[crate]) for part in BELOW]
-        lines = [first, *(f"{path} {ids[path]}" for path in paths if path in ids)]
+        lines = [first, ids[edit], *(f"{path} {ids[path]}" for path in paths if path in ids)]
         return hashlib.sha256("\n".join(lines).encode()).hexdigest()[:32]
 
     return {edit: digest(edit) for edit in edits}
 
 
 def read_tried():
+    """Returns the digests of the wrong bodies that were refused."""
     if not os.path.isfile(TRIED):
-        return {}
+        return set()
     with open(TRIED, encoding="utf-8") as it:
-        return dict(line.split() for line in it if line.strip())
+        return {line.split()[1] for line in it if line.strip()}
 
 
 def write_tried(tried):
@@ -162,8 +163,8 @@ def main(words):
         copy_tree(folder)
         edits = wrong_bodies(folder)
         digests = digests_of(folder, edits)
-        tried = {} if words else read_tried()
-        known = {it for it in edits if tried.get(it) == digests[it]}
+        refused_before = set() if words else read_tried()
+        known = {it for it in edits if digests[it] in refused_before}
         leave_out(folder, edits, known)
         leave_out_programs(folder)
         sys.stdout.flush()
