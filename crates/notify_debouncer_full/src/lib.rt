@@ -61,9 +61,14 @@ pub use reports::{LastReports, QueueingDebouncer, RecommendedReports, Reports, R
 pub use runtime::{DebouncerAllocator, DebouncerRuntime};
 
 // The watcher that polls.
-pub use poll_listing::{EntryKind, FileNumber, Found, Listing, compare};
-pub use poll_rounds::{Folders, list, poll_round};
+pub use poll_listing::{
+    EntryKind, FileNumber, Found, Listing, Update, Updates, compare, compare_moves,
+};
+pub use poll_rounds::{Closed, Folders, NotesClosed, list, look_round, poll_round};
 pub use poll_watcher::{
     ClosedCount, Hints, LastFound, NotingFolders, PollTask, PollWatcher, Polled, RealFolders,
-    RoundTask,
+    RoundFolders, RoundTask,
 };
+
+// What calls of a `Queue` take.
+pub use debounce_queues::Due;
