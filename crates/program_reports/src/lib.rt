@@ -9,7 +9,6 @@
 //! report by `next` or `next_within`, and for the rest by `finish`.
 #![tactic(auto)]
 
-mod apart;
 pub mod folders;
 mod follow;
 mod law;
