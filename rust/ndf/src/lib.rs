@@ -4,13 +4,17 @@
 //!
 //! ```no_run
 //! use ndf::{new_debouncer, DebounceEventResult, RecursiveMode};
-//! use std::time::Duration;
+//! use std::{sync::mpsc, time::Duration};
 //!
-//! let mut debouncer = new_debouncer(Duration::from_millis(500), None, |result: DebounceEventResult| match result {
-//!     Ok(events) => events.iter().for_each(|event| println!("{event:?}")),
-//!     Err(errors) => errors.iter().for_each(|error| println!("{error:?}")),
-//! })?;
-//! debouncer.watch(".", RecursiveMode::Recursive)?;
+//! let (sender, reports) = mpsc::channel::<DebounceEventResult>();
+//! let mut debouncer = new_debouncer(Duration::from_millis(500), None, sender)?;
+//! debouncer.watch("notes", RecursiveMode::Recursive)?;
+//! while let Ok(report) = reports.recv() {
+//!     match report {
+//!         Ok(batch) => println!("{} changes, first {:?}", batch.len(), batch[0].paths),
+//!         Err(errors) => eprintln!("{} errors, first: {}", errors.len(), errors[0]),
+//!     }
+//! }
 //! # Ok::<(), ndf::Error>(())
 //! ```
 //!
