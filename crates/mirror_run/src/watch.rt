@@ -11,8 +11,8 @@ use crate::script::Fault;
 use crossbeam_channel::{Receiver, Sender, unbounded};
 use notify_debouncer_full::{
     Book, Config, DebounceEventResult, Debouncer, DebouncerAllocator, DebouncerRuntime, Error,
-    ErrorKind, Feed, PathBuf, RecommendedCache, RecommendedWatcher, RecursiveMode, SendTo, Watcher,
-    new_debouncer_opt,
+    ErrorKind, Feed, PathBuf, RecommendedCache, RecommendedDebouncer, RecursiveMode, SendTo,
+    Watcher, new_debouncer, new_debouncer_opt,
 };
 use std::alloc::{AllocError, Allocator};
 use std::io::Write;
@@ -43,7 +43,8 @@ pub fn watch_run<R: DebouncerRuntime, A: DebouncerAllocator, O: Write, E: Write>
     ensures untouched { (result ≡ 5) ⊎ (result ≡ 8) → O.contents out.new ≡ O.contents out.old }
     ensures silent { (result ≡ 0) ⊎ (result ≡ 6) → E.contents err.new ≡ E.contents err.old }
 {
-    watch_run_over::<RecommendedWatcher<R, A>, R, A, O, E>(rt, alloc, folder, ticks, out, err)
+    let run = watch_recommended(rt, alloc, folder, ticks, out);
+    end(run, folder, err)
 }
 
 /// Runs as [`watch_run`] does, over the watcher `T`.
@@ -59,12 +60,29 @@ pub fn watch_run_over<
     ensures untouched { (result ≡ 5) ⊎ (result ≡ 8) → O.contents out.new ≡ O.contents out.old }
     ensures silent { (result ≡ 0) ⊎ (result ≡ 6) → E.contents err.new ≡ E.contents err.old }
 {
-    let run = watch_and_print::<T, R, A, O>(rt, alloc, folder, ticks, out);
+    let run = watch_over::<T, R, A, O>(rt, alloc, folder, ticks, out);
     end(run, folder, err)
 }
 
-/// Watches the folder, and prints what was reported.
-fn watch_and_print<
+/// Watches the folder by a debouncer of `new_debouncer`, and prints what was reported.
+fn watch_recommended<R: DebouncerRuntime, A: DebouncerAllocator, O: Write>(
+    rt: R,
+    alloc: A,
+    folder: &str,
+    ticks: u64,
+    out: &mut O,
+) -> Result<(), Fault>
+    ensures err { IfErr result (IsWatchFault (O.contents out.old) (O.contents out.new)) }
+{
+    let path = PathBuf::parse(alloc, folder)?;
+    let (sender, receiver) = unbounded(alloc)?;
+    let debouncer = start_recommended(rt, alloc, sender)?;
+    let last = watch(&rt, alloc, debouncer, &path, ticks)?;
+    print_reports(&rt, alloc, &receiver, last.as_str(), out)
+}
+
+/// Watches the folder by a debouncer over the watcher `T`, and prints what was reported.
+fn watch_over<
     T: Watcher<Feed<RecommendedCache, R, A>, R, A>,
     R: DebouncerRuntime,
     A: DebouncerAllocator,
@@ -73,35 +91,34 @@ fn watch_and_print<
     requires takes { (feed : _) → T.takes feed }
     ensures err { IfErr result (IsWatchFault (O.contents out.old) (O.contents out.new)) }
 {
+    let path = PathBuf::parse(alloc, folder)?;
     let (sender, receiver) = unbounded(alloc)?;
-    let last = watch::<T, R, A>(rt, alloc, sender, folder, ticks)?;
+    let debouncer = start::<T, R, A>(rt, alloc, sender)?;
+    let last = watch(&rt, alloc, debouncer, &path, ticks)?;
     print_reports(&rt, alloc, &receiver, last.as_str(), out)
 }
 
-/// Watches the folder for so many ticks, while what the debouncer emits is sent. Returns the lines that
+/// Watches the path for so many ticks, while what the debouncer emits is sent. Returns the lines that
 /// are printed last.
 fn watch<
     T: Watcher<Feed<RecommendedCache, R, A>, R, A>,
     R: DebouncerRuntime,
     A: DebouncerAllocator,
 >(
-    rt: R,
+    rt: &R,
     alloc: A,
-    sender: Sender<DebounceEventResult<A>, A>,
-    folder: &str,
+    debouncer: Debouncer<T, RecommendedCache, R, A>,
+    path: &PathBuf<A>,
     ticks: u64,
 ) -> Result<String<A>, Fault>
-    requires takes { (feed : _) → T.takes feed }
-    ensures { IfErr result (λ e. (e ≡ Fault.Memory) ⊎ ((e ≡ Fault.CannotWatch) ⊎ (e
-        ≡ Fault.NoThread))) }
+    ensures { IfErr result (λ e. (e ≡ Fault.Memory) ⊎ (e ≡ Fault.CannotWatch)) }
 {
-    let path = PathBuf::parse(alloc, folder)?;
-    let mut debouncer = start::<T, R, A>(rt, alloc, sender)?;
+    let mut debouncer = debouncer;
     debouncer
-        .watch(&path, RecursiveMode::Recursive)
+        .watch(path, RecursiveMode::Recursive)
         .map_err(|error| fault_of(&error, Fault::CannotWatch))?;
     for _ in 0..ticks {
-        thread::sleep(&rt, Duration::from_millis(TICK));
+        thread::sleep(rt, Duration::from_millis(TICK));
     }
     Ok(end_watch(alloc, debouncer)?)
 }
@@ -132,7 +149,24 @@ fn last_lines<A: Allocator + Copy>(
     Ok(text)
 }
 
-/// Starts the debouncer, which emits to the sender.
+/// Starts a debouncer by `new_debouncer`, which emits to the sender.
+fn start_recommended<R: DebouncerRuntime, A: DebouncerAllocator>(
+    rt: R,
+    alloc: A,
+    sender: Sender<DebounceEventResult<A>, A>,
+) -> Result<RecommendedDebouncer<R, A>, Fault>
+    ensures { IfErr result (λ e. (e ≡ Fault.Memory) ⊎ (e ≡ Fault.NoThread)) }
+{
+    let handler = SendTo::new(rt, sender);
+    let timeout = Duration::from_millis(TIMEOUT);
+    let tick = Some(Duration::from_millis(TICK));
+    new_debouncer(rt, alloc, timeout, tick, handler).map_err(|error| fault_of(
+        &error,
+        Fault::NoThread,
+    ))
+}
+
+/// Starts a debouncer over the watcher `T`, which emits to the sender.
 fn start<
     T: Watcher<Feed<RecommendedCache, R, A>, R, A>,
     R: DebouncerRuntime,
