@@ -16,14 +16,17 @@ use std::sync::atomic::Ordering;
 use std::time::Duration;
 use test_fakes::allocator::TestHeap;
 
+/// The file that is made.
+const FILE: &str = "/file.txt";
+
 /// How long a scene waits for what has to come, at most, in seconds.
-const LIMIT: u64 = 50;
+const LIMIT: u64 = 10;
 
 /// How long it waits for what may not come.
 const PATIENCE: u64 = 2;
 
 /// Watches the scene's folder by a debouncer that looks as often as the line says, or else each second,
-/// and makes the file `/x`. Prints what is reported first.
+/// and makes the file. Prints what is reported first, if it comes in time.
 pub fn play_recommended<R: Host, A: TestHeap>(
     scene: &mut Scene<R, A>,
     line: &str,
@@ -89,7 +92,7 @@ fn watch_folder<T: Polls<R>, R: Host, A: TestHeap>(
 }
 
 fn make_file<R: Host, A: TestHeap>(scene: &Scene<R, A>) -> io::Result<()> {
-    write_file(&scene.rt, scene.entry("/x")?.as_str(), "x")
+    write_file(&scene.rt, scene.entry(FILE)?.as_str(), "x")
 }
 
 /// Prints the kinds of a report's events, and whether their paths are that of the file.
@@ -101,10 +104,10 @@ fn tell_report<R: Host, A: TestHeap>(
     let Some(Ok(batch)) = report else {
         return scene.say(line, "no batch");
     };
-    let file = scene.place("/x")?;
+    let file = scene.place(FILE)?;
     for event in batch.as_slice() {
         scene.say(line, event.kind().word())?;
-        scene.tell("/x", event.first_path() == Some(&file))?;
+        scene.tell(FILE, event.first_path() == Some(&file))?;
     }
     Ok(())
 }

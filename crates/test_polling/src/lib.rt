@@ -10,6 +10,8 @@ mod cache;
 #[cfg(test)]
 mod comparing;
 #[cfg(test)]
+mod copies;
+#[cfg(test)]
 mod devices;
 #[cfg(test)]
 mod edges;

@@ -2,9 +2,12 @@
 use crate::build::{check_numbers, check_text, path};
 use crate::cache::add_batch;
 use crate::trees::{Notes, listing, tree};
-use notify_debouncer_full::{Listing, PathBuf, Polled, RecursiveMode};
+use notify_debouncer_full::{
+    Command, DebounceDataInner, Event, Listing, NoCache, PathBuf, Polled, RecursiveMode, Reply,
+};
 use poll_listing::compare;
 use reader_laws::callers::Follower;
+use reader_paths::PathSet;
 use std::process::Abort;
 use test_fakes::folders::ClosedFolders;
 
@@ -77,6 +80,67 @@ fn moment(rt: &impl Abort, text: &str) -> u128 {
 #[test]
 fn a_reader_ends_with_the_paths_of_the_last_listing(rt: HostRuntime) {
     follow_all(&rt, LISTINGS, &mut String::new(rt.alloc()));
+}
+
+/// Has the core carry out what changes from one listing to the next, and then a tick 30 nanoseconds later. The
+/// reader plays what is emitted.
+fn run_changes(
+    rt: &(impl Abort + AllocGlobal),
+    core: &mut DebounceDataInner<NoCache>,
+    reader: &mut PathSet,
+    changes: Vec<Event>,
+    now: u128,
+) {
+    let mut asked = Vec::new(rt.alloc());
+    for event in changes {
+        asked
+            .push(Command::Event(event, now, true))
+            .expect(rt, "memory");
+    }
+    asked
+        .push(Command::Tick(now.saturating_add(30)))
+        .expect(rt, "memory");
+    for reply in core.run(asked).expect(rt, "memory") {
+        play_reply(rt, reader, &reply);
+    }
+}
+
+/// Plays a batch. An event is taken, with no number.
+fn play_reply(rt: &impl Abort, reader: &mut PathSet, reply: &Reply) {
+    match reply {
+        Reply::Batch(batch) => reader.play(batch.as_slice()).expect(rt, "memory"),
+        Reply::Taken(None) => {}
+        _ => panic!(rt; "another reply"),
+    }
+}
+
+/// Checks that a reader who has these paths, and then plays what is pending, has the paths of this listing.
+fn check_rest(rt: &impl Abort, core: &DebounceDataInner<NoCache>, reader: &PathSet, text: &str) {
+    let mut paths = reader.try_clone().expect(rt, "memory");
+    let rest = core.outlook().expect(rt, "memory");
+    paths.play(rest.as_slice()).expect(rt, "memory");
+    check_paths(rt, paths.to_list().expect(rt, "memory").as_slice(), text);
+}
+
+#[test]
+fn what_changes_between_listings_is_run_and_played(rt: HostRuntime) {
+    run_all(&rt, LISTINGS);
+    run_all(&rt, REPLACED);
+}
+
+/// Runs what changes from each listing of some lines to the next. After each a reader has its paths.
+fn run_all(rt: &(impl Abort + AllocGlobal), lines: &str) {
+    let mut core = DebounceDataInner::new(rt.alloc(), NoCache::new(), 50);
+    let mut reader = PathSet::new(rt.alloc());
+    let mut last = Listing::new(rt.alloc());
+    for line in lines.split('\n') {
+        let (now, text) = line.split_once(' ').expect(rt, line);
+        let next = listing(rt, rt.alloc(), text);
+        let changes = compare(rt.alloc(), &last, &next).expect(rt, "memory");
+        run_changes(rt, &mut core, &mut reader, changes, moment(rt, now));
+        check_rest(rt, &core, &reader, text);
+        last = next;
+    }
 }
 
 #[test]

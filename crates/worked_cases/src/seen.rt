@@ -3,8 +3,8 @@ use mirror_run::script::read_script;
 use notify_debouncer_full::{Command, DebounceDataInner, NoCache, RecursiveMode};
 use std::alloc::{AllocError, Global};
 
-/// Writes down what a core without a cache shows: at each event the mode of its first path, after each
-/// tick how many queues it found due, and at the end the latest moment.
+/// Writes down what a core without a cache shows: at each event the mode of its first path, before each
+/// tick how many events wait, after it how many queues it found due, and at the end the latest moment.
 pub fn show_run(alloc: Global, script: &str, text: &mut String) -> Result<(), AllocError> {
     let Ok(script) = read_script(alloc, &mut script.as_bytes()) else {
         return text.push_str("no script, or no memory\n");
@@ -32,6 +32,7 @@ fn show_step(
 ) -> Result<(), AllocError> {
     match command {
         Command::Tick(now) => {
+            writeln!(text, "waiting {}", core.waiting())?;
             core.step(Command::Tick(now));
             writeln!(text, "visited {}", core.visited())
         }
