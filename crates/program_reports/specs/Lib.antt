@@ -1,5 +1,4 @@
 pub mod FollowsFolder
 pub mod PathSteps
-pub mod Whole
 pub mod WholeProgram
 pub mod Folders

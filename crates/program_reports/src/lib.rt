@@ -11,13 +11,11 @@
 
 pub mod folders;
 mod follow;
-mod law;
 mod path_steps;
 mod whole_program;
 
 pub use crate::folders::FolderReports;
 pub use follow::{follow_file, follow_folder, follow_folders};
-pub use law::law_of_all_reports;
 pub use path_steps::path_by_path;
 pub use program_frame::reports::{BatchTaker, Places, Rest, Taken, TakesBatches, TakesReports};
 pub use whole_program::{run_program, run_program_of_two};

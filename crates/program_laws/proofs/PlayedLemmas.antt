@@ -17,7 +17,7 @@ use Rattle.notify_debouncer_full.proofs.Batches.{in_both, reported_batches}
 use Rattle.notify_debouncer_full.specs.Emitted.{events_in, plain, reports_of}
 use Rattle.program_frame.specs.Reports.Loop.{Step}
 use Rattle.program_reports.specs.Folders.Rest.{IsBatchOf, IsListOf, Waits}
-use Rattle.program_reports.specs.Whole.{played_by, taken_in}
+use Rattle.program_laws.specs.Whole.{played_by, taken_in}
 
 -- what waits is the outlook, as reports
 batch_waits : (events : List Timed) (batch : List (Outcome Global)) → IsBatchOf events batch →

@@ -1,5 +1,5 @@
 //! What a program took that followed folders to the end.
-ghost use Rattle.program_reports.specs.Whole.{TakesAllReports};
+ghost use Rattle.program_laws.specs.Whole.{TakesAllReports};
 
 use reader_laws::law_of_one_feeder;
 
@@ -8,7 +8,7 @@ use reader_laws::law_of_one_feeder;
 /// with all that waited at its end, if nothing was lost. If the watcher began with nothing, a program that plays these
 /// from no paths on has the paths that the watcher found last.
 ///
-/// [`follow_folder`]: crate::follow_folder
+/// [`follow_folder`]: program_reports::follow_folder
 pub fn law_of_all_reports()
     ensures all { TakesAllReports }
 {

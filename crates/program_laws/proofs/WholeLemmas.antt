@@ -27,8 +27,8 @@ use Rattle.program_reports.specs.Folders.Rest.{ends_polling}
 use Rattle.program_reports.specs.Folders.Start.{BeganWith, Followed}
 use Rattle.debounce_lock.specs.History.{Begins, picked}
 use Rattle.program_reports.specs.FollowsFolder.{folder_source}
-use Rattle.program_reports.specs.Whole.{LeadsToLast, TakesAllReports, taken_in}
-use Rattle.program_reports.proofs.PlayedLemmas.{played_all}
+use Rattle.program_laws.specs.Whole.{LeadsToLast, TakesAllReports, taken_in}
+use Rattle.program_laws.proofs.PlayedLemmas.{played_all}
 
 -- what was taken before and after
 pub taken_on : (steps more : List Step) → taken_in (steps ++ more) ≡ taken_in steps ++ taken_in more
