@@ -4,8 +4,8 @@
 //! `mirror --threads SCRIPT..`, or `mirror --watch DIR TICKS`.
 #![tactic(auto)]
 
-use mirror_run::threads::threads_run;
-use mirror_run::{Fault, Form, check_run, script_run, watch_run};
+use mirror_run::{Fault, Form, check_run, script_run};
+use mirror_threads::{threads_run, watch_run};
 use std::fs::File;
 use std::io::{ErrorKind, Read};
 use std::process::ExitCode;

@@ -3,4 +3,3 @@ pub mod Endings
 pub mod Runs
 pub mod Forms
 pub mod ScriptLemmas
-pub mod ThreadsLemmas

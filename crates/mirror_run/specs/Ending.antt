@@ -3,7 +3,7 @@ use Rattle.std.specs.Prelude.{◌≡◌, ◌⊎◌, ℕ, Option, List, Result, O
 use Rattle.mirror_run.specs.Script.Faults.{fault_status}
 use Rattle.mirror_run.specs.Script.{Fails, script_of}
 use Rattle.mirror_run.specs.declared.script.fault.Fault.{Fault}
-use Rattle.mirror_run.specs.declared.script.fault.Fault.TheVariants.{CannotRead, NotCommand, Memory, CannotWatch, OutputFailed, NoThread}
+use Rattle.mirror_run.specs.declared.script.fault.Fault.TheVariants.{CannotRead, NotCommand, Memory, OutputFailed}
 use Rattle.mirror_run.specs.declared.transcript.Report.{Report}
 use Rattle.mirror_run.specs.Transcript.{BeginsRun, StopsRun}
 
@@ -24,15 +24,3 @@ IsStopped report bytes old new (NotCommand line) =
 IsStopped report bytes old new Memory = StopsRun report bytes old new
 IsStopped report bytes old new OutputFailed = BeginsRun report bytes old new
 IsStopped report bytes old new other = ⊥
-
--- a watch ends with one of these
-abbrev pub IsWatchStatus : ℕ → Type 0
-IsWatchStatus n = (n ≡ 0) ⊎ ((n ≡ 4) ⊎ ((n ≡ 5) ⊎ ((n ≡ 6) ⊎ (n ≡ 8))))
-
--- why a watch stops: if the folder isn't watched, or a thread isn't started, nothing has been printed
-abbrev pub IsWatchFault : Option (List ℕ) → Option (List ℕ) → Fault → Type 0
-IsWatchFault old new Memory = Unit {0}
-IsWatchFault old new CannotWatch = new ≡ old
-IsWatchFault old new OutputFailed = Unit {0}
-IsWatchFault old new NoThread = new ≡ old
-IsWatchFault old new other = ⊥

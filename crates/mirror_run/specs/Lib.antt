@@ -5,6 +5,4 @@ pub mod PlayedView
 pub mod Ending
 pub mod Usage
 pub mod FormView
-pub mod Reports
 pub mod Script
-pub mod Threads

@@ -1,5 +1,5 @@
 //! What the program `mirror` is made of: the run of a script over a reader and two writers, and what
-//! it prints. [`script`] reads the script, and [`threads`] runs it in threads.
+//! it prints. [`script`] reads the script.
 //!
 //! A program asks [`Form::of`] what its words say, calls [`script_run`] or [`check_run`] with a script,
 //! and ends with the status that it returns:
@@ -18,12 +18,11 @@ mod play;
 mod print;
 mod run;
 pub mod script;
-pub mod threads;
 mod transcript;
-mod watch;
 
 pub use crate::script::Fault;
 pub use form::{Form, usage_ok};
+pub use output::{write_full, write_last};
+pub use print::{push_error_lines, push_events};
 pub use reader_paths::{PathSet, clock_kept, is_honest};
-pub use run::{check_run, script_run};
-pub use watch::{watch_run, watch_run_over};
+pub use run::{check_run, end_run, script_run};

@@ -32,10 +32,7 @@ fn write_out<A: Allocator, O: Write>(text: &mut String<A>, out: &mut O) -> Resul
 }
 
 /// Writes the text out, and empties it, if it is long: 64 KiB or more.
-pub(crate) fn write_full<A: Allocator, O: Write>(
-    text: &mut String<A>,
-    out: &mut O,
-) -> Result<(), Fault>
+pub fn write_full<A: Allocator, O: Write>(text: &mut String<A>, out: &mut O) -> Result<(), Fault>
     // What is written, with the text after it, stays.
     ensures kept { OnOk result (PrintsText (O.contents out.old) text.old
         (O.contents out.new) text.new []) }
@@ -51,10 +48,7 @@ pub(crate) fn write_full<A: Allocator, O: Write>(
 }
 
 /// Writes the text out, as the last of a run.
-pub(crate) fn write_last<A: Allocator, O: Write>(
-    text: &mut String<A>,
-    out: &mut O,
-) -> Result<(), Fault>
+pub fn write_last<A: Allocator, O: Write>(text: &mut String<A>, out: &mut O) -> Result<(), Fault>
     ensures written { OnOk result (Appends (O.contents out.old) (O.contents out.new)
         (string_bytes text.old)) }
     ensures begun { OnErr result (Begins (O.contents out.old) (string_bytes text.old)

@@ -8,8 +8,11 @@ ghost use Rattle.mirror_run.specs.Transcript.{IsPrinted, BeginsOrNot};
 
 use crate::script::{Counts, Fault, Script};
 use crate::transcript::{Played, Report, print_run};
-use debounce_model::clone_commands;
-use notify_debouncer_full::{Command, DebounceDataInner, Moment, NoCache, PathBuf};
+use debounce_cache::NoCache;
+use debounce_core::DebounceDataInner;
+use debounce_model::{Command, clone_commands};
+use notify_paths::PathBuf;
+use notify_types::Moment;
 use reader_paths::PathSet;
 use std::alloc::Allocator;
 use std::io::Write;

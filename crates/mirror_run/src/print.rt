@@ -5,9 +5,9 @@ ghost use Rattle.notify_paths.specs.ErrorView.{kind_value};
 ghost use Rattle.mirror_run.specs.Printed.{path_field, path_fields, options_field, event_line, batch_line, error_word, errors_line, error_line, refused_line, counts_line, paths_line, event_lines, error_lines, errors_lines, answer_line};
 ghost use Rattle.mirror_run.specs.PlayedView.{printed_reply, printed_batch, untracked_field, tracked_field};
 
-use notify_debouncer_full::{
-    Command, DebouncedEvent, Error, ErrorKind, EventAttributes, Flag, Moment, PathBuf, Reply,
-};
+use debounce_model::{Command, Reply};
+use notify_paths::{Error, ErrorKind, PathBuf};
+use notify_types::{DebouncedEvent, EventAttributes, Flag, Moment};
 use std::alloc::{AllocError, Allocator};
 
 /// Appends the path; the empty path is `""`.

@@ -37,7 +37,7 @@ pub fn script_run<A: Allocator + Copy, R: Read, O: Write, E: Write>(
     ensures silent { (result ≡ 0) ⊎ (result ≡ 6) → E.contents err.new ≡ E.contents err.old }
 {
     let run = play(alloc, Report::Plain, reader, out);
-    end(run, name, err)
+    end_run(run, name, err)
 }
 
 /// Runs the script as [`script_run`] does, and prints two lines more: whether the stream was honest,
@@ -63,7 +63,7 @@ pub fn check_run<A: Allocator + Copy, R: Read, O: Write, E: Write>(
     ensures silent { (result ≡ 0) ⊎ (result ≡ 6) → E.contents err.new ≡ E.contents err.old }
 {
     let run = play(alloc, Report::Check, reader, out);
-    end(run, name, err)
+    end_run(run, name, err)
 }
 
 /// Reads the script whole, and plays it.
@@ -83,7 +83,7 @@ fn play<A: Allocator + Copy, R: Read, O: Write>(
 }
 
 /// Ends a run: writes the line of a fault, and returns the exit status.
-pub(crate) fn end<E: Write>(run: Result<(), Fault>, name: &str, err: &mut E) -> u8
+pub fn end_run<E: Write>(run: Result<(), Fault>, name: &str, err: &mut E) -> u8
     ensures status { result ≡ status_of run }
     ensures silent { (result ≡ 0) ⊎ (result ≡ 6) → E.contents err.new ≡ E.contents err.old }
 {

@@ -10,7 +10,10 @@ ghost use Rattle.mirror_run.specs.Transcript.{state_lines, reader_lines, raw_lin
 use crate::output::{write_full, write_last};
 use crate::print::{push_answer, push_counts, push_events, push_list, push_reply};
 use crate::script::Fault;
-use notify_debouncer_full::{Command, DebounceDataInner, DebouncedEvent, NoCache, Reply};
+use debounce_cache::NoCache;
+use debounce_core::DebounceDataInner;
+use debounce_model::{Command, Reply};
+use notify_types::DebouncedEvent;
 use reader_paths::{PathSet, clock_kept, is_honest};
 use std::alloc::Allocator;
 use std::io::Write;

@@ -1,6 +1,6 @@
 //! The form of the program `mirror` that watches a folder, over the watcher of a scene.
 use crate::scene::{Host, Scene, number, split};
-use mirror_run::watch_run_over;
+use mirror_threads::watch_run_over;
 use notify_debouncer_full::{Feed, NoCache, Watcher};
 use std::io;
 use std::io::Write;

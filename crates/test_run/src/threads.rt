@@ -2,7 +2,7 @@
 use crate::build::{CREATED, Host, TURNS, commands, new_heap, sleep_a_turn, sleep_turns, wait_for};
 use crate::words::{push_batch, word_of};
 use mirror_run::script::read_script;
-use mirror_run::threads::threads_run;
+use mirror_threads::threads_run;
 use notify_debouncer_full::{Entry, Error, ErrorKind, Meet, NoMeet, Reply, run_threads};
 use std::alloc::AllocError;
 use std::io;
