@@ -1,7 +1,10 @@
-# shellcheck shell=bash disable=SC2154
+#!/usr/bin/env bash
 # The build trigger of docs/examples, over a folder in which files come and go in bursts.
-trigger=$top/crates/build_trigger/out/build_trigger
-mkdir build_trigger && cd build_trigger || return
+. "$(dirname "$0")/../checks.sh" || exit 1
+expects 13
+
+trigger=$(program build_trigger)
+mkdir build_trigger && cd build_trigger || exit 1
 mkdir src
 
 # written NAME..: each of these paths stands in a line, within a minute.

@@ -1,7 +1,10 @@
-# shellcheck shell=bash disable=SC2154
+#!/usr/bin/env bash
 # The page docs/examples/change_journal.md: three journals of one folder, of which each change waits until all have told the one before.
-journal=$top/crates/change_journal/out/change_journal
-mkdir -p journal/watched && cd journal || return
+. "$(dirname "$0")/../checks.sh" || exit 1
+expects 14
+
+journal=$(program change_journal)
+mkdir -p journal/watched && cd journal || exit 1
 
 # tells FILE PATTERN: the journal tells of it, within a minute.
 tells() {
@@ -132,4 +135,3 @@ for _ in 1 2 3; do
     [ -s got ] && ! complains err && seq 1001 "$(tail -n 1 got)" | cmp -s - got && well=yes && break
 done
 report 'what waits when a journal ends' $well
-cd ..

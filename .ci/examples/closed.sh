@@ -1,7 +1,10 @@
-# shellcheck shell=bash disable=SC2154
+#!/usr/bin/env bash
 # What permission closes is no removal under change_journal and document_index, as it is none under folder_mirror: what
 # was shown of it is kept, the rest is reported, and it is said once. A user whom permission stops tries that.
-mkdir closed && cd closed || return
+. "$(dirname "$0")/../checks.sh" || exit 1
+expects 9
+
+mkdir closed && cd closed || exit 1
 cat >closed.sh <<'STORIES'
 # waits COMMAND..: it succeeds within a minute.
 waits() {
@@ -80,7 +83,7 @@ mkdir room && cp change_journal document_index room && cd room && "$@"
 STORIES
 mkdir -m 777 open
 for name in change_journal document_index; do
-    cp "$top/crates/$name/out/$name" open && chmod 755 "open/$name"
+    cp "$(program "$name")" open && chmod 755 "open/$name"
 done
 cp closed.sh open && cd open || exit 1
 for story in 'opened change_journal d/sub 000' 'opened change_journal d 000' 'opened change_journal d/sub 400' \
@@ -91,4 +94,3 @@ for story in 'opened change_journal d/sub 000' 'opened change_journal d 000' 'op
     chmod -R u+rwx room
     rm -r room
 done
-cd ../..

@@ -1,7 +1,10 @@
-# shellcheck shell=bash disable=SC2154
+#!/usr/bin/env bash
 # The configuration reloader of docs/examples, over a file that is replaced, spoilt and removed.
-reloader=$top/crates/config_reloader/out/config_reloader
-mkdir config_reloader && cd config_reloader || return
+. "$(dirname "$0")/../checks.sh" || exit 1
+expects 8
+
+reloader=$(program config_reloader)
+mkdir config_reloader && cd config_reloader || exit 1
 mkdir conf
 
 # answered: what was printed becomes the same as the file `wanted`, within a minute.
@@ -70,7 +73,7 @@ for _ in 1 2 3; do
 done
 report 'config_reloader: what waits is not lost' $well
 
-cd conf || return
+cd conf || exit 1
 printf 'port = 80\n' >app.toml
 printf 'loaded\n  port = 80\n' >../wanted
 expect 'config_reloader: a file of the current folder' 0 ../wanted 'config_reloader: watching ./app.toml' "$reloader" app.toml --ticks 1

@@ -1,6 +1,9 @@
-# shellcheck shell=bash disable=SC2154
+#!/usr/bin/env bash
 # The document index of docs/examples, over a folder in which documents come, change and go.
-index=$top/crates/document_index/out/document_index
+. "$(dirname "$0")/../checks.sh" || exit 1
+expects 12
+
+index=$(program document_index)
 mkdir document_index && cd document_index || exit 1
 mkdir -p notes/old
 echo 'An event came.' >notes/a.txt

@@ -1,7 +1,10 @@
-# shellcheck shell=bash disable=SC2154
+#!/usr/bin/env bash
 # A watcher's errors under each program of docs/examples that goes on watching: said with the program's name, and
 # what changed meanwhile is seen once the path is there again.
-mkdir -p errors && cd errors || return
+. "$(dirname "$0")/../checks.sh" || exit 1
+expects 7
+
+mkdir -p errors && cd errors || exit 1
 
 # says FILE PATTERN: the file has such a line, within a minute. The index looks only when it is asked.
 says() {
@@ -14,7 +17,7 @@ says() {
 }
 
 for name in build_trigger change_journal config_reloader document_index; do
-    program=$top/crates/$name/out/$name
+    program=$(program "$name")
     rm -rf d l queries && mkdir -p d/x && ln -s d l && mkfifo queries
     echo 'port = 80' >d/x/f.toml
     place=l/x
@@ -39,7 +42,7 @@ done
 
 # An error that waits when the program ends is said too: after the first look there is only the last one.
 for name in build_trigger change_journal config_reloader; do
-    program=$top/crates/$name/out/$name
+    program=$(program "$name")
     place=l/x
     [ $name != config_reloader ] || place=l/x/f.toml
     rm -rf d l && mkdir -p d/x && ln -s d l && echo 'port = 80' >d/x/f.toml

@@ -1,6 +1,9 @@
-# shellcheck shell=bash disable=SC2154
+#!/usr/bin/env bash
 # The mirror of docs/examples, over a folder in which files come, change, change their kind and go.
-mirror=$top/crates/folder_mirror/out/folder_mirror
+. "$(dirname "$0")/../checks.sh" || exit 1
+expects 34
+
+mirror=$(program folder_mirror)
 mkdir folder_mirror && cd folder_mirror || exit 1
 mkdir -p from/lib to/lib/old elsewhere
 echo one >from/a

@@ -1,6 +1,9 @@
-# shellcheck shell=bash disable=SC2154
+#!/usr/bin/env bash
 # Several folders, in the two programs of docs/examples that take them: each is watched, and a missing one is named.
-mkdir folders && cd folders || return
+. "$(dirname "$0")/../checks.sh" || exit 1
+expects 15
+
+mkdir folders && cd folders || exit 1
 
 # says FILE PATTERN: the file has such a line, within a minute.
 says() {
@@ -13,7 +16,7 @@ says() {
 
 : >nothing
 for name in build_trigger change_journal; do
-    program=$top/crates/$name/out/$name
+    program=$(program "$name")
     rm -rf a b && mkdir -p a/inner b
     printf "$name: watching %s\n" a b/ >wanted
     case $name in
@@ -62,9 +65,8 @@ for name in build_trigger change_journal; do
 done
 
 # What stands there is told of each, by the journal that begins with it.
-journal=$top/crates/change_journal/out/change_journal
+journal=$(program change_journal)
 rm -rf a b && mkdir a b && : >a/x && : >b/y
 printf '%s\t%s\n' 'Create(Folder)' a 'Create(File)' a/x 'Create(Folder)' b 'Create(File)' b/y | LC_ALL=C sort >wanted
 "$journal" a b --initial --timeout 50 --seconds 1 >out 2>err
 report 'change_journal: what stands in two folders' "$([ $? = 0 ] && LC_ALL=C sort out | cmp -s - wanted && echo yes)"
-cd ..

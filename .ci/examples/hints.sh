@@ -1,8 +1,11 @@
-# shellcheck shell=bash disable=SC2154
+#!/usr/bin/env bash
 # The page docs/HINTS.md: programs that look each minute, and are told by hints where something changes. What they
 # show within two seconds after the last change comes of hints alone, and of the look that follows them.
-journal=$top/crates/change_journal/out/change_journal
-mirror=$top/crates/folder_mirror/out/folder_mirror
+. "$(dirname "$0")/../checks.sh" || exit 1
+expects 13
+
+journal=$(program change_journal)
+mirror=$(program folder_mirror)
 mkdir hints && cd hints || exit 1
 
 # begins FILE LINE: the line stands in the file, within a minute.
@@ -183,11 +186,11 @@ report 'hints: a folder is no file' "$([ $? = 0 ] && [ ! -s out ] && grep -qx 'c
 "$journal" input --hints - --ticks 2 </dev/null >out 2>err
 report 'hints: they end, and the journal goes on' "$([ $? = 0 ] && [ ! -s out ] && grep -qx 'change_journal: watching input' err && echo yes)"
 expect 'hints: queries have the input' 2 nothing 'document_index: hints cannot come by standard input' \
-    "$top/crates/document_index/out/document_index" input --hints -
+    "$(program document_index)" input --hints -
 well=no
 echo word >input/a
 (sleep 2 && echo more >input/b && timeout 20 sh -c 'echo input/b >pipe' && sleep 2 && echo more) |
-    timeout 100 "$top/crates/document_index/out/document_index" input --hints pipe --timeout 50 --interval 60000 >out 2>err &&
+    timeout 100 "$(program document_index)" input --hints pipe --timeout 50 --interval 60000 >out 2>err &&
     [ "$(head -n 1 out)" = input/b ] && well=yes
 report 'hints: of documents' $well
 
@@ -197,4 +200,3 @@ if command -v inotifywait >/dev/null; then
 else
     echo 'skipped: no inotifywait'
 fi
-cd ..

@@ -1,7 +1,10 @@
-# shellcheck shell=bash disable=SC2154
+#!/usr/bin/env bash
 # Names that are not UTF-8, and what lies too deep, under each program of docs/examples: it says once how many it
 # leaves out, and goes on.
-mkdir left_out && cd left_out || return
+. "$(dirname "$0")/../checks.sh" || exit 1
+expects 14
+
+mkdir left_out && cd left_out || exit 1
 
 # says FILE PATTERN: the file has such a line, within a minute. The index looks only when it is asked.
 says() {
@@ -30,7 +33,7 @@ ends() {
 }
 
 for name in build_trigger change_journal config_reloader document_index folder_mirror; do
-    program=$top/crates/$name/out/$name
+    program=$(program "$name")
     rm -rf d copy queries && mkdir -p d $'d/\xfe' && mkfifo queries
     # Below a folder that is left out nothing counts.
     : >$'d/\xff' && : >$'d/\xfe/\xfd'
@@ -66,7 +69,7 @@ done
 # A look goes 64 levels down: that something may lie deeper is said once. What comes at the last level is seen, and
 # nothing below it.
 for name in build_trigger change_journal document_index folder_mirror; do
-    program=$top/crates/$name/out/$name
+    program=$(program "$name")
     rm -rf d copy queries && mkfifo queries
     last=d
     for _ in $(seq 64); do last=$last/l; done
@@ -84,4 +87,3 @@ for name in build_trigger change_journal document_index folder_mirror; do
     ends && cmp -s err wanted && ! grep -qF 'f.toml' out || well=no
     report "$name: a folder that lies too deep is said once" $well
 done
-cd ..

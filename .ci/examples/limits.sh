@@ -1,6 +1,12 @@
-# shellcheck shell=bash disable=SC2154
+#!/usr/bin/env bash
 # The programs of docs/examples that find no memory or can start no thread: status 4 and 8, and the line that says so.
-mkdir limits && cd limits || return
+. "$(dirname "$0")/../checks.sh" || exit 1
+expects 9
+
+if is_trial; then
+    not_run 9 'a trial needs more memory' 'no memory and no threads for the programs of docs/examples'
+    exit
+fi
 
 # A folder of 10,000 files, whose listing takes 38 MB, since their paths are long.
 name=$(printf '%0180d' 0)
@@ -13,7 +19,9 @@ echo 'port = 80' >small/app.toml
 # limited NAME STATUS COMPLAINT STACK MEMORY WORD..: with stacks and memory of so many kilobytes the program prints
 # nothing, and ends so.
 limited() {
-    (ulimit -S -s "$4" && ulimit -v "$5" && exec "$top/crates/$1/out/$1" "${@:6}") >out 2>err </dev/null
+    local place
+    place=$(program "$1")
+    (ulimit -S -s "$4" && ulimit -v "$5" && exec "$place" "${@:6}") >out 2>err </dev/null
     [ $? = "$2" ] && [ ! -s out ] && [ "$(cat err)" = "$1: $3" ]
 }
 
@@ -32,4 +40,3 @@ for name in build_trigger change_journal config_reloader document_index folder_m
     [ $name = folder_mirror ] ||
         report "$name: no memory" "$(limited $name 4 'out of memory' 1000 30000 "${great[@]}" && echo yes)"
 done
-cd ..

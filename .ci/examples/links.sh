@@ -1,7 +1,10 @@
-# shellcheck shell=bash disable=SC2154
+#!/usr/bin/env bash
 # A folder that is named by a link, under each program of docs/examples: it is that to which the link leads, at each
 # look anew, and what is printed has the link's name. A link in the folder stays one.
-mkdir links && cd links || return
+. "$(dirname "$0")/../checks.sh" || exit 1
+expects 19
+
+mkdir links && cd links || exit 1
 
 # says FILE PATTERN: the file has such a line, within a minute. The index looks only when it is asked.
 says() {
@@ -34,7 +37,7 @@ ends() {
 }
 
 for name in change_journal build_trigger document_index; do
-    program=$top/crates/$name/out/$name
+    program=$(program "$name")
     case $name in
         change_journal) place='(Create|Remove)\((File|Any)\)	ln/' ;;
         build_trigger) place='	\./' ;;
@@ -48,13 +51,13 @@ for name in change_journal build_trigger document_index; do
     report "$name: a folder that is named by a link" $well
 done
 
-name=document_index program=$top/crates/document_index/out/document_index
+name=document_index program=$(program document_index)
 printf 'ln/%s\n' a deep/d z >wanted
 rm two/sub -r && ln -sfn two ln && "$program" ln --query hello >out 2>err
 report 'document_index: what stands where a link leads' "$(cmp -s out wanted && echo yes)"
 
 # A copy follows the link too, and loses nothing by it.
-name=folder_mirror program=$top/crates/folder_mirror/out/folder_mirror
+name=folder_mirror program=$(program folder_mirror)
 begins ln to --delete
 well=no
 says out 'copy ln/sub/b' && [ ! -e to/own ] && [ ! -e to/inner ] && ln -sfn two ln && says out 'copy ln/z' && says out 'remove ln/sub/b' &&
@@ -79,7 +82,7 @@ report 'folder_mirror: a link that leads to the copy' $well
 # A link that leads nowhere, or to itself, is not there.
 : >nothing
 for name in change_journal build_trigger document_index folder_mirror; do
-    program=$top/crates/$name/out/$name
+    program=$(program "$name")
     for target in gone ln; do
         rm -rf ln to && ln -s $target ln
         copy=() && [ $name != folder_mirror ] || copy=(to)
@@ -90,7 +93,7 @@ done
 
 # A file that is reached by links, as a cluster lays out configurations: a new folder is written beside the old one,
 # and a link to it is moved over the link to that. The new file may have the old one's length and time.
-name=config_reloader program=$top/crates/config_reloader/out/config_reloader
+name=config_reloader program=$(program config_reloader)
 # moves N: the link leads to the folder of this number.
 moves() {
     ln -s "v$1" conf/..next && mv -T conf/..next conf/..data
@@ -139,4 +142,3 @@ answered "$gone" && ln -s ..data/c.toml conf/c.toml && answered "$gone$first" &&
 kill $running
 wait $running 2>/dev/null
 report 'config_reloader: a link that comes later' $well
-cd ..

@@ -1,7 +1,10 @@
-# shellcheck shell=bash disable=SC2154
+#!/usr/bin/env bash
 # What is renamed is moved: in a mirror's copy by one rename, and in a journal by two fields. `is_copy` and `complains`
 # are those of folder_mirror.sh. A tick can fall between the events of one rename, which then is no move of one batch:
 # so each is tried up to three times.
+. "$(dirname "$0")/../checks.sh" || exit 1
+expects 3
+
 mkdir moves && cd moves || exit 1
 
 # has_line FILE LINE: the file has the line within a minute.
@@ -46,7 +49,7 @@ wait $running 2>/dev/null
 
 # A creation says where what was created was before.
 rm -rf from && mkdir -p from/lib && echo one >from/lib/a
-"$top/crates/change_journal/out/change_journal" from --timeout 50 --interval 10 --ticks 100000 >out 2>err &
+"$(program change_journal)" from --timeout 50 --interval 10 --ticks 100000 >out 2>err &
 running=$!
 well=no
 name=lib
@@ -64,4 +67,3 @@ done
 report 'change_journal: a creation says what was moved' $well
 kill $running
 wait $running 2>/dev/null
-cd ..

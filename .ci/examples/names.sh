@@ -1,11 +1,14 @@
-# shellcheck shell=bash disable=SC2154
+#!/usr/bin/env bash
 # Names with a tab, a line feed, a carriage return and a backslash, in each program of docs/examples that prints paths.
-mkdir -p names/from names/to && cd names || return
+. "$(dirname "$0")/../checks.sh" || exit 1
+expects 6
+
+mkdir -p names/from names/to && cd names || exit 1
 odd=($'a\tb' $'a\nb' $'a\rb' 'a\b')
 for name in "${odd[@]}"; do echo word >"from/$name"; done
 printf '%s\n' 'a\tb' 'a\nb' 'a\rb' 'a\\b' >fields
 
-journal=$top/crates/change_journal/out/change_journal
+journal=$(program change_journal)
 (printf 'Create(Folder)\tfrom\n' && sed 's,^,Create(File)\tfrom/,' fields) >wanted
 expect 'names in a journal' 0 wanted 'change_journal: watching from' "$journal" from --initial --timeout 50 --seconds 1
 (printf 'from\0' && printf 'from/%s\0' "${odd[@]}") >wanted
@@ -16,15 +19,15 @@ report 'names in a journal in JSON' "$(cmp -s got wanted && [ "$(wc -l <out)" = 
 
 sed 's,^,copy from/,' fields >wanted
 expect 'names in a mirror' 0 wanted 'folder_mirror: watching from' \
-    "$top/crates/folder_mirror/out/folder_mirror" from to --dry-run --timeout 50 --ticks 4
+    "$(program folder_mirror)" from to --dry-run --timeout 50 --ticks 4
 sed 's,^,from/,' fields >wanted
 expect 'names in an index' 0 wanted 'document_index: watching from' \
-    "$top/crates/document_index/out/document_index" from --query word
+    "$(program document_index)" from --query word
 
 # Each of the four is created once more after the trigger has begun, so it is in one line or in several.
 mkdir built
 : >err
-"$top/crates/build_trigger/out/build_trigger" built --quiet 100 --timeout 50 --interval 10 --seconds 60 >out 2>err &
+"$(program build_trigger)" built --quiet 100 --timeout 50 --interval 10 --seconds 60 >out 2>err &
 running=$!
 for _ in $(seq 600); do ! grep -q watching err || break; sleep 0.1; done
 for name in "${odd[@]}"; do : >"built/$name"; done

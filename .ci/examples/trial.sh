@@ -1,6 +1,9 @@
-# shellcheck shell=bash disable=SC2154
+#!/usr/bin/env bash
 # scripts/trial, in a repository with one small program, which is kept and run: from any folder, in a pipe, with its status.
-mkdir trial && cd trial || return
+. "$(dirname "$0")/../checks.sh" || exit 1
+expects 5
+
+mkdir trial && cd trial || exit 1
 here=$PWD
 mkdir -p small/crates/tiny/src small/crates/wrong/src kept
 printf 'tiny:\nwrong:\n' >small/crates.txt

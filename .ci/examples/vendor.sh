@@ -1,5 +1,8 @@
-# shellcheck shell=bash disable=SC2154
+#!/usr/bin/env bash
 # A program of another repository, over the crates that scripts/vendor copies: the toolchain's trial runs it.
+. "$(dirname "$0")/../checks.sh" || exit 1
+expects 5
+
 printf '%s\n' 'vendor: no crate nothing' >wanted
 "$top/scripts/vendor" elsewhere nothing >out 2>err
 report 'no crate of that name is copied' "$([ $? = 2 ] && [ ! -s out ] && [ ! -e elsewhere ] && cmp -s err wanted && echo yes)"
@@ -113,7 +116,7 @@ shut() {
         [ "$(grep -cxF 'keeper: not all could be done' "$1.err")" = "$3" ]
 }
 export -f keeps keep shut
-mkdir -m 777 shut && cp keeper keeper.program shut && cd shut || return
+mkdir -m 777 shut && cp keeper keeper.program shut && cd shut || exit 1
 report "the tutorial's keeper of a folder that is closed until the end" "$(as_user bash -c 'shut lasts 000 1' && echo yes)"
 report "the tutorial's keeper of a folder that is closed for a while" "$(as_user bash -c 'shut ends 755 0' && echo yes)"
 chmod -R u+rwx lasts ends && cd ..

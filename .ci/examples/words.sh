@@ -1,6 +1,9 @@
-# shellcheck shell=bash disable=SC2154
+#!/usr/bin/env bash
 # The words of the five programs of docs/examples: what --help and --version say, and what isn't taken.
-mkdir -p words/watched words/copy && cd words || return
+. "$(dirname "$0")/../checks.sh" || exit 1
+expects 49
+
+mkdir -p words/watched words/copy && cd words || exit 1
 echo 'port = 80' >watched/app.toml
 
 # is_refused WORD..: the program ends with status 2, prints nothing, and says something on standard error.
@@ -10,7 +13,7 @@ is_refused() {
 }
 
 for name in build_trigger change_journal config_reloader document_index folder_mirror; do
-    program=$top/crates/$name/out/$name
+    program=$(program "$name")
     places=(watched)
     shown=(DIR)
     own=()
