@@ -1,32 +1,10 @@
 #!/usr/bin/env bash
-# check_c.sh: builds the C library over what `rt ci` left, and its users in C, C++, Rust and Python, and runs them. What
-# has no compiler here is 'not run', which is said and counts for neither. The last line is 'N passed, M failed'.
-top=$(cd "$(dirname "$0")/.." && pwd) || exit 1
-built=${1:+$(realpath "$1")}
-room=$(mktemp -d) || exit 1
-trap 'rm -rf "$room"' EXIT
-cd "$room" || exit 1
-passed=0
-failed=0
+# check_c.sh: builds the C library over what the gate left, or takes that of the folder NDF_LIBRARY, and its users in C, C++,
+# Rust and Python, and runs them. What has no compiler here is not run, which is counted.
+. "$(dirname "$0")/checks.sh" || exit 1
+expects 22
 sanitizers='-g -fsanitize=address,undefined -fno-sanitize-recover=all'
 warnings='-Wall -Wextra -Werror'
-
-# check NAME COMMAND..: the command ends with status 0.
-check() {
-    local name=$1
-    shift
-    if "$@" >said 2>&1; then
-        passed=$((passed + 1))
-    else
-        failed=$((failed + 1))
-        echo "FAILED: $name"
-        tail -n 20 said
-    fi
-}
-
-has() {
-    command -v "$1" >/dev/null || { echo "$1 is not here: what it builds is not run"; return 1; }
-}
 
 # played FILE: the paths of a reader who plays the lines of a journal.
 played() {
@@ -61,54 +39,66 @@ churn() {
     return 0
 }
 
+# watches COMMAND..: the command watches the folder tree, with its journal in the file of that name, until `ends`.
+watches() {
+    rm -rf tree held && mkdir tree && mkfifo held && : >watching
+    "$@" tree >journal 2>watching <held &
+    journal=$!
+    exec 3<>held
+    within 60 said_or_gone && ! is_gone $journal
+}
+
+said_or_gone() {
+    grep -q watching watching || is_gone $journal
+}
+
+# ends: its input ends, and it ends with status 0, which the sanitizers let it only if they found nothing.
+ends() {
+    exec 3>&-
+    timeout 60 tail --pid=$journal -f /dev/null || kill $journal
+    wait $journal || { echo "status $?" && cat watching && return 1; }
+}
+
 # follows COMMAND..: a journal of a folder that changes, by which a reader has its paths at the end; three times, or
 # as CHURNS says.
 follows() {
-    local turn journal
+    local turn
     for turn in $(seq "${CHURNS:-3}"); do
-        rm -rf tree held && mkdir tree && mkfifo held
-        "$@" tree >journal 2>watching <held &
-        journal=$!
-        exec 3>held
-        until grep -q watching watching; do sleep 0.02; done
-        churn tree "$turn"
-        sleep 0.2
-        exec 3>&-
-        wait $journal || return 1
+        watches "$@" && churn tree "$turn" && sleep 0.2
+        ends || return 1
         find tree -mindepth 1 | LC_ALL=C sort >there
         played journal | cmp - there || { diff <(played journal) there; return 1; }
     done
 }
 
-# story COMMAND..: what is printed of a file that is made, written, renamed and removed.
-story() {
-    rm -rf tree held && mkdir tree && mkfifo held
-    "$@" tree >journal 2>watching <held &
-    local journal=$!
-    exec 3>held
-    until grep -q watching watching; do sleep 0.02; done
-    mkdir tree/notes
-    sleep 0.3
-    echo text >"tree/notes/a	b.txt"
-    sleep 0.3
-    mv "tree/notes/a	b.txt" tree/c.txt
-    sleep 0.3
-    rm -r tree/notes
-    exec 3>&-
-    wait $journal
+# tells LINES COMMAND..: these lines are what is printed of a file that is made, written, renamed and removed.
+tells() {
+    local lines=$1
+    shift
+    if watches "$@"; then
+        mkdir tree/notes
+        sleep 0.3
+        echo text >"tree/notes/a	b.txt"
+        sleep 0.3
+        mv "tree/notes/a	b.txt" tree/c.txt
+        sleep 0.3
+        rm -r tree/notes
+    fi
+    ends && diff journal - <<<"$lines"
 }
 
 same_layout() {
     cmp layout.records "$1" || { diff layout.records "$1"; return 1; }
 }
 
-if [ "$built" ]; then
-    cp "$built"/lib* .
+if [ "$NDF_LIBRARY" ]; then
+    check 'the library is built' within 900 is_made "$NDF_LIBRARY"
+    cp "$NDF_LIBRARY"/lib* .
 else
     check 'the library is built' "$top/scripts/c_library" "$room"
 fi
 if [ ! -e libdebounce_c.a ]; then
-    echo "$passed passed, $failed failed"
+    echo 'FAILED: without the library nothing of it is run'
     exit 1
 fi
 # The records as the proved crate has them: a field lies at the next multiple of its size, as C has it.
@@ -139,26 +129,27 @@ if has gcc; then
       sed -n '/^```c$/,/^```$/p' "$top/docs/C.md" | sed '/^```/d'
       echo '}'; } >page.c
     check 'the calls on the page' sh -c "gcc -std=c11 $warnings $sanitizers -I'$top/c' page.c libndf.a -o page && ./page"
+    # shellcheck disable=SC2086
     check 'watch.c is built' gcc -std=gnu11 -O2 $warnings $sanitizers -I"$top/c" "$top/c/watch.c" libndf.a -o watch
-    if [ -e watch ]; then
-        story ./watch --timeout 40 --until-eof
-        check 'watch.c prints what happens' cmp journal <(printf '%s\n' 'Create(Folder)	tree/notes' \
-            'Create(File)	tree/notes/a\tb.txt' 'Remove(File)	tree/notes/a\tb.txt' 'Create(File)	tree/c.txt' \
-            'Remove(Folder)	tree/notes')
-        story ./watch --timeout 40 --until-eof --renames
-        check 'watch.c joins renames' cmp journal <(printf '%s\n' 'Create(Folder)	tree/notes' \
-            'Create(File)	tree/notes/a\tb.txt' 'Modify(Name(Both))	tree/notes/a\tb.txt	tree/c.txt' \
-            'Remove(Folder)	tree/notes')
-        check 'a reader of watch.c has the paths of the folder' follows ./watch --timeout 30 --until-eof
-    fi
+    check 'watch.c prints what happens' tells "$(printf '%s\n' 'Create(Folder)	tree/notes' \
+        'Create(File)	tree/notes/a\tb.txt' 'Remove(File)	tree/notes/a\tb.txt' 'Create(File)	tree/c.txt' \
+        'Remove(Folder)	tree/notes')" ./watch --timeout 40 --until-eof
+    check 'watch.c joins renames' tells "$(printf '%s\n' 'Create(Folder)	tree/notes' \
+        'Create(File)	tree/notes/a\tb.txt' 'Modify(Name(Both))	tree/notes/a\tb.txt	tree/c.txt' \
+        'Remove(Folder)	tree/notes')" ./watch --timeout 40 --until-eof --renames
+    check 'a reader of watch.c has the paths of the folder' follows ./watch --timeout 30 --until-eof
+else
+    not_run 9 'no gcc' 'users in C'
 fi
 if has g++; then
     check 'the class of C++' sh -c "g++ -std=c++17 $warnings $sanitizers -I'$top/c' -c '$top/c/test/wrapper.cpp' -o wrapper.o &&
         g++ $sanitizers wrapper.o libndf.a -o wrapper && ./wrapper"
+else
+    not_run 1 'no g++' 'the class of C++'
 fi
-if has python3 && [ -e libndf.so ]; then
+if has python3; then
     export NDF_SO=$room/libndf.so PYTHONPATH=$top/python PYTHONDONTWRITEBYTECODE=1
-    program=$top/crates/mirror/out/mirror
+    program=$(program mirror)
     [ -x "$program" ] || program=-
     check 'the worked cases through the library' python3 "$top/python/play.py" --cases "$program" \
         "$top/crates/worked_cases/data/CASES.md" "$top/crates/worked_cases/data/STORIES.md"
@@ -166,11 +157,15 @@ if has python3 && [ -e libndf.so ]; then
     if [ "$program" != - ]; then
         check 'random scripts through the library' python3 "$top/python/play.py" --random "$program" 1 300
         cat said
+    else
+        not_run 1 "mirror isn't built" 'random scripts through the library'
     fi
     check 'the class of Python' python3 "$top/python/test_ndf.py"
     check 'file numbers as the Rust crate has them' python3 "$top/python/test_numbers.py"
     check 'the records lie in Python as in the library' sh -c "python3 '$top/python/layout.py' >layout.python"
     check 'the records of Python are those of the library' same_layout layout.python
+else
+    not_run 6 'no python3' 'users in Python'
 fi
 if has cargo; then
     export NDF_LIB=$room CARGO_TARGET_DIR=$room/target
@@ -179,10 +174,8 @@ if has cargo; then
         --bins --examples
     check 'the records lie in Rust as in the library' sh -c 'target/release/examples/layout >layout.rust'
     check 'the records of Rust are those of the library' same_layout layout.rust
-    if [ -e target/release/watch ]; then
-        check 'a reader of the Rust watch has the paths of the folder' follows target/release/watch --timeout 30 \
-            --until-eof
-    fi
+    check 'a reader of the Rust watch has the paths of the folder' follows target/release/watch --timeout 30 \
+        --until-eof
+else
+    not_run 5 'no cargo' 'users in Rust'
 fi
-echo "$passed passed, $failed failed"
-[ $failed = 0 ]

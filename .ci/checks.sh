@@ -4,10 +4,10 @@
 # is neither made nor said to be left out has failed, so a script that ends early, or can't be read, passes nothing.
 #
 # NDF_PROGRAMS is a folder with the programs, each under its crate's name; else they are those of crates/*/out, which
-# the gate proved. NDF_TRIAL is yes if they are trials: compiled with checks, slower, and in need of more memory.
+# the gate proved. NDF_TRIAL is yes if all are trials: compiled with checks, slower, and in need of more memory.
 top=$(cd "$(dirname "${BASH_SOURCE[0]}")/.." && pwd) || exit 1
 toolchain=$(command -v rt)
-room=$(mktemp -d) && cd "$room" || exit 1
+room=$(mktemp -d) && chmod 711 "$room" && cd "$room" || exit 1
 wanted_checks=
 passed=0
 failed=0
@@ -20,15 +20,17 @@ trap finish EXIT
 
 # program NAME: where the crate's program is. A trial of it may still be on its way.
 program() {
-    local place=$top/crates/$1/out/$1
-    [ -z "$NDF_PROGRAMS" ] || place=$NDF_PROGRAMS/$1
-    ! is_trial || within 900 is_made "$place"
-    echo "$place"
+    if [ "$NDF_PROGRAMS" ]; then
+        within 900 is_made "$NDF_PROGRAMS/$1"
+        echo "$NDF_PROGRAMS/$1"
+    else
+        echo "$top/crates/$1/out/$1"
+    fi
 }
 
-# is_made PROGRAM: the trial is there, or was refused.
+# is_made PROGRAM: it is there, or was refused, or is a link to one that isn't there.
 is_made() {
-    [ -e "$1" ] || [ -e "$1.refused" ]
+    [ -e "$1" ] || [ -e "$1.refused" ] || [ -L "$1" ]
 }
 
 # expects N: the script has so many checks, with those that are not run.
@@ -165,8 +167,11 @@ side_by_side() {
         while [ "$(jobs -rp | wc -l)" -ge "$lanes" ]; do wait -n; done
         {
             SECONDS=0
+            trap 'kill $running' TERM
             # shellcheck disable=SC2086
-            cd "$top" && timeout -k 10 "$limit" bash $script >"$said/$number" 2>&1 </dev/null
+            cd "$top" && timeout -k 10 "$limit" bash $script >"$said/$number" 2>&1 </dev/null &
+            running=$!
+            wait $running
             echo "$? $SECONDS" >"$said/$number.status"
         } &
     done

@@ -119,19 +119,15 @@ while [ ! -s status ] && [ $number -lt 1200 ]; do
 done
 report 'the reader of a journal is gone' "$([ "$(cat status)" = 6 ] && ! complains err && [ "$(wc -l <out)" = 1 ] && echo yes)"
 
-# What waits when the life is over is printed, each once and in order: nothing is as old as a minute then. Files
-# are made from the moment on at which the journal says that it watches, until it has ended.
+# What waits when the life is over is printed, each once and in order: nothing is as old as a minute then. Fifty files
+# are made after the journal has said that it watches, one by one, within its ten seconds.
+mkdir late
+: >err
+"$journal" --timeout 60000 --interval 20 --seconds 10 late >out 2>err &
+running=$!
 well=no
-for _ in 1 2 3; do
-    rm -rf late && mkdir late && number=1000
-    "$journal" --timeout 60000 --interval 20 --seconds 2 late >out 2>err &
-    watches err late || break
-    while kill -0 $! 2>/dev/null && [ $number -lt 5000 ]; do
-        number=$((number + 1))
-        : >"late/$number" && sleep 0.02
-    done
-    wait $! || break
-    sed 's,^Create(File)\tlate/,,' out >got
-    [ -s got ] && ! complains err && seq 1001 "$(tail -n 1 got)" | cmp -s - got && well=yes && break
+watches err late && for number in $(seq 1001 1050); do
+    : >"late/$number" && sleep 0.02
 done
+wait $running && ! complains err && sed 's,^Create(File)\tlate/,,' out | cmp -s - <(seq 1001 1050) && well=yes
 report 'what waits when a journal ends' $well

@@ -263,19 +263,18 @@ report 'folder_mirror: a link is not followed, and what failed is tried again' $
 kill $running
 wait $running 2>/dev/null
 
-# What waits when the ticks are over is followed: no change gets as old as this timeout. A slow machine may
-# look too late, so this is tried three times at most.
+# What waits when the ticks are over is followed: no change gets as old as this timeout. The files are made after the mirror has
+# said that it watches, within the ten seconds of these ticks.
+rm -rf from to && mkdir from
+: >err
+"$mirror" from to --timeout 90000000 --interval 10 --ticks 40 >out 2>err &
+running=$!
 well=no
-for _ in 1 2 3; do
-    rm -rf from to && mkdir from
-    "$mirror" from to --timeout 90000000 --interval 10 --ticks 12 >out 2>err &
-    running=$!
-    for n in $(seq 100 130); do
-        : >"from/$n"
-        sleep 0.03
-    done
-    wait $running && ! complains && is_copy && well=yes && break
+follows from && for n in $(seq 100 130); do
+    : >"from/$n"
+    sleep 0.03
 done
+wait $running && ! complains && is_copy && well=yes
 report 'folder_mirror: what waits is not lost' $well
 
 rm -rf to

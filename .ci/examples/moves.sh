@@ -1,69 +1,65 @@
 #!/usr/bin/env bash
-# What is renamed is moved: in a mirror's copy by one rename, and in a journal by two fields. `is_copy` and `complains`
-# are those of folder_mirror.sh. A tick can fall between the events of one rename, which then is no move of one batch:
-# so each is tried up to three times.
+# What is renamed is moved: in a mirror's copy by one rename, and in a journal by two fields. A tick can fall between the
+# events of one rename, which then is no move of one batch: they come within milliseconds, and a tick each quarter of a second.
 . "$(dirname "$0")/../checks.sh" || exit 1
 expects 3
+mirror=$(program folder_mirror)
 
-mkdir moves && cd moves || exit 1
-
-# has_line FILE LINE: the file has the line within a minute.
+# has_line FILE LINE: the file has the line.
 has_line() {
-    for _ in $(seq 600); do
-        ! grep -qxF -- "$2" "$1" || return 0
-        sleep 0.1
-    done
-    false
+    grep -qxF -- "$2" "$1"
+}
+
+# complains: it has said something besides.
+complains() {
+    grep -qvF 'folder_mirror: watching ' err
+}
+
+# is_copy: TO is a copy of FROM.
+is_copy() {
+    diff -r from to >/dev/null 2>&1
 }
 
 # A folder of 1,000 files that is renamed is one rename, and nothing of it is copied.
 mkdir -p from/many
 for number in $(seq 1000); do head -c 20000 /dev/zero >"from/many/file$number"; done
-"$mirror" from to --timeout 50 --interval 10 --ticks 100000 >out 2>err &
+: >err
+"$mirror" from to --timeout 1000 --interval 10 --ticks 100000 >out 2>err &
 running=$!
 well=no
-name=many
-has_line err 'folder_mirror: watching from' && is_copy && for next in one two three; do
+if within 60 has_line err 'folder_mirror: watching from' && within 60 is_copy; then
     cp out before
-    number=$(stat -c %i "to/$name" "to/$name/file7")
+    number=$(stat -c %i to/many to/many/file7)
     sleep 2
-    mv "from/$name" "from/$next" && is_copy && [ "$(stat -c %i "to/$next" "to/$next/file7")" = "$number" ] &&
-        [ "$(tail -n +$(($(wc -l <before) + 1)) out)" = "$(printf 'move from/%s\tfrom/%s' "$name" "$next")" ] &&
-        ! complains && well=yes
-    name=$next
-    [ $well = no ] || break
-done
+    mv from/many from/one && within 60 is_copy && [ "$(stat -c %i to/one to/one/file7)" = "$number" ] &&
+        [ "$(tail -n +$(($(wc -l <before) + 1)) out)" = $'move from/many\tfrom/one' ] && ! complains && well=yes
+fi
 report 'folder_mirror: a folder that is renamed is moved' $well
 
 # What the copy has of its own stays where it is.
+keeps_own() {
+    diff -r from/last to/last >/dev/null 2>&1 && [ "$(ls -A to/one)" = own ] && [ "$(cat to/one/own)" = own ]
+}
 well=no
-echo own >"to/$name/own" && mv "from/$name" from/last
-for _ in $(seq 600); do
-    diff -r from/last to/last >/dev/null 2>&1 && [ "$(ls -A "to/$name")" = own ] && [ "$(cat "to/$name/own")" = own ] &&
-        well=yes && break
-    sleep 0.1
-done
+echo own >to/one/own && mv from/one from/last && within 60 keeps_own && well=yes
 report 'folder_mirror: what a copy has of its own is not moved' $well
 kill $running
 wait $running 2>/dev/null
 
 # A creation says where what was created was before.
 rm -rf from && mkdir -p from/lib && echo one >from/lib/a
-"$(program change_journal)" from --timeout 50 --interval 10 --ticks 100000 >out 2>err &
+: >err
+"$(program change_journal)" from --timeout 1000 --interval 10 --ticks 100000 >out 2>err &
 running=$!
+# tells: the journal has told of the rename.
+tells() {
+    [ "$(wc -l <out)" -ge 3 ]
+}
+printf 'Create(File)\tfrom/one/a\tmoved from\tfrom/lib/a\n%s\n%s\n' $'Create(Folder)\tfrom/one\tmoved from\tfrom/lib' \
+    $'Remove(Folder)\tfrom/lib' >wanted
 well=no
-name=lib
-has_line err 'change_journal: watching from' && for next in one two three; do
-    lines=$(wc -l <out)
-    sleep 2
-    mv "from/$name" "from/$next"
-    for _ in $(seq 600); do [ "$(wc -l <out)" -lt $((lines + 3)) ] || break; sleep 0.1; done
-    [ "$(tail -n +$((lines + 1)) out | LC_ALL=C sort)" = "$(printf 'Create(File)\tfrom/%s/a\tmoved from\tfrom/%s/a\n' "$next" "$name"
-        printf 'Create(Folder)\tfrom/%s\tmoved from\tfrom/%s\n' "$next" "$name"
-        printf 'Remove(Folder)\tfrom/%s' "$name")" ] && well=yes
-    name=$next
-    [ $well = no ] || break
-done
+within 60 has_line err 'change_journal: watching from' && sleep 2 && mv from/lib from/one && within 60 tells &&
+    LC_ALL=C sort out | cmp -s - wanted && well=yes
 report 'change_journal: a creation says what was moved' $well
 kill $running
 wait $running 2>/dev/null
