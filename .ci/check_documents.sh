@@ -1,15 +1,17 @@
 #!/usr/bin/env bash
 # check_documents.sh: what the pages name is there, what they quote is the code's and the program's own,
-# and scripts write the pages that they are to write. It builds nothing. Last line: 'N passed, M failed'.
-cd "$(dirname "$0")/.." && room=$(mktemp -d) || exit 1
-trap 'rm -rf "$room"' EXIT
-passed=0 failed=0
+# and scripts write the pages that they are to write. It builds nothing.
+. "$(dirname "$0")/checks.sh" || exit 1
+cd "$top" || exit 1
+pages=(README.md docs/*.md docs/examples/*.md)
+kinds=(links names pointers sections blocks)
+expects $((${#pages[@]} * ${#kinds[@]} + 6))
 
 # check NAME COMMAND..: the command prints nothing. What it prints is what is wrong.
 check() {
     "${@:2}" >"$room/wrong" 2>&1
-    [ -s "$room/wrong" ] || { passed=$((passed + 1)) && return; }
-    failed=$((failed + 1)) && echo "FAILED: $1" && sed 's/^/    /' "$room/wrong"
+    [ ! -s "$room/wrong" ] && count yes "$1" && return
+    count no "$1" && sed 's/^/    /' "$room/wrong"
 }
 
 squeezed() { tr -s ' \n' ' ' | sed 's/^ //; s/ $//'; }
@@ -191,8 +193,8 @@ widths() {
     grep '^crates/.*\.rt$' "$room/files" | xargs grep -nE '^.{101}' | grep -vE ':[0-9]+: *(//|ghost use |use |#\[tactic|")'
 }
 
-for page in README.md docs/*.md docs/examples/*.md; do
-    for kind in links names pointers sections blocks; do check "$page: $kind" $kind "$page"; done
+for page in "${pages[@]}"; do
+    for kind in "${kinds[@]}"; do check "$page: $kind" $kind "$page"; done
 done
 check 'what the scripts of contracts and lemmas print' printed
 check 'crates, labels and definitions' rows
@@ -200,5 +202,3 @@ check 'wrong bodies' bodies
 check 'the ways of an event and a tick' ways
 check 'widths of code and proofs' widths
 check 'lengths, and the script of the README' facts
-echo "$passed passed, $failed failed"
-[ $failed = 0 ]

@@ -167,7 +167,7 @@ def check(program, documents):
         for section in sections:
             name, *blocks = section.split("\n```\n")
             name = name.splitlines()[0]
-            # A script that is at fault is .ci/check_program.sh's, one whose events are sorted as they stand the
+            # A script that is at fault is .ci/programs/mirror.sh's, one whose events are sorted as they stand the
             # crate's own.
             if not blocks or "not a command" in section or (len(blocks) > 2 and "prints" not in blocks[1]):
                 continue

@@ -71,6 +71,7 @@ grep -v 'watched/end' json | sed 's/"seq":[0-9]*,"time":[0-9]*/"seq":N,"time":T/
 cmp -s got wanted && cmp -s <(grep -o '"seq":[0-9]*' json) <(seq -f '"seq":%.0f' "$(wc -l <json)") || well=no
 report 'a journal in JSON' $well
 # Each line says when its batch came, by the wall clock: while the journal ran, and none before the one above it.
+if has python3; then
 report 'the time of day in a journal' "$(python3 - "$begun" "$(date +%s%N)" <<'END'
 import calendar, json, re, sys, time
 
@@ -83,6 +84,9 @@ moments.append(int(sys.argv[2]))
 print("yes" if len(moments) > 5 and moments == sorted(moments) else moments)
 END
 )"
+else
+    not_run 1 'no python3' 'the time of day in a journal'
+fi
 printf 'watched/%s\0' a.txt notes $'two\tnames' notes >wanted
 grep -zv 'watched/end' zero >got
 cmp -s got wanted || well=no

@@ -4,6 +4,7 @@
 . "$(dirname "$0")/../checks.sh" || exit 1
 expects 9
 
+has_user || { not_run 9 'no setpriv' 'what permission closes'; exit; }
 mkdir closed && cd closed || exit 1
 cat >closed.sh <<'STORIES'
 # waits COMMAND..: it succeeds within a minute.

@@ -186,7 +186,7 @@ shut() {
     mkdir -p from/sub && echo one >from/a && chmod "$1" from/sub && mkfifo input || return 1
     ./folder_mirror from to --timeout 50 --interval 10 --until-eof <input >out 2>err &
     exec 5>input
-    waits test -d to/sub && waits test -e to/a && sleep 2 || return 1
+    waits test -d to/sub && waits test -e to/a && waits grep -qF from/sub err && sleep 2 || return 1
     exec 5>&-
     wait $!
     [ $? = 1 ] && [ "$(grep -F from/sub err)" = 'folder_mirror: cannot look at from/sub: permission denied' ]
@@ -199,13 +199,18 @@ stuck() {
     [ $? = 1 ] && grep -qF 'cannot copy from/lib: ' err && [ "$(ls -A to)" = lib ] && [ -e to/lib/own ]
 }
 
-mkdir room && cp folder_mirror room && cd room && "$@"
+mkdir room && cp folder_mirror room && cd room || exit 1
+"$@" && exit
+cat err
+exit 1
 STORIES
 mkdir -m 777 open && cp "$mirror" closed.sh open && chmod 755 open/folder_mirror && cd open || exit 1
-for story in 'closed from/sub 000 1' 'closed from 000 1' 'closed from 300 0' 'closed from/sub 300 1' \
+has_user || not_run 8 'no setpriv' 'folder_mirror: what permission closes'
+! has_user || for story in 'closed from/sub 000 1' 'closed from 000 1' 'closed from 300 0' 'closed from/sub 300 1' \
     'closed from/sub 000 0' 'shut 000' 'shut 300' stuck; do
     # shellcheck disable=SC2086
-    report "folder_mirror: $story" "$(as_user bash closed.sh $story && echo yes)"
+    report "folder_mirror: $story" "$(as_user bash closed.sh $story >said && echo yes)"
+    cat said
     chmod -R u+rwx room
     rm -r room
 done

@@ -1,6 +1,6 @@
 //! Tests of what no clause says: how often memory is asked for, file numbers that a scan finds, folders in
 //! memory that fail, real folders through a system that fails, and a watcher that polls. The worked cases that a script can say stand in the crate
-//! `worked_cases`, real folders that are watched in .ci/check_program.sh.
+//! `worked_cases`, real folders that are watched in .ci/programs/watched.sh.
 #![tactic(auto)]
 
 #[cfg(test)]
