@@ -1,6 +1,7 @@
 //! The program `worked_cases`: it runs each script of some documents, and says which of them print and show
 //! what their document says; and it runs each again and again, while one request for memory, read, write
-//! or flush after the other goes wrong. `worked_cases DOCUMENT..`.
+//! or flush after the other goes wrong. `worked_cases DOCUMENT..`. Or it compares answers of the Rust crate:
+//! `worked_cases --answers FILE..`.
 //!
 //! For each script it prints `ok` and which of its commands, counted from 1, ask a debouncer without a
 //! cache for no memory; to each script it adds `errors` and a `tick` at the greatest moment. Otherwise it
@@ -8,6 +9,7 @@
 //! named, and with 2 if a document can't be read, memory is out or the output fails.
 #![tactic(auto)]
 
+mod answers;
 mod calls;
 mod case;
 mod devices;
@@ -117,12 +119,26 @@ fn check_documents(rt: &HostRuntime, names: &[String]) -> io::Result<bool> {
     Ok(all_met)
 }
 
+/// Compares the answers of each file, and returns whether all are the same.
+fn compare_files(rt: &HostRuntime, names: &[String]) -> io::Result<bool> {
+    let mut all_same = true;
+    for name in names {
+        let file = fs::read_to_string(rt, name.as_str())?;
+        let same = answers::compare(rt.alloc(), file.as_str(), &mut rt.stdout())?;
+        all_same = all_same && same;
+    }
+    Ok(all_same)
+}
+
 fn run(rt: &HostRuntime) -> io::Result<bool> {
     let words: Vec<String> = env::args(rt)?.collect(rt.alloc())?;
     match words.as_slice() {
+        [_, form, names @ ..] if form.as_str() == "--answers" && !names.is_empty() => {
+            compare_files(rt, names)
+        }
         [_, names @ ..] if !names.is_empty() => check_documents(rt, names),
         _ => {
-            rt.eprintln("usage: worked_cases DOCUMENT..")?;
+            rt.eprintln("usage: worked_cases DOCUMENT.. | --answers FILE..")?;
             Ok(false)
         }
     }
