@@ -21,6 +21,10 @@
 extern "C" {
 #endif
 
+/* The version of this header: 10000 times the first number, 100 times the second, and the third. A program and a
+ * library that differ in it don't go together: ndf_version says which one the library has. */
+#define NDF_VERSION 200
+
 /* What holds a debouncer, or none: all zeros. Only the calls below change it. It is never copied, only one call
  * at a time has it, and it stays on the thread that made it. */
 typedef struct ndf_handle {
@@ -197,6 +201,9 @@ typedef struct ndf_totals {
 /* Below, a text is a pointer that is never NULL and a length: pass "" and 0 for none. It is read during the call
  * alone. A path is UTF-8; only its parts count, so "/a//b/" is "/a/b". The library owns nothing of the caller's,
  * and the caller nothing of the library's but the handle. */
+
+/* NDF_VERSION of the header that the library was made with. */
+uint32_t ndf_version(void);
 
 /* Makes a debouncer that waits for nothing and emits an event once it is as old as the timeout. What the handle
  * held is freed; on another code it is still held.
