@@ -51,16 +51,22 @@ struct entry {
 
 class debouncer {
 public:
-    // It emits an event once it is as old as the timeout.
+    // It emits an event once it is as old as the timeout; a negative one is std::invalid_argument.
     explicit debouncer(std::chrono::nanoseconds timeout) { done(ndf_new(&handle, nanos(timeout))); }
 
     debouncer(const debouncer &) = delete;
     debouncer &operator=(const debouncer &) = delete;
 
     // What was moved from holds no debouncer: its calls throw `refused` with NDF_EMPTY.
-    debouncer(debouncer &&other) noexcept : handle(std::exchange(other.handle, ndf_handle NDF_NONE)) {}
+    debouncer(debouncer &&other) noexcept
+        : handle(std::exchange(other.handle, ndf_handle NDF_NONE)), room(std::move(other.room)),
+          handed_out(std::move(other.handed_out)) {}
     debouncer &operator=(debouncer &&other) noexcept {
-        std::swap(handle, other.handle);
+        if (this == &other) return *this;
+        ndf_free(&handle);
+        handle = std::exchange(other.handle, ndf_handle NDF_NONE);
+        room = std::move(other.room);
+        handed_out = std::move(other.handed_out);
         return *this;
     }
     ~debouncer() { ndf_free(&handle); }
@@ -121,20 +127,18 @@ public:
         return count;
     }
 
-    // The next event of the batch; none if all were read.
+    // The next event of the batch; none if all were read. After std::bad_alloc it can be read again.
     std::optional<event> next() {
-        return event_of([&](ndf_told &told) { return ndf_next(&handle, &told, room.data(), room.size()); });
+        return event_of([&](ndf_told &told, std::size_t size) { return ndf_next(&handle, &told, room.data(), size); });
     }
 
-    // The errors that were kept, which are kept no longer.
+    // The errors that were kept, which are kept no longer. After std::bad_alloc a later call returns them.
     std::vector<error> errors() {
+        read_errors();
         std::size_t count = 0;
         done(ndf_errors(&handle, &count));
-        std::vector<error> all;
-        while (auto one = error_of(
-                   [&](ndf_told_error &told) { return ndf_next_error(&handle, &told, room.data(), room.size()); }))
-            all.push_back(std::move(*one));
-        return all;
+        read_errors();
+        return std::exchange(handed_out, {});
     }
 
     // A journal begins, or none is kept any longer; what was kept before is dropped.
@@ -148,12 +152,12 @@ public:
             while (!is_told(ndf_entry(&handle, i, &one.told, room.data(), room.size()), one.told.path)) {}
             one.path = room.substr(0, one.told.path);
             for (std::size_t j = 0; j < one.told.events; j++)
-                one.events.push_back(*event_of([&](ndf_told &told) {
-                    return ndf_entry_event(&handle, i, j, &told, room.data(), room.size());
+                one.events.push_back(*event_of([&](ndf_told &told, std::size_t size) {
+                    return ndf_entry_event(&handle, i, j, &told, room.data(), size);
                 }));
             for (std::size_t j = 0; j < one.told.errors; j++)
-                one.errors.push_back(*error_of([&](ndf_told_error &told) {
-                    return ndf_entry_error(&handle, i, j, &told, room.data(), room.size());
+                one.errors.push_back(*error_of([&](ndf_told_error &told, std::size_t size) {
+                    return ndf_entry_error(&handle, i, j, &told, room.data(), size);
                 }));
             all.push_back(std::move(one));
         }
@@ -168,9 +172,13 @@ public:
 
 private:
     ndf_handle handle = NDF_NONE;
-    std::string room = std::string(512, '\0');
+    std::string room;
+    std::vector<error> handed_out;  // errors that were read, and not yet returned
 
-    static std::uint64_t nanos(std::chrono::nanoseconds timeout) { return static_cast<std::uint64_t>(timeout.count()); }
+    static std::uint64_t nanos(std::chrono::nanoseconds timeout) {
+        if (timeout.count() < 0) throw std::invalid_argument("ndf: a negative timeout");
+        return static_cast<std::uint64_t>(timeout.count());
+    }
 
     // A view of nothing may have no address, and the library is given none that is null.
     static const char *at(std::string_view text) { return text.empty() ? "" : text.data(); }
@@ -190,40 +198,59 @@ private:
         return true;
     }
 
+    // What the call tells is gone once it is told, so all memory is there before: a first call without room says how
+    // much is needed, and takes nothing away, but for what has no texts.
     template <class Call> std::optional<event> event_of(Call call) {
         ndf_told told{};
-        for (;;) {
-            std::uint32_t code = call(told);
-            if (code == NDF_AT_END) return std::nullopt;
-            if (is_told(code, told.first + told.second + told.info + told.source)) return read(told);
-        }
-    }
+        event one{};
+        one.paths.reserve(2);
+        std::uint32_t code = call(told, 0);
+        if (code == NDF_AT_END) return std::nullopt;
+        std::string first(told.first, '\0'), second(told.second, '\0');
+        std::string info(told.info, '\0'), source(told.source, '\0');
+        if (!is_told(code, told.first + told.second + told.info + told.source)) done(call(told, room.size()));
 
-    template <class Call> std::optional<error> error_of(Call call) {
-        ndf_told_error told{};
-        for (;;) {
-            std::uint32_t code = call(told);
-            if (code == NDF_AT_END) return std::nullopt;
-            if (!is_told(code, told.text + told.first)) continue;
-            error one{told.kind, room.substr(0, told.text), std::nullopt};
-            if (told.paths > 0) one.path = room.substr(told.text, told.first);
-            return one;
+        const char *from = room.data();
+        for (std::string *text : {&first, &second, &info, &source}) {
+            text->assign(from, text->size());
+            from += text->size();
         }
-    }
-
-    event read(const ndf_told &told) const {
-        std::size_t from = 0;
-        auto text = [&](std::size_t len) { return room.substr(std::exchange(from, from + len), len); };
-        event one{told.kind, told.time, {}, told.rescan, std::nullopt, std::nullopt, std::nullopt, std::nullopt};
-        std::string first = text(told.first), second = text(told.second);
+        one.kind = told.kind;
+        one.time = told.time;
+        one.rescan = told.rescan;
         if (told.paths > 0) one.paths.push_back(std::move(first));
         if (told.paths > 1) one.paths.push_back(std::move(second));
-        std::string info = text(told.info), source = text(told.source);
         if (told.has_info) one.info = std::move(info);
         if (told.has_source) one.source = std::move(source);
         if (told.tracked) one.tracker = told.tracker;
         if (told.has_process) one.process = told.process;
         return one;
+    }
+
+    // The same of an error.
+    template <class Call> std::optional<error> error_of(Call call) {
+        ndf_told_error told{};
+        std::uint32_t code = call(told, 0);
+        if (code == NDF_AT_END) return std::nullopt;
+        std::string text(told.text, '\0'), path(told.first, '\0');
+        if (!is_told(code, told.text + told.first)) done(call(told, room.size()));
+
+        text.assign(room.data(), text.size());
+        path.assign(room.data() + text.size(), path.size());
+        error one{told.kind, std::move(text), std::nullopt};
+        if (told.paths > 0) one.path = std::move(path);
+        return one;
+    }
+
+    void read_errors() {
+        for (;;) {
+            if (handed_out.size() == handed_out.capacity()) handed_out.reserve(2 * handed_out.size() + 8);
+            auto one = error_of([&](ndf_told_error &told, std::size_t size) {
+                return ndf_next_error(&handle, &told, room.data(), size);
+            });
+            if (!one) return;
+            handed_out.push_back(std::move(*one));
+        }
     }
 };
 

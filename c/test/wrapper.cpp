@@ -3,6 +3,8 @@
 
 #include <cstdio>
 #include <cstdlib>
+#include <limits>
+#include <new>
 #include <type_traits>
 
 static_assert(!std::is_copy_constructible_v<ndf::debouncer> && !std::is_copy_assignable_v<ndf::debouncer>);
@@ -14,7 +16,75 @@ static void check(bool holds, const char *what) {
     std::exit(1);
 }
 
+// How many further requests C++ makes for memory are granted.
+static std::size_t grants = std::numeric_limits<std::size_t>::max();
+
+void *operator new(std::size_t size) {
+    if (grants == 0) throw std::bad_alloc();
+    grants--;
+    if (void *at = std::malloc(size ? size : 1)) return at;
+    throw std::bad_alloc();
+}
+void operator delete(void *at) noexcept { std::free(at); }
+void operator delete(void *at, std::size_t) noexcept { std::free(at); }
+
+// Calls until it isn't refused memory, first with none, and then with one request granted more each time.
+template <class Call> static auto when_granted(Call call) {
+    for (std::size_t many = 0;; many++) {
+        try {
+            grants = many;
+            auto result = call();
+            grants = std::numeric_limits<std::size_t>::max();
+            check(many > 0, "a call that asks for no memory");
+            return result;
+        } catch (const std::bad_alloc &) {
+        }
+    }
+}
+
+// What was refused memory loses nothing.
+static void refuse() {
+    ndf::debouncer one(std::chrono::nanoseconds(0));
+    std::string longer = "/w/" + std::string(2000, 'x');
+    ndf_change change{NDF_CREATE_FILE, 1, false, false, true, 0, 1};
+    one.feed(change, ndf_attributes{true, true, false, 0}, longer, "", longer, longer);
+    one.add_error(NDF_ERROR_GENERIC, longer, longer);
+    one.add_error(NDF_ERROR_GENERIC, "second", "/w");
+    check(one.tick(2) == 1, "one event");
+    auto event = when_granted([&] { return one.next(); });
+    check(event && event->paths[0] == longer && event->info == longer && event->source == longer, "it is read");
+    check(!one.next(), "it is read twice");
+    auto errors = when_granted([&] { return one.errors(); });
+    check(errors.size() == 2 && errors[0].path == longer && errors[1].text == "second", "the errors are read");
+    check(one.errors().empty(), "they are read twice");
+}
+
+// What was moved from holds nothing, and a move asks for no memory.
+static void move() {
+    ndf::debouncer a(std::chrono::nanoseconds(0)), b(std::chrono::nanoseconds(0));
+    b.feed(ndf_change{NDF_CREATE_FILE, 1, false, false, true, 0, 1}, "/w/a");
+    grants = 0;
+    ndf::debouncer c(std::move(a));
+    c = std::move(b);
+    grants = std::numeric_limits<std::size_t>::max();
+    check(c.counts().waiting == 1, "what was moved waits");
+    try {
+        b.counts();
+        check(false, "what was assigned from has a debouncer");
+    } catch (const ndf::refused &refused) {
+        check(refused.code == NDF_EMPTY, "the code of one that was assigned from");
+    }
+    try {
+        ndf::debouncer negative(std::chrono::nanoseconds(-1));
+        check(false, "a negative timeout");
+    } catch (const std::invalid_argument &) {
+    }
+}
+
 int main() {
+    check(ndf_version() == NDF_VERSION, "the version");
+    refuse();
+    move();
     ndf::debouncer first(std::chrono::nanoseconds(50));
     first.watch("/w", true);
     check(first.is_recursive("/w/x") && !first.is_recursive("/v"), "the modes");
