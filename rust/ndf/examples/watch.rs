@@ -1,7 +1,6 @@
 //! watch [--timeout MS] [--seconds N] [--until-eof] [--renames] FOLDER: prints each change below a folder, as c/watch.c does.
-use ndf::{
-    new_debouncer_opt, DebounceEventResult, DebouncedEvent, Error, InotifyConfig, InotifyWatcher, RecursiveMode,
-};
+#![cfg_attr(not(target_os = "linux"), allow(unused))]
+use ndf::{Config, DebounceEventResult, DebouncedEvent, Debouncer, Error, NoCache, RecursiveMode};
 use std::io::{self, Write};
 use std::time::Duration;
 use std::{env, process, thread};
@@ -33,6 +32,13 @@ fn usage() -> ! {
     process::exit(2)
 }
 
+#[cfg(not(target_os = "linux"))]
+fn main() {
+    eprintln!("watch: there is no watcher for this system");
+    process::exit(5)
+}
+
+#[cfg(target_os = "linux")]
 fn main() -> Result<(), Error> {
     let (mut timeout, mut seconds, mut until_eof, mut renames, mut folder) = (500, u64::MAX, false, false, None);
     let mut words = env::args().skip(1);
@@ -48,18 +54,20 @@ fn main() -> Result<(), Error> {
         }
     }
     let folder = folder.unwrap_or_else(|| usage());
-    let config = InotifyConfig::default().with_joined_renames(renames);
+    let config = Config::default().with_joined_renames(renames);
     let handler = |result: DebounceEventResult| match result {
         Ok(events) => print(&events).unwrap_or_else(|_| process::exit(6)),
         Err(errors) => errors.iter().for_each(|error| eprintln!("watch: {error}")),
     };
-    let mut debouncer = new_debouncer_opt::<_, InotifyWatcher>(Duration::from_millis(timeout), None, handler, config)?;
+    let timeout = Duration::from_millis(timeout);
+    let mut debouncer: Debouncer<ndf::INotifyWatcher> =
+        ndf::new_debouncer_opt(timeout, None, handler, NoCache::new(), config)?;
     debouncer.watch(&folder, RecursiveMode::Recursive)?;
     eprintln!("watch: watching {folder}");
     if until_eof {
-        io::copy(&mut io::stdin(), &mut io::sink()).map_err(Error::io)?;
+        io::copy(&mut io::stdin(), &mut io::sink())?;
     } else {
         thread::sleep(Duration::from_secs(seconds));
     }
-    print(&debouncer.finish()).map_err(Error::io)
+    Ok(print(&debouncer.finish())?)
 }

@@ -1,6 +1,9 @@
 //! The core: the handle stays in one struct, and each call has it alone.
-use crate::event::{Error, ErrorKind, Event, EventAttributes, EventKind, Flag, RecursiveMode, Result};
-use crate::raw::{self, Change, Counts, Handle, Number, Told, ToldEntry, ToldError};
+use crate::config::RecursiveMode;
+use crate::error::{Error, ErrorKind, Result};
+use crate::event::{Event, EventAttributes, EventKind, Flag};
+pub use crate::raw::Counts;
+use crate::raw::{self, Change, Handle, Number, Told, ToldEntry, ToldError};
 use std::path::{Path, PathBuf};
 
 /// A debouncer without clock and threads. It stays on the thread that made it: it is neither `Send` nor `Sync`, as
@@ -13,7 +16,9 @@ pub struct Core {
 /// An event of a batch, with the moment at which it was taken.
 #[derive(Clone, Debug, PartialEq, Eq)]
 pub struct Emitted {
+    /// The event.
     pub event: Event,
+    /// When it was taken, in nanoseconds.
     pub time: u64,
 }
 
@@ -22,7 +27,16 @@ pub struct Emitted {
 pub enum Entry {
     /// An event was taken. The moment is the one that was given; the number is the device and the inode of its file, if
     /// the core looked for one and found it.
-    Taken { event: Event, moment: u64, exists: bool, number: Option<(u64, u64)> },
+    Taken {
+        /// As it was given.
+        event: Event,
+        /// As it was given.
+        moment: u64,
+        /// As it was given.
+        exists: bool,
+        /// The device and the inode.
+        number: Option<(u64, u64)>,
+    },
     /// An error was kept.
     Noted(Error),
     /// A path was watched in this mode.
@@ -51,8 +65,14 @@ fn bytes_of(path: &Path) -> &[u8] {
 }
 
 impl Core {
-    /// Returns a debouncer that waits for nothing, and emits an event once it is as old as the timeout.
+    /// Returns a debouncer that waits for nothing, and emits an event once it is as old as the timeout. A library of
+    /// another version than this crate is refused.
     pub fn new(timeout: u64) -> Result<Core> {
+        // SAFETY: the call has no argument, and reads nothing that changes.
+        let version = unsafe { raw::ndf_version() };
+        if version != raw::VERSION {
+            return Err(Error::generic(&format!("the library is {version}, and this crate {}", raw::VERSION)));
+        }
         let mut handle = Handle { full: false, at: std::ptr::null_mut() };
         // SAFETY: the handle is the empty one. Here and below it is changed by these calls alone, no pointer is
         // null, each slice is one of Rust's, and what is written doesn't overlap what is read.
@@ -67,6 +87,7 @@ impl Core {
         done(unsafe { raw::ndf_watch(&mut self.handle, text.as_ptr(), text.len(), recursive) })
     }
 
+    /// Watches a path no longer, nor any path below it.
     pub fn unwatch(&mut self, path: &Path) -> Result<()> {
         let text = bytes_of(path);
         done(unsafe { raw::ndf_unwatch(&mut self.handle, text.as_ptr(), text.len()) })
@@ -113,20 +134,20 @@ impl Core {
         let change = Change {
             kind: event.kind.number(),
             paths: event.paths.len() as u32,
-            rescan: attrs.flag.is_some(),
-            tracked: attrs.tracker.is_some(),
+            rescan: attrs.flag().is_some(),
+            tracked: attrs.tracker().is_some(),
             exists,
-            tracker: attrs.tracker.unwrap_or(0) as u64,
+            tracker: attrs.tracker().unwrap_or(0) as u64,
             moment,
         };
         let attributes = raw::Attributes {
-            has_info: attrs.info.is_some(),
-            has_source: attrs.source.is_some(),
-            has_process: attrs.process_id.is_some(),
-            process: attrs.process_id.unwrap_or(0),
+            has_info: attrs.info().is_some(),
+            has_source: attrs.source().is_some(),
+            has_process: attrs.process_id().is_some(),
+            process: attrs.process_id().unwrap_or(0),
         };
-        let info = attrs.info.as_deref().unwrap_or("");
-        let source = attrs.source.as_deref().unwrap_or("");
+        let info = attrs.info().unwrap_or("");
+        let source = attrs.source().unwrap_or("");
         done(unsafe {
             raw::ndf_event_with(
                 &mut self.handle,
@@ -280,13 +301,23 @@ impl Core {
         };
         let mut paths = vec![PathBuf::from(text(told.first)), PathBuf::from(text(told.second))];
         paths.truncate(told.paths);
-        let attrs = EventAttributes {
-            tracker: told.tracked.then_some(told.tracker as usize),
-            flag: told.rescan.then_some(Flag::Rescan),
-            info: Some(text(told.info)).filter(|_| told.has_info),
-            source: Some(text(told.source)).filter(|_| told.has_source),
-            process_id: told.has_process.then_some(told.process),
-        };
+        let (info, source) = (text(told.info), text(told.source));
+        let mut attrs = EventAttributes::new();
+        if told.tracked {
+            attrs.set_tracker(told.tracker as usize);
+        }
+        if told.rescan {
+            attrs.set_flag(Flag::Rescan);
+        }
+        if told.has_info {
+            attrs.set_info(&info);
+        }
+        if told.has_source {
+            attrs.set_source(&source);
+        }
+        if told.has_process {
+            attrs.set_process_id(told.process);
+        }
         Emitted { event: Event { kind: EventKind::of_number(told.kind), paths, attrs }, time: told.time }
     }
 
@@ -302,7 +333,7 @@ impl Core {
             _ => ErrorKind::Generic(text),
         });
         if told.paths > 0 {
-            error.add_path(path)
+            error.add_path(PathBuf::from(path))
         } else {
             error
         }

@@ -1,18 +1,39 @@
-//! The running debouncer: a thread that has the core, which the watcher sends its events to.
+//! The running debouncer. One thread has the core, which the watcher sends its events to, and a second one calls the
+//! handler: while it works, events go on being merged, and nothing is emitted.
+use crate::cache::{FileIdCache, RecommendedCache};
+use crate::config::{Config, RecursiveMode};
 use crate::core::{Core, Emitted};
-use crate::event::{Error, ErrorKind, Event, EventKind, ModifyKind, RecursiveMode, RenameMode, Result};
-use crate::watcher::Watcher;
+use crate::error::{Error, ErrorKind, Result};
+use crate::event::{Event, EventKind, ModifyKind, RenameMode};
+use crate::watcher::{absolute, Watcher, WatcherKind};
+use std::fmt;
+use std::marker::PhantomData;
+use std::mem;
 use std::ops::{Deref, DerefMut};
 use std::path::{Path, PathBuf};
+use std::sync::atomic::{AtomicBool, Ordering};
 use std::sync::mpsc::{self, Receiver, RecvTimeoutError, Sender};
+use std::sync::Arc;
 use std::thread::{self, JoinHandle};
 use std::time::{Duration, Instant};
 
+/// How long a watcher that was dropped has to hand on its last events, and to let go of its handler.
+const LAST_EVENTS: Duration = Duration::from_secs(1);
+
 /// An event that was emitted, with the moment at which it was taken.
-#[derive(Clone, Debug, PartialEq, Eq)]
+#[derive(Clone, Debug, PartialEq, Eq, Hash)]
 pub struct DebouncedEvent {
+    /// The event.
     pub event: Event,
+    /// When it was taken.
     pub time: Instant,
+}
+
+impl DebouncedEvent {
+    /// An event that was taken at this moment.
+    pub fn new(event: Event, time: Instant) -> DebouncedEvent {
+        DebouncedEvent { event, time }
+    }
 }
 
 impl Deref for DebouncedEvent {
@@ -32,8 +53,10 @@ impl DerefMut for DebouncedEvent {
 /// What a handler is given: a batch, or errors.
 pub type DebounceEventResult = std::result::Result<Vec<DebouncedEvent>, Vec<Error>>;
 
-/// What the batches are given to.
+/// What the batches are given to. A channel of another crate is wrapped in a closure, since neither it nor this trait
+/// would be of the crate that says how they go together: `move |result| { let _ = sender.send(result); }`.
 pub trait DebounceEventHandler: Send + 'static {
+    /// Takes a batch, which isn't empty, or errors.
     fn handle_event(&mut self, result: DebounceEventResult);
 }
 
@@ -49,7 +72,7 @@ impl DebounceEventHandler for Sender<DebounceEventResult> {
     }
 }
 
-/// What the thread is told.
+/// What the core's thread is told.
 enum Message {
     Event { event: Event, exists: bool, time: Instant },
     Error(Error),
@@ -58,31 +81,41 @@ enum Message {
     Stop,
 }
 
-/// A debouncer that runs until it is stopped or dropped.
-pub struct Debouncer<W: Watcher> {
-    watcher: Option<W>,
-    sender: Sender<Message>,
-    thread: Option<JoinHandle<Vec<DebouncedEvent>>>,
+/// A debouncer that runs until it is stopped or dropped. Dropping it tells it to stop, and waits for nothing, so that
+/// a handler may drop it too.
+pub struct Debouncer<T: Watcher, C: FileIdCache = RecommendedCache> {
+    watcher: Option<T>,
+    sender: Option<Sender<Message>>,
+    core: Option<JoinHandle<Vec<DebouncedEvent>>>,
+    handler: Option<JoinHandle<()>>,
+    cache: PhantomData<fn() -> C>,
+}
+
+impl<T: Watcher + fmt::Debug, C: FileIdCache> fmt::Debug for Debouncer<T, C> {
+    fn fmt(&self, out: &mut fmt::Formatter<'_>) -> fmt::Result {
+        out.debug_struct("Debouncer").field("watcher", &self.watcher).finish_non_exhaustive()
+    }
 }
 
 /// Starts a debouncer over the watcher for this system. Each event is emitted once it is as old as the timeout; the
 /// handler is called at most each `tick_rate`, or each quarter of the timeout.
 #[cfg(target_os = "linux")]
-pub fn new_debouncer<H: DebounceEventHandler>(
+pub fn new_debouncer<F: DebounceEventHandler>(
     timeout: Duration,
     tick_rate: Option<Duration>,
-    handler: H,
-) -> Result<Debouncer<crate::RecommendedWatcher>> {
-    new_debouncer_opt(timeout, tick_rate, handler, Default::default())
+    handler: F,
+) -> Result<Debouncer<crate::RecommendedWatcher, RecommendedCache>> {
+    new_debouncer_opt(timeout, tick_rate, handler, RecommendedCache::new(), Config::default())
 }
 
-/// Starts a debouncer over a watcher.
-pub fn new_debouncer_opt<H: DebounceEventHandler, W: Watcher>(
+/// Starts a debouncer over a watcher, with a cache of file numbers. A `tick_rate` above the timeout is refused.
+pub fn new_debouncer_opt<F: DebounceEventHandler, T: Watcher, C: FileIdCache + Send + 'static>(
     timeout: Duration,
     tick_rate: Option<Duration>,
-    handler: H,
-    config: W::Config,
-) -> Result<Debouncer<W>> {
+    handler: F,
+    cache: C,
+    config: Config,
+) -> Result<Debouncer<T, C>> {
     let tick = match tick_rate {
         Some(rate) if rate > timeout => return Err(Error::generic("the tick rate is above the timeout")),
         Some(rate) => rate,
@@ -90,25 +123,39 @@ pub fn new_debouncer_opt<H: DebounceEventHandler, W: Watcher>(
     };
     let timeout = u64::try_from(timeout.as_nanos()).map_err(|_| Error::generic("the timeout is too long"))?;
     let (sender, receiver) = mpsc::channel();
+    let (turns, handed) = mpsc::channel();
+    let is_idle = Arc::new(AtomicBool::new(true));
+    let handler = start("ndf handler", {
+        let is_idle = Arc::clone(&is_idle);
+        move || call(handler, &handed, &is_idle)
+    })?;
     let (ready, is_ready) = mpsc::channel();
     // The core stays on this thread, from its beginning to its end.
-    let thread = thread::Builder::new()
-        .name("ndf".to_string())
-        .spawn(move || match Core::new(timeout) {
-            Ok(core) => {
-                let _ = ready.send(Ok(()));
-                Work { core, begin: Instant::now(), handler, errors: Vec::new() }.go(tick, &receiver)
-            }
-            Err(error) => {
-                let _ = ready.send(Err(error));
-                Vec::new()
-            }
-        })
-        .map_err(Error::io)?;
-    is_ready.recv().map_err(|_| Error::generic("the thread ended"))??;
-    let mut debouncer = Debouncer { watcher: None, sender: sender.clone(), thread: Some(thread) };
-    debouncer.watcher = Some(W::new(move |event| send(&sender, event), config)?);
+    let core = start("ndf", move || match Core::new(timeout) {
+        Ok(core) => {
+            let _ = ready.send(Ok(()));
+            let (begin, roots, errors) = (Instant::now(), Vec::new(), Vec::new());
+            Work { core, begin, cache, roots, errors, turns, is_idle }.go(tick.max(Duration::from_millis(1)), &receiver)
+        }
+        Err(error) => {
+            let _ = ready.send(Err(error));
+            Vec::new()
+        }
+    })?;
+    is_ready.recv()??;
+    let mut debouncer = Debouncer {
+        watcher: None,
+        sender: Some(sender.clone()),
+        core: Some(core),
+        handler: Some(handler),
+        cache: PhantomData,
+    };
+    debouncer.watcher = Some(T::new(move |event| send(&sender, event), config)?);
     Ok(debouncer)
+}
+
+fn start<R: Send + 'static>(name: &str, work: impl FnOnce() -> R + Send + 'static) -> Result<JoinHandle<R>> {
+    Ok(thread::Builder::new().name(name.to_string()).spawn(work)?)
 }
 
 /// Hands an event of the watcher on. Whether its path exists is asked at once, if it matters.
@@ -124,97 +171,151 @@ fn send(sender: &Sender<Message>, event: Result<Event>) {
     let _ = sender.send(message);
 }
 
-impl<W: Watcher> Debouncer<W> {
-    /// Watches a path from now on.
+/// Calls the handler, until the core's thread has ended.
+fn call(mut handler: impl DebounceEventHandler, handed: &Receiver<Turn>, is_idle: &AtomicBool) {
+    while let Ok(turn) = handed.recv() {
+        if !turn.batch.is_empty() {
+            handler.handle_event(Ok(turn.batch));
+        }
+        if !turn.errors.is_empty() {
+            handler.handle_event(Err(turn.errors));
+        }
+        is_idle.store(true, Ordering::Release);
+    }
+}
+
+/// What the handler is given at a tick: the batch, and then the errors.
+struct Turn {
+    batch: Vec<DebouncedEvent>,
+    errors: Vec<Error>,
+}
+
+impl<T: Watcher, C: FileIdCache> Debouncer<T, C> {
+    /// Watches a path from now on. A relative one is meant from what is now the current folder, and its events have
+    /// the whole path.
     pub fn watch(&mut self, path: impl AsRef<Path>, mode: RecursiveMode) -> Result<()> {
-        let path = path.as_ref();
-        self.watcher().watch(path, mode)?;
-        let _ = self.sender.send(Message::Watch(path.to_path_buf(), mode));
+        let path = absolute(path.as_ref())?;
+        self.watcher().watch(&path, mode)?;
+        self.send(Message::Watch(path, mode));
         Ok(())
     }
 
     /// Watches a path no longer.
     pub fn unwatch(&mut self, path: impl AsRef<Path>) -> Result<()> {
-        let path = path.as_ref();
-        self.watcher().unwatch(path)?;
-        let _ = self.sender.send(Message::Unwatch(path.to_path_buf()));
+        let path = absolute(path.as_ref())?;
+        self.watcher().unwatch(&path)?;
+        self.send(Message::Unwatch(path));
         Ok(())
     }
 
-    fn watcher(&mut self) -> &mut W {
+    /// Changes what the watcher was told, and answers whether it did.
+    pub fn configure(&mut self, config: Config) -> Result<bool> {
+        self.watcher().configure(config)
+    }
+
+    /// Which watcher is below.
+    pub fn kind() -> WatcherKind {
+        T::kind()
+    }
+
+    fn watcher(&mut self) -> &mut T {
         self.watcher.as_mut().expect("a debouncer has its watcher until it ends")
     }
 
-    /// Stops the debouncer, and waits for its thread. What waits is dropped.
-    pub fn stop(mut self) {
-        self.end();
+    fn send(&self, message: Message) {
+        let _ = self.sender.as_ref().map(|sender| sender.send(message));
     }
 
-    /// Tells the debouncer to stop, and doesn't wait for its thread.
-    pub fn stop_nonblocking(mut self) {
-        self.watcher = None;
-        let _ = self.sender.send(Message::Stop);
-        self.thread = None;
+    /// Stops the debouncer, and waits until the handler has returned, if it isn't the handler that stops it. What waits
+    /// is dropped.
+    pub fn stop(self) {
+        self.finish();
     }
 
-    /// Stops the debouncer, and returns what waits, which was never given to the handler.
+    /// Tells the debouncer to stop, and waits for nothing.
+    pub fn stop_nonblocking(self) {}
+
+    /// Stops the debouncer as `stop` does, and returns what waits, which was never given to the handler.
     pub fn finish(mut self) -> Vec<DebouncedEvent> {
-        self.end()
+        self.end();
+        let waiting = self.core.take().and_then(|core| core.join().ok()).unwrap_or_default();
+        let handler = self.handler.take().filter(|handler| handler.thread().id() != thread::current().id());
+        let _ = handler.map(JoinHandle::join);
+        waiting
     }
 
-    fn end(&mut self) -> Vec<DebouncedEvent> {
-        // The watcher ends first, so that what it has reported by then is taken.
+    /// The watcher ends first, so that what it has reported by then is taken.
+    fn end(&mut self) {
         self.watcher = None;
-        let _ = self.sender.send(Message::Stop);
-        self.thread.take().map_or_else(Vec::new, |thread| thread.join().unwrap_or_default())
+        self.send(Message::Stop);
+        self.sender = None;
     }
 }
 
-impl<W: Watcher> Drop for Debouncer<W> {
+impl<T: Watcher, C: FileIdCache> Drop for Debouncer<T, C> {
     fn drop(&mut self) {
         self.end();
     }
 }
 
-/// What the thread has.
-struct Work<H> {
+/// What the core's thread has.
+struct Work<C> {
     core: Core,
     begin: Instant,
-    handler: H,
-    /// Errors that the core doesn't keep: of paths that aren't UTF-8, of events that were refused.
+    cache: C,
+    /// The watched paths, which the cache is told of when events were lost.
+    roots: Vec<(PathBuf, RecursiveMode)>,
+    /// Errors that the core doesn't keep: of the watcher, of paths that aren't UTF-8, of events that were refused.
     errors: Vec<Error>,
+    turns: Sender<Turn>,
+    /// Whether the handler has returned.
+    is_idle: Arc<AtomicBool>,
 }
 
-impl<H: DebounceEventHandler> Work<H> {
+impl<C: FileIdCache> Work<C> {
     fn go(mut self, tick: Duration, receiver: &Receiver<Message>) -> Vec<DebouncedEvent> {
         let mut next = Instant::now() + tick;
-        loop {
-            match receiver.recv_timeout(next.saturating_duration_since(Instant::now())) {
-                Ok(Message::Stop) | Err(RecvTimeoutError::Disconnected) => break,
-                Ok(message) => self.take(message),
-                Err(RecvTimeoutError::Timeout) => {}
-            }
-            if Instant::now() >= next {
-                self.turn();
-                next = Instant::now() + tick;
-            }
+        // The handler's thread may have ended by a panic: then nobody is left to emit to.
+        while self.takes_until(next, receiver) && self.turn(next) {
+            next = Instant::now() + tick;
         }
+        self.take_last(receiver);
         let waiting = self.core.outlook().unwrap_or_default();
         waiting.into_iter().map(|emitted| self.debounced(emitted)).collect()
     }
 
+    /// Takes all that was sent before this moment; whether the debouncer goes on. What is sent during a tick isn't
+    /// emitted by it, however long the queue is.
+    fn takes_until(&mut self, moment: Instant, receiver: &Receiver<Message>) -> bool {
+        loop {
+            let message = match receiver.recv_timeout(moment.saturating_duration_since(Instant::now())) {
+                Err(RecvTimeoutError::Timeout) => return true,
+                Ok(Message::Stop) | Err(RecvTimeoutError::Disconnected) => return false,
+                Ok(message) => message,
+            };
+            let is_later = matches!(&message, Message::Event { time, .. } if *time > moment);
+            self.take(message);
+            if is_later {
+                return true;
+            }
+        }
+    }
+
+    /// Takes what the watcher had reported when it was dropped.
+    fn take_last(&mut self, receiver: &Receiver<Message>) {
+        let end = Instant::now() + LAST_EVENTS;
+        while let Ok(message) = receiver.recv_timeout(end.saturating_duration_since(Instant::now())) {
+            self.take(message);
+        }
+    }
+
     fn take(&mut self, message: Message) {
         let taken = match message {
-            Message::Event { event, exists, time } => {
-                let moment = self.moment(time);
-                self.core
-                    .add_event(&event, moment, exists)
-                    .map_err(|error| event.paths.iter().fold(error, |error, path| error.add_path(path)))
-            }
+            Message::Event { event, exists, time } => self.take_event(&event, exists, time),
             // An error with more than the core keeps of one is handed on as it is.
             Message::Error(error) => Err(error),
-            Message::Watch(path, mode) => self.core.watch(&path, mode).map_err(|error| error.add_path(path)),
-            Message::Unwatch(path) => self.core.unwatch(&path).map_err(|error| error.add_path(path)),
+            Message::Watch(path, mode) => self.watch(path, mode),
+            Message::Unwatch(path) => self.unwatch(&path),
             Message::Stop => Ok(()),
         };
         if let Err(error) = taken {
@@ -222,22 +323,79 @@ impl<H: DebounceEventHandler> Work<H> {
         }
     }
 
-    /// A tick: the handler is given the batch, if it isn't empty, and then the errors.
-    fn turn(&mut self) {
-        let now = self.moment(Instant::now());
-        match self.core.tick(now) {
-            Ok(batch) if batch.is_empty() => {}
-            Ok(batch) => {
-                let batch = batch.into_iter().map(|emitted| self.debounced(emitted)).collect();
-                self.handler.handle_event(Ok(batch));
-            }
+    fn watch(&mut self, path: PathBuf, mode: RecursiveMode) -> Result<()> {
+        self.cache.add_path(&path, mode);
+        self.core.watch(&path, mode).map_err(|error| error.add_path(path.clone()))?;
+        self.roots.retain(|(root, _)| *root != path);
+        self.roots.push((path, mode));
+        Ok(())
+    }
+
+    fn unwatch(&mut self, path: &Path) -> Result<()> {
+        self.cache.remove_path(path);
+        self.roots.retain(|(root, _)| !root.starts_with(path));
+        self.core.unwatch(path).map_err(|error| error.add_path(path.to_path_buf()))
+    }
+
+    fn take_event(&mut self, event: &Event, exists: bool, time: Instant) -> Result<()> {
+        let moment = self.moment(time);
+        self.say_number(event, exists)
+            .and_then(|()| self.core.add_event(event, moment, exists))
+            .map_err(|error| event.paths.iter().fold(error, |error, path| error.add_path(path.clone())))?;
+        let goes = event.kind.is_remove() || first_half(event.kind, exists);
+        if let (true, Some(path)) = (goes, event.paths.first()) {
+            self.cache.remove_path(path);
+        }
+        Ok(())
+    }
+
+    /// Tells the core the number of the event's file, as the cache has it.
+    fn say_number(&mut self, event: &Event, exists: bool) -> Result<()> {
+        if event.need_rescan() {
+            self.cache.rescan(&self.roots);
+        }
+        let Some(path) = event.paths.first() else {
+            return Ok(());
+        };
+        let comes = event.kind.is_create() || second_half(event.kind, exists);
+        let goes = event.kind.is_remove() || first_half(event.kind, exists);
+        if comes || (!goes && self.cache.cached_file_id(path).is_none()) {
+            self.cache.add_path(path, self.mode_of(path));
+        }
+        let number = self.cache.cached_file_id(path).and_then(|number| number.as_ref().words());
+        match number {
+            Some((device, inode)) => self.core.set_number(path, device, inode),
+            None => Ok(()),
+        }
+    }
+
+    /// The mode of the first watched path at or above this one.
+    fn mode_of(&self, path: &Path) -> RecursiveMode {
+        let root = self.roots.iter().find(|(root, _)| path.starts_with(root));
+        root.map_or(RecursiveMode::NonRecursive, |(_, mode)| *mode)
+    }
+
+    /// A tick: the handler is given what is expired, and the errors, if it has returned. Whether it can be called.
+    fn turn(&mut self, now: Instant) -> bool {
+        if !self.is_idle.load(Ordering::Acquire) {
+            return true;
+        }
+        let now = self.moment(now);
+        let batch = match self.core.tick(now) {
+            Ok(batch) => batch.into_iter().map(|emitted| self.debounced(emitted)).collect(),
             // All waits on, and a later tick emits it.
-            Err(Error { kind: ErrorKind::Memory, .. }) => {}
-            Err(error) => self.errors.push(error),
+            Err(Error { kind: ErrorKind::Memory, .. }) => Vec::new(),
+            Err(error) => {
+                self.errors.push(error);
+                Vec::new()
+            }
+        };
+        let turn = Turn { batch, errors: mem::take(&mut self.errors) };
+        if turn.batch.is_empty() && turn.errors.is_empty() {
+            return true;
         }
-        if !self.errors.is_empty() {
-            self.handler.handle_event(Err(std::mem::take(&mut self.errors)));
-        }
+        self.is_idle.store(false, Ordering::Release);
+        self.turns.send(turn).is_ok()
     }
 
     /// Nanoseconds since the beginning.
@@ -246,6 +404,24 @@ impl<H: DebounceEventHandler> Work<H> {
     }
 
     fn debounced(&self, emitted: Emitted) -> DebouncedEvent {
-        DebouncedEvent { event: emitted.event, time: self.begin + Duration::from_nanos(emitted.time) }
+        DebouncedEvent::new(emitted.event, self.begin + Duration::from_nanos(emitted.time))
+    }
+}
+
+/// Whether it is the first half of a rename, by whose path nothing stands any longer.
+fn first_half(kind: EventKind, exists: bool) -> bool {
+    match kind {
+        EventKind::Modify(ModifyKind::Name(RenameMode::From)) => true,
+        EventKind::Modify(ModifyKind::Name(RenameMode::Any)) => !exists,
+        _ => false,
+    }
+}
+
+/// Whether it is the second half of a rename.
+fn second_half(kind: EventKind, exists: bool) -> bool {
+    match kind {
+        EventKind::Modify(ModifyKind::Name(RenameMode::To)) => true,
+        EventKind::Modify(ModifyKind::Name(RenameMode::Any)) => exists,
+        _ => false,
     }
 }

@@ -1,20 +1,21 @@
 //! A watcher over inotify. Folders that appear are listed, and what stands in them is reported as created. If
-//! events were lost, an event that asks to read all anew is reported, and all roots are watched anew.
-use crate::event::{
-    CreateKind, DataChange, Error, ErrorKind, Event, EventKind, Flag, MetadataKind, ModifyKind, RecursiveMode,
-    RemoveKind, RenameMode, Result,
-};
-use crate::watcher::{EventHandler, Watcher};
+//! events were lost, an event that asks to read all anew is reported, and all roots are watched anew. What can't be
+//! watched is an error. A root that is gone, or has become another one, is looked for until it is there again.
+use crate::config::{Config, RecursiveMode};
+use crate::error::{Error, ErrorKind, Result};
+use crate::event::{CreateKind, DataChange, Event, EventKind, Flag, MetadataKind, ModifyKind, RemoveKind, RenameMode};
+use crate::watcher::{absolute, EventHandler, Watcher, WatcherKind};
 use std::collections::HashMap;
 use std::ffi::{c_char, c_int, c_short, c_ulong, CString, OsStr};
 use std::fs::{self, File};
 use std::io::{self, Read};
-use std::os::fd::{AsRawFd, FromRawFd, OwnedFd};
+use std::os::fd::{AsRawFd, FromRawFd, RawFd};
 use std::os::unix::ffi::OsStrExt;
+use std::os::unix::fs::MetadataExt;
 use std::os::unix::net::UnixStream;
 use std::path::{Path, PathBuf};
 use std::sync::{Arc, Mutex, MutexGuard};
-use std::thread::{self, JoinHandle};
+use std::{fmt, mem, thread};
 
 const MODIFY: u32 = 0x2;
 const ATTRIB: u32 = 0x4;
@@ -23,14 +24,39 @@ const MOVED_TO: u32 = 0x80;
 const CREATE: u32 = 0x100;
 const DELETE: u32 = 0x200;
 const DELETE_SELF: u32 = 0x400;
+const MOVE_SELF: u32 = 0x800;
+const UNMOUNT: u32 = 0x2000;
 const OVERFLOW: u32 = 0x4000;
 const IGNORED: u32 = 0x8000;
+const ONLY_FOLDERS: u32 = 0x0100_0000;
 const DONT_FOLLOW: u32 = 0x0200_0000;
+const NOT_UNLINKED: u32 = 0x0400_0000;
 const IS_FOLDER: u32 = 0x4000_0000;
-const MASK: u32 = MODIFY | ATTRIB | MOVED_FROM | MOVED_TO | CREATE | DELETE | DELETE_SELF | DONT_FOLLOW;
+const MASK: u32 = MODIFY | ATTRIB | MOVED_FROM | MOVED_TO | CREATE | DELETE | DELETE_SELF | MOVE_SELF | NOT_UNLINKED;
+/// Of folders below a root: a link is no folder there.
+const FOLDER_MASK: u32 = MASK | ONLY_FOLDERS | DONT_FOLLOW;
 
-const NONBLOCK_CLOEXEC: c_int = 0o2_004_000;
+#[cfg(any(target_arch = "mips", target_arch = "mips64", target_arch = "mips32r6", target_arch = "mips64r6"))]
+const NONBLOCK_CLOEXEC: c_int = 0x80 | 0x8_0000;
+#[cfg(any(target_arch = "sparc", target_arch = "sparc64"))]
+const NONBLOCK_CLOEXEC: c_int = 0x4000 | 0x40_0000;
+#[cfg(not(any(
+    target_arch = "mips",
+    target_arch = "mips64",
+    target_arch = "mips32r6",
+    target_arch = "mips64r6",
+    target_arch = "sparc",
+    target_arch = "sparc64"
+)))]
+const NONBLOCK_CLOEXEC: c_int = 0x800 | 0x8_0000;
+
 const POLLIN: c_short = 1;
+/// The system's word for too many watches.
+const NO_SPACE: i32 = 28;
+/// How long, in milliseconds, until a root that is gone is looked for again.
+const PAUSE: c_int = 200;
+/// How many reads take what a full queue holds.
+const LAST_READS: usize = 128;
 
 #[repr(C)]
 struct PollFd {
@@ -46,136 +72,394 @@ extern "C" {
     fn poll(fds: *mut PollFd, count: c_ulong, timeout: c_int) -> c_int;
 }
 
-/// How a rename is reported.
-#[derive(Clone, Copy, Debug, Default)]
-pub struct InotifyConfig {
-    joins_renames: bool,
+/// An instance of inotify, with which folders and files it watches.
+struct Notes {
+    file: File,
+    /// The paths of each watch: two, if a folder is watched under two names.
+    paths: HashMap<c_int, Vec<PathBuf>>,
 }
 
-impl InotifyConfig {
-    /// Whether a rename is reported as its two halves, which the debouncer joins: as notify-debouncer-full has it,
-    /// which can leave a reader's paths wrong. Without it a rename is a removal and a creation with one tracker.
-    pub fn with_joined_renames(self, joins_renames: bool) -> InotifyConfig {
-        InotifyConfig { joins_renames }
+impl Notes {
+    fn new() -> io::Result<Notes> {
+        // SAFETY: the call has no pointer, and what it returns is a descriptor of our own.
+        let number = unsafe { inotify_init1(NONBLOCK_CLOEXEC) };
+        if number < 0 {
+            return Err(io::Error::last_os_error());
+        }
+        Ok(Notes { file: unsafe { File::from_raw_fd(number) }, paths: HashMap::new() })
+    }
+
+    /// Watches a path; whether it wasn't watched under this name.
+    fn watch(&mut self, path: &Path, mask: u32) -> io::Result<bool> {
+        let text = CString::new(path.as_os_str().as_bytes())?;
+        // SAFETY: the text ends with a zero, and lives through the call.
+        let number = unsafe { inotify_add_watch(self.file.as_raw_fd(), text.as_ptr(), mask) };
+        if number < 0 {
+            return Err(io::Error::last_os_error());
+        }
+        let paths = self.paths.entry(number).or_default();
+        let is_new = !paths.iter().any(|known| known == path);
+        if is_new {
+            paths.push(path.to_path_buf());
+        }
+        Ok(is_new)
+    }
+
+    /// Forgets each path that isn't to be kept, and watches no longer what has none left.
+    fn retain(&mut self, keeps: impl Fn(&Path) -> bool) {
+        let file = self.file.as_raw_fd();
+        self.paths.retain(|number, paths| {
+            paths.retain(|path| keeps(path));
+            if paths.is_empty() {
+                // SAFETY: the call has no pointer.
+                unsafe { inotify_rm_watch(file, *number) };
+            }
+            !paths.is_empty()
+        });
     }
 }
 
-/// A watched folder or file.
-struct Watched {
+/// A path that is to be watched.
+struct Root {
     path: PathBuf,
     mode: RecursiveMode,
-    is_root: bool,
+    /// What stands there, as far as it is watched.
+    standing: Option<Standing>,
+    /// Whether the handler was told that nothing stands there.
+    is_said: bool,
+}
+
+/// What stands at a path.
+#[derive(Clone, Copy, PartialEq)]
+struct Standing {
+    device: u64,
+    inode: u64,
+    is_folder: bool,
+}
+
+impl Root {
+    fn covers(&self, path: &Path) -> bool {
+        self.path == path || (self.mode.is_recursive() && path.starts_with(&self.path))
+    }
+
+    fn standing(&self) -> io::Result<Standing> {
+        let data = fs::metadata(&self.path)?;
+        Ok(Standing { device: data.dev(), inode: data.ino(), is_folder: data.is_dir() })
+    }
 }
 
 /// What the watcher and its thread share.
 struct Shared {
-    notes: OwnedFd,
-    config: InotifyConfig,
-    watched: Mutex<HashMap<c_int, Watched>>,
+    notes: Notes,
+    roots: Vec<Root>,
+    joins_renames: bool,
+    /// What is to be handed to the handler.
+    reports: Vec<Result<Event>>,
 }
 
-/// The watcher.
-pub struct InotifyWatcher {
-    shared: Arc<Shared>,
-    stop: Option<UnixStream>,
-    thread: Option<JoinHandle<()>>,
+/// The watcher. Dropping it tells its thread to end, and doesn't wait for that.
+pub struct INotifyWatcher {
+    shared: Arc<Mutex<Shared>>,
+    /// The thread ends once this end is gone.
+    _stop: UnixStream,
 }
 
-impl Watcher for InotifyWatcher {
-    type Config = InotifyConfig;
+impl fmt::Debug for INotifyWatcher {
+    fn fmt(&self, out: &mut fmt::Formatter<'_>) -> fmt::Result {
+        out.debug_struct("INotifyWatcher").finish_non_exhaustive()
+    }
+}
 
-    fn new<H: EventHandler>(handler: H, config: InotifyConfig) -> Result<InotifyWatcher> {
-        // SAFETY: the call has no pointer, and what it returns is a descriptor of our own.
-        let notes = unsafe { inotify_init1(NONBLOCK_CLOEXEC) };
-        if notes < 0 {
-            return Err(Error::io(io::Error::last_os_error()));
-        }
-        let notes = unsafe { OwnedFd::from_raw_fd(notes) };
-        let (stop, stopped) = UnixStream::pair().map_err(Error::io)?;
-        let file = File::from(notes.try_clone().map_err(Error::io)?);
-        let shared = Arc::new(Shared { notes, config, watched: Mutex::default() });
-        let looks = Looks { shared: Arc::clone(&shared), file, stopped, handler };
-        let thread = thread::Builder::new().name("inotify".to_string()).spawn(move || looks.go()).map_err(Error::io)?;
-        Ok(InotifyWatcher { shared, stop: Some(stop), thread: Some(thread) })
+fn lock(shared: &Mutex<Shared>) -> MutexGuard<'_, Shared> {
+    shared.lock().unwrap_or_else(|poisoned| poisoned.into_inner())
+}
+
+/// The error of a path that isn't watched.
+fn refused(error: io::Error, path: &Path) -> Error {
+    let kind = match error.raw_os_error() {
+        Some(NO_SPACE) => ErrorKind::MaxFilesWatch,
+        _ if error.kind() == io::ErrorKind::NotFound => ErrorKind::PathNotFound,
+        _ => ErrorKind::Io(error),
+    };
+    Error::new(kind).add_path(path.to_path_buf())
+}
+
+/// Whether a path below a root is no folder any longer: something says so, or has said so.
+fn is_gone(error: &io::Error) -> bool {
+    const NO_FOLDER: i32 = 20;
+    error.kind() == io::ErrorKind::NotFound || error.raw_os_error() == Some(NO_FOLDER)
+}
+
+impl Watcher for INotifyWatcher {
+    fn new<H: EventHandler>(handler: H, config: Config) -> Result<INotifyWatcher> {
+        let (stop, stopped) = UnixStream::pair()?;
+        let shared = Shared {
+            notes: Notes::new()?,
+            roots: Vec::new(),
+            joins_renames: config.joined_renames(),
+            reports: Vec::new(),
+        };
+        let shared = Arc::new(Mutex::new(shared));
+        let listener = Listener { shared: Arc::clone(&shared), stopped, handler };
+        thread::Builder::new().name("inotify".to_string()).spawn(move || listener.go())?;
+        Ok(INotifyWatcher { shared, _stop: stop })
     }
 
+    /// Watches a file or a folder, also through a link, from now on. If one of its folders can't be watched, it is an
+    /// error, and the path isn't watched. A path that is watched already gets this mode.
     fn watch(&mut self, path: &Path, mode: RecursiveMode) -> Result<()> {
-        let mut watched = self.shared.lock();
-        let mut none = |_: &Path, _: bool| {};
-        self.shared.add(&mut watched, path, mode, true, &mut none).map_err(|error| match error.kind() {
-            io::ErrorKind::NotFound => Error::new(ErrorKind::PathNotFound).add_path(path),
-            _ => Error::io(error).add_path(path),
-        })
+        let path = absolute(path)?;
+        let mut shared = lock(&self.shared);
+        let root = Root { path: path.clone(), mode, standing: None, is_said: false };
+        let standing = root.standing().map_err(|error| refused(error, &path))?;
+        shared.roots.retain(|known| known.path != path);
+        shared.roots.push(Root { standing: Some(standing), ..root });
+        let watched = shared.watch_root(&path, mode, &mut |_, _| {});
+        if watched.is_err() {
+            shared.roots.retain(|known| known.path != path);
+        }
+        shared.forget_uncovered();
+        watched
     }
 
     fn unwatch(&mut self, path: &Path) -> Result<()> {
-        let mut watched = self.shared.lock();
-        if !watched.values().any(|it| it.is_root && it.path == path) {
-            return Err(Error::new(ErrorKind::WatchNotFound).add_path(path));
+        let path = absolute(path)?;
+        let mut shared = lock(&self.shared);
+        let many = shared.roots.len();
+        shared.roots.retain(|root| root.path != path);
+        if shared.roots.len() == many {
+            return Err(Error::watch_not_found().add_path(path));
         }
-        self.shared.remove(&mut watched, path);
+        shared.forget_uncovered();
         Ok(())
     }
-}
 
-impl Drop for InotifyWatcher {
-    fn drop(&mut self) {
-        // The thread sees that the other end is gone.
-        self.stop = None;
-        if let Some(thread) = self.thread.take() {
-            let _ = thread.join();
-        }
+    fn kind() -> WatcherKind {
+        WatcherKind::Inotify
     }
 }
+
+/// What is given each entry of a listing, and whether it is a folder.
+type Found<'a> = dyn FnMut(&Path, bool) + 'a;
 
 impl Shared {
-    fn lock(&self) -> MutexGuard<'_, HashMap<c_int, Watched>> {
-        self.watched.lock().unwrap_or_else(|poisoned| poisoned.into_inner())
+    fn report(&mut self, kind: EventKind, path: &Path, cookie: u32) {
+        let event = Event::new(kind).add_path(path.to_path_buf());
+        self.reports.push(Ok(if cookie == 0 { event } else { event.set_tracker(cookie as usize) }));
     }
 
-    /// Watches a path, and all below it if it is recursive. The watch comes before the listing, so that what
-    /// appears meanwhile is seen by one of them. Each entry that is listed is given to `found`.
-    fn add(
-        &self,
-        watched: &mut HashMap<c_int, Watched>,
-        path: &Path,
-        mode: RecursiveMode,
-        is_root: bool,
-        found: &mut dyn FnMut(&Path, bool),
-    ) -> io::Result<()> {
-        let text = CString::new(path.as_os_str().as_bytes())?;
-        // SAFETY: the text ends with a zero, and lives through the call.
-        let number = unsafe { inotify_add_watch(self.notes.as_raw_fd(), text.as_ptr(), MASK) };
-        if number < 0 {
-            return Err(io::Error::last_os_error());
+    /// Says that what is watched should be read anew.
+    fn report_rescan(&mut self) {
+        self.reports.push(Ok(Event::new(EventKind::Other).set_flag(Flag::Rescan)));
+    }
+
+    fn watch_root(&mut self, path: &Path, mode: RecursiveMode, found: &mut Found) -> Result<()> {
+        self.notes.watch(path, MASK).map_err(|error| refused(error, path))?;
+        if mode.is_recursive() && path.is_dir() {
+            self.watch_below(path, found)?;
         }
-        let is_root = is_root || watched.get(&number).is_some_and(|it| it.is_root && it.path == path);
-        watched.insert(number, Watched { path: path.to_path_buf(), mode, is_root });
-        let listing = match mode {
-            RecursiveMode::Recursive => fs::read_dir(path),
-            RecursiveMode::NonRecursive => return Ok(()),
+        Ok(())
+    }
+
+    /// Watches each folder below a watched one. The watch comes before the listing, so that what appears meanwhile is
+    /// seen by one of them.
+    fn watch_below(&mut self, folder: &Path, found: &mut Found) -> Result<()> {
+        let listing = match fs::read_dir(folder) {
+            Err(error) if is_gone(&error) => return Ok(()),
+            listing => listing.map_err(|error| refused(error, folder))?,
         };
-        for entry in listing.into_iter().flatten().flatten() {
+        for entry in listing {
+            let entry = entry.map_err(|error| refused(error, folder))?;
             let is_folder = entry.file_type().is_ok_and(|kind| kind.is_dir());
             found(&entry.path(), is_folder);
             if is_folder {
-                // It may be gone again.
-                let _ = self.add(watched, &entry.path(), mode, false, found);
+                self.watch_folder(&entry.path(), found)?;
             }
         }
         Ok(())
     }
 
-    /// Watches a path no longer, nor any below it.
-    fn remove(&self, watched: &mut HashMap<c_int, Watched>, path: &Path) {
-        watched.retain(|number, it| {
-            let goes = it.path.starts_with(path);
-            if goes {
-                // SAFETY: the call has no pointer.
-                unsafe { inotify_rm_watch(self.notes.as_raw_fd(), *number) };
+    /// Watches a folder that lies below a root, and each folder below it.
+    fn watch_folder(&mut self, folder: &Path, found: &mut Found) -> Result<()> {
+        match self.notes.watch(folder, FOLDER_MASK) {
+            Err(error) if is_gone(&error) => Ok(()),
+            Err(error) => Err(refused(error, folder)),
+            Ok(_) => self.watch_below(folder, found),
+        }
+    }
+
+    /// Watches no longer what no root covers.
+    fn forget_uncovered(&mut self) {
+        let roots = &self.roots;
+        self.notes.retain(|path| roots.iter().any(|root| root.standing.is_some() && root.covers(path)));
+    }
+
+    /// Watches a path no longer, nor any below it. Roots that lie there are looked for.
+    fn forget_below(&mut self, path: &Path) {
+        self.notes.retain(|known| !known.starts_with(path));
+        for root in self.roots.iter_mut().filter(|root| root.path.starts_with(path)) {
+            root.standing = None;
+        }
+    }
+
+    /// Takes what was read: events, each a number, a mask, a cookie, a length and a name.
+    fn take(&mut self, mut bytes: &[u8]) {
+        while bytes.len() >= 16 {
+            let word = |i: usize| u32::from_ne_bytes([bytes[i], bytes[i + 1], bytes[i + 2], bytes[i + 3]]);
+            let (number, mask, cookie, len) = (word(0) as c_int, word(4), word(8), word(12) as usize);
+            let name = bytes[16..16 + len].split(|byte| *byte == 0).next().unwrap_or(&[]);
+            if mask & OVERFLOW != 0 {
+                // What follows is of the instance that is closed.
+                return self.begin_anew();
             }
-            !goes
-        });
+            self.take_one(number, mask, cookie, OsStr::from_bytes(name));
+            bytes = &bytes[16 + len..];
+        }
+    }
+
+    fn take_one(&mut self, number: c_int, mask: u32, cookie: u32, name: &OsStr) {
+        let paths = match mask & IGNORED {
+            0 => self.notes.paths.get(&number).cloned(),
+            _ => self.notes.paths.remove(&number),
+        };
+        for path in paths.into_iter().flatten() {
+            if name.is_empty() {
+                self.take_itself(mask, &path);
+            } else {
+                self.take_in_folder(mask, cookie, &path.join(name));
+            }
+        }
+    }
+
+    /// What is said of the watched path itself: of all but the roots, the folder above says it too.
+    fn take_itself(&mut self, mask: u32, path: &Path) {
+        let Some(root) = self.roots.iter().find(|root| root.path == path) else {
+            return;
+        };
+        let Some(before) = root.standing else {
+            return;
+        };
+        let is_gone = mask & (DELETE_SELF | UNMOUNT | IGNORED) != 0;
+        let may_be_gone = mask & (MOVE_SELF | ATTRIB) != 0;
+        if is_gone || (may_be_gone && !root.standing().is_ok_and(|now| now == before)) {
+            self.report(removal(before.is_folder), path, 0);
+            self.forget_below(path);
+        } else {
+            self.report_changes(mask, path);
+        }
+    }
+
+    /// What is said of a path in a watched folder.
+    fn take_in_folder(&mut self, mask: u32, cookie: u32, path: &Path) {
+        let is_folder = mask & IS_FOLDER != 0;
+        let joins = self.joins_renames;
+        if is_folder && mask & MOVED_FROM != 0 {
+            self.forget_below(path);
+        }
+        let mut found = Vec::new();
+        // A folder whose mode changed may have been closed before.
+        if is_folder && mask & (CREATE | MOVED_TO | ATTRIB) != 0 {
+            found = self.watch_new(path);
+        }
+        if mask & MOVED_FROM != 0 {
+            self.report(if joins { renamed(RenameMode::From) } else { removal(is_folder) }, path, cookie);
+        }
+        if mask & MOVED_TO != 0 {
+            self.report(if joins { renamed(RenameMode::To) } else { creation(is_folder) }, path, cookie);
+        }
+        if mask & CREATE != 0 {
+            self.report(creation(is_folder), path, 0);
+        }
+        if !(joins && mask & MOVED_TO != 0) {
+            found.iter().for_each(|(path, is_folder)| self.report(creation(*is_folder), path, 0));
+        }
+        if mask & DELETE != 0 {
+            self.report(removal(is_folder), path, 0);
+        }
+        self.report_changes(mask, path);
+    }
+
+    fn report_changes(&mut self, mask: u32, path: &Path) {
+        if mask & MODIFY != 0 {
+            self.report(EventKind::Modify(ModifyKind::Data(DataChange::Any)), path, 0);
+        }
+        if mask & ATTRIB != 0 {
+            self.report(EventKind::Modify(ModifyKind::Metadata(MetadataKind::Any)), path, 0);
+        }
+    }
+
+    /// Watches a folder that wasn't watched, if a recursive root is above it, and returns what stands in it. What can't
+    /// be watched is said, and that what is there should be read.
+    fn watch_new(&mut self, folder: &Path) -> Vec<(PathBuf, bool)> {
+        let mut below = Vec::new();
+        if !self.roots.iter().any(|root| root.mode.is_recursive() && folder.starts_with(&root.path)) {
+            return below;
+        }
+        if self.notes.watch(folder, FOLDER_MASK).is_ok_and(|is_new| !is_new) {
+            return below;
+        }
+        let watched = self.watch_folder(folder, &mut |path, is_folder| below.push((path.to_path_buf(), is_folder)));
+        if let Err(error) = watched {
+            self.reports.push(Err(error));
+            self.report_rescan();
+        }
+        below
+    }
+
+    /// Events were lost, so which folders there are isn't known. With another instance all begins anew: to end each
+    /// watch of the old one would fill its queue again.
+    fn begin_anew(&mut self) {
+        match Notes::new() {
+            Ok(notes) => self.notes = notes,
+            // There is no further instance: this one goes on, and what it tells of other folders is passed over.
+            Err(_) => self.notes.paths.clear(),
+        }
+        for i in 0..self.roots.len() {
+            let (path, mode) = (self.roots[i].path.clone(), self.roots[i].mode);
+            self.roots[i].standing = self.roots[i].standing().ok();
+            if self.roots[i].standing.is_none() {
+                continue;
+            }
+            if let Err(error) = self.watch_root(&path, mode, &mut |_, _| {}) {
+                self.reports.push(Err(error));
+            }
+        }
+        self.report_rescan();
+    }
+
+    fn has_lost_roots(&self) -> bool {
+        self.roots.iter().any(|root| root.standing.is_none())
+    }
+
+    /// Watches each root that was gone and is there now, and reports it with what stands in it as created. That one
+    /// isn't there is said once.
+    fn look_for_lost_roots(&mut self) {
+        for i in 0..self.roots.len() {
+            if self.roots[i].standing.is_some() {
+                continue;
+            }
+            let (path, mode) = (self.roots[i].path.clone(), self.roots[i].mode);
+            match self.roots[i].standing() {
+                Ok(standing) => self.take_up(i, standing, &path, mode),
+                Err(error) if !self.roots[i].is_said => {
+                    self.roots[i].is_said = true;
+                    self.reports.push(Err(refused(error, &path)));
+                }
+                Err(_) => {}
+            }
+        }
+    }
+
+    fn take_up(&mut self, i: usize, standing: Standing, path: &Path, mode: RecursiveMode) {
+        self.roots[i].standing = Some(standing);
+        self.roots[i].is_said = false;
+        let mut below = vec![(path.to_path_buf(), standing.is_folder)];
+        if let Err(error) =
+            self.watch_root(path, mode, &mut |path, is_folder| below.push((path.to_path_buf(), is_folder)))
+        {
+            self.reports.push(Err(error));
+        }
+        below.iter().for_each(|(path, is_folder)| self.report(creation(*is_folder), path, 0));
     }
 }
 
@@ -192,125 +476,50 @@ fn renamed(mode: RenameMode) -> EventKind {
 }
 
 /// The thread.
-struct Looks<H> {
-    shared: Arc<Shared>,
-    file: File,
+struct Listener<H> {
+    shared: Arc<Mutex<Shared>>,
     stopped: UnixStream,
     handler: H,
 }
 
-impl<H: EventHandler> Looks<H> {
+impl<H: EventHandler> Listener<H> {
     fn go(mut self) {
         let mut buf = vec![0; 65536];
-        loop {
-            let mut fds =
-                [self.file.as_raw_fd(), self.stopped.as_raw_fd()].map(|fd| PollFd { fd, events: POLLIN, revents: 0 });
-            // SAFETY: the two stand in an array of our own.
-            unsafe { poll(fds.as_mut_ptr(), 2, -1) };
-            while let Ok(len @ 1..) = self.file.read(&mut buf) {
-                self.take(&buf[..len]);
-            }
-            if fds[1].revents != 0 {
+        while !self.waits() {
+            self.turn(&mut buf);
+        }
+        // What happened before the end is taken too, but no more than that.
+        for _ in 0..LAST_READS {
+            if !self.turn(&mut buf) {
                 return;
             }
         }
     }
 
-    fn report(&mut self, kind: EventKind, path: &Path, cookie: u32) {
-        let event = Event::new(kind).add_path(path);
-        self.handler.handle_event(Ok(if cookie == 0 { event } else { event.set_tracker(cookie as usize) }));
+    /// Waits until there is something to read, or a root to look for; whether it is to end.
+    fn waits(&self) -> bool {
+        let (notes, timeout) = self.waits_for();
+        let mut fds = [notes, self.stopped.as_raw_fd()].map(|fd| PollFd { fd, events: POLLIN, revents: 0 });
+        // SAFETY: the two stand in an array of our own.
+        unsafe { poll(fds.as_mut_ptr(), 2, timeout) };
+        fds[1].revents != 0
     }
 
-    /// Takes what was read: events, each a number, a mask, a cookie, a length and a name.
-    fn take(&mut self, mut bytes: &[u8]) {
-        while bytes.len() >= 16 {
-            let word = |i: usize| u32::from_ne_bytes([bytes[i], bytes[i + 1], bytes[i + 2], bytes[i + 3]]);
-            let (number, mask, cookie, len) = (word(0) as c_int, word(4), word(8), word(12) as usize);
-            let name = bytes[16..16 + len].split(|byte| *byte == 0).next().unwrap_or(&[]);
-            self.take_one(number, mask, cookie, OsStr::from_bytes(name));
-            bytes = &bytes[16 + len..];
-        }
+    /// The descriptor of the instance, which only this thread replaces, and for how long to wait.
+    fn waits_for(&self) -> (RawFd, c_int) {
+        let shared = lock(&self.shared);
+        (shared.notes.file.as_raw_fd(), if shared.has_lost_roots() { PAUSE } else { -1 })
     }
 
-    fn take_one(&mut self, number: c_int, mask: u32, cookie: u32, name: &OsStr) {
-        if mask & OVERFLOW != 0 {
-            return self.begin_anew();
-        }
-        let shared = Arc::clone(&self.shared);
-        let mut watched = shared.lock();
-        let Some(it) = watched.get(&number) else {
-            return;
-        };
-        let (folder, mode, is_root) = (it.path.clone(), it.mode, it.is_root);
-        if mask & IGNORED != 0 {
-            watched.remove(&number);
-            return;
-        }
-        if name.is_empty() {
-            // About the watched path itself: of all but the roots, the folder above says it too.
-            drop(watched);
-            if is_root && mask & DELETE_SELF != 0 {
-                self.report(EventKind::Remove(RemoveKind::Any), &folder, 0);
-            } else if is_root {
-                self.report_changes(mask, &folder);
-            }
-            return;
-        }
-        let path = folder.join(name);
-        let is_folder = mask & IS_FOLDER != 0;
-        let appears = mask & (CREATE | MOVED_TO) != 0;
-        if is_folder && mask & MOVED_FROM != 0 {
-            shared.remove(&mut watched, &path);
-        }
-        let mut below = Vec::new();
-        if is_folder && appears && mode == RecursiveMode::Recursive {
-            let mut found = |path: &Path, is_folder: bool| below.push((path.to_path_buf(), is_folder));
-            let _ = shared.add(&mut watched, &path, mode, false, &mut found);
-        }
-        drop(watched);
-        let joins = shared.config.joins_renames;
-        if mask & MOVED_FROM != 0 {
-            let kind = if joins { renamed(RenameMode::From) } else { removal(is_folder) };
-            self.report(kind, &path, cookie);
-        }
-        if mask & MOVED_TO != 0 {
-            let kind = if joins { renamed(RenameMode::To) } else { creation(is_folder) };
-            self.report(kind, &path, cookie);
-        }
-        if mask & CREATE != 0 {
-            self.report(creation(is_folder), &path, 0);
-        }
-        if !(joins && mask & MOVED_TO != 0) {
-            for (path, is_folder) in below {
-                self.report(creation(is_folder), &path, 0);
-            }
-        }
-        if mask & DELETE != 0 {
-            self.report(removal(is_folder), &path, 0);
-        }
-        self.report_changes(mask, &path);
-    }
-
-    fn report_changes(&mut self, mask: u32, path: &Path) {
-        if mask & MODIFY != 0 {
-            self.report(EventKind::Modify(ModifyKind::Data(DataChange::Any)), path, 0);
-        }
-        if mask & ATTRIB != 0 {
-            self.report(EventKind::Modify(ModifyKind::Metadata(MetadataKind::Any)), path, 0);
-        }
-    }
-
-    /// Events were lost, so which folders there are isn't known.
-    fn begin_anew(&mut self) {
-        let mut watched = self.shared.lock();
-        let roots: Vec<_> = watched.values().filter(|it| it.is_root).map(|it| (it.path.clone(), it.mode)).collect();
-        for (path, _) in &roots {
-            self.shared.remove(&mut watched, path);
-        }
-        for (path, mode) in roots {
-            let _ = self.shared.add(&mut watched, &path, mode, true, &mut |_: &Path, _: bool| {});
-        }
-        drop(watched);
-        self.handler.handle_event(Ok(Event::new(EventKind::Other).set_flag(Flag::Rescan)));
+    /// One read, however much comes; whether there was anything.
+    fn turn(&mut self, buf: &mut [u8]) -> bool {
+        let mut shared = lock(&self.shared);
+        let len = (&shared.notes.file).read(buf).unwrap_or(0);
+        shared.take(&buf[..len]);
+        shared.look_for_lost_roots();
+        let reports = mem::take(&mut shared.reports);
+        drop(shared);
+        reports.into_iter().for_each(|report| self.handler.handle_event(report));
+        len > 0
     }
 }

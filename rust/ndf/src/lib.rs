@@ -3,7 +3,7 @@
 //! watcher are tested.
 //!
 //! ```no_run
-//! use ndf::{new_debouncer, DebounceEventResult, RecursiveMode};
+//! use ndf::{new_debouncer, notify::RecursiveMode, DebounceEventResult};
 //! use std::{sync::mpsc, time::Duration};
 //!
 //! let (sender, reports) = mpsc::channel::<DebounceEventResult>();
@@ -18,22 +18,21 @@
 //! # Ok::<(), ndf::Error>(())
 //! ```
 //!
-//! Whoever has a loop of their own takes [`Core`], which has no thread and no clock. (docs/C.md of the repository says
-//! what is proved of it.)
+//! A program that is written for notify-debouncer-full finds its names here, and notify's in [`notify`]; what can't be
+//! had, and what is otherwise, docs/COMING_FROM.md of the repository lists. Whoever has a loop of their own takes
+//! [`Core`], which has no thread and no clock. (docs/C.md says what is proved of it.)
 //!
-//! [`new_debouncer`] has inotify on Linux; any other watcher implements [`Watcher`] and goes under
-//! [`new_debouncer_opt`]. This one is notify's, which isn't compiled here, since notify isn't here. The functions
+//! [`new_debouncer`] has inotify on Linux, and isn't there elsewhere; any other watcher implements [`Watcher`] and goes
+//! under [`new_debouncer_opt`]. This one is notify's, which isn't compiled here, since notify isn't here. The functions
 //! after the impl were compiled once beside declarations of the types of notify 8, which have the same names and variants.
 //!
 //! ```text
 //! struct Native(notify::RecommendedWatcher);
 //!
 //! impl ndf::Watcher for Native {
-//!     type Config = notify::Config;
-//!
-//!     fn new<H: ndf::EventHandler>(mut handler: H, config: notify::Config) -> ndf::Result<Native> {
+//!     fn new<H: ndf::EventHandler>(mut handler: H, _: ndf::Config) -> ndf::Result<Native> {
 //!         let hand_on = move |event: notify::Result<notify::Event>| handler.handle_event(event.map(event_of).map_err(error_of));
-//!         notify::Watcher::new(hand_on, config).map(Native).map_err(error_of)
+//!         notify::Watcher::new(hand_on, notify::Config::default()).map(Native).map_err(error_of)
 //!     }
 //!
 //!     fn watch(&mut self, path: &Path, mode: ndf::RecursiveMode) -> ndf::Result<()> {
@@ -42,6 +41,10 @@
 //!
 //!     fn unwatch(&mut self, path: &Path) -> ndf::Result<()> {
 //!         notify::Watcher::unwatch(&mut self.0, path).map_err(error_of)
+//!     }
+//!
+//!     fn kind() -> ndf::WatcherKind {
+//!         ndf::WatcherKind::Fsevent
 //!     }
 //! }
 //!
@@ -58,20 +61,20 @@
 //!         notify::ErrorKind::Io(error) => ndf::ErrorKind::Io(error),
 //!         notify::ErrorKind::PathNotFound => ndf::ErrorKind::PathNotFound,
 //!         notify::ErrorKind::WatchNotFound => ndf::ErrorKind::WatchNotFound,
+//!         notify::ErrorKind::MaxFilesWatch => ndf::ErrorKind::MaxFilesWatch,
 //!         other => ndf::ErrorKind::Generic(format!("{other:?}")),
 //!     };
 //!     ndf::Error { kind, paths: error.paths }
 //! }
 //!
 //! fn event_of(event: notify::Event) -> ndf::Event {
-//!     let attrs = ndf::EventAttributes {
-//!         tracker: event.attrs.tracker(),
-//!         flag: event.attrs.flag().map(|_| ndf::Flag::Rescan),
-//!         info: event.attrs.info().map(str::to_string),
-//!         source: event.attrs.source().map(str::to_string),
-//!         process_id: event.attrs.process_id(),
-//!     };
-//!     ndf::Event { kind: kind_of(event.kind), paths: event.paths, attrs }
+//!     let mut told = ndf::Event { kind: kind_of(event.kind), paths: event.paths, ..Default::default() };
+//!     event.attrs.tracker().into_iter().for_each(|tracker| told.attrs.set_tracker(tracker));
+//!     event.attrs.flag().into_iter().for_each(|_| told.attrs.set_flag(ndf::Flag::Rescan));
+//!     event.attrs.info().into_iter().for_each(|info| told.attrs.set_info(info));
+//!     event.attrs.source().into_iter().for_each(|source| told.attrs.set_source(source));
+//!     event.attrs.process_id().into_iter().for_each(|process| told.attrs.set_process_id(process));
+//!     told
 //! }
 //!
 //! fn kind_of(kind: notify::EventKind) -> ndf::EventKind {
@@ -146,28 +149,38 @@
 //! }
 //! ```
 
+#![warn(missing_docs)]
+
+mod cache;
+mod config;
 mod core;
 mod debouncer;
-mod event;
+mod error;
+pub mod event;
+pub mod file_id;
 mod heap;
 #[cfg(target_os = "linux")]
 mod inotify;
+pub mod notify;
 #[doc(hidden)]
 pub mod raw;
 mod watcher;
 
-pub use crate::core::{Core, Emitted, Entry};
-pub use crate::debouncer::{
-    new_debouncer, new_debouncer_opt, DebounceEventHandler, DebounceEventResult, DebouncedEvent, Debouncer,
-};
+pub use crate::cache::{FileIdCache, FileIdMap, NoCache, RecommendedCache};
+pub use crate::config::{Config, RecursiveMode};
+pub use crate::core::{Core, Counts, Emitted, Entry};
+#[cfg(target_os = "linux")]
+pub use crate::debouncer::new_debouncer;
+pub use crate::debouncer::{new_debouncer_opt, DebounceEventHandler, DebounceEventResult, DebouncedEvent, Debouncer};
+pub use crate::error::{Error, ErrorKind, Result};
 pub use crate::event::{
-    AccessKind, AccessMode, CreateKind, DataChange, Error, ErrorKind, Event, EventAttributes, EventKind, Flag,
-    MetadataKind, ModifyKind, RecursiveMode, RemoveKind, RenameMode, Result,
+    AccessKind, AccessMode, CreateKind, DataChange, Event, EventAttributes, EventKind, Flag, MetadataKind, ModifyKind,
+    RemoveKind, RenameMode,
 };
 #[cfg(target_os = "linux")]
-pub use crate::inotify::{InotifyConfig, InotifyWatcher};
-pub use crate::watcher::{EventHandler, Watcher};
+pub use crate::inotify::INotifyWatcher;
+pub use crate::watcher::{EventHandler, NullWatcher, Watcher, WatcherKind};
 
 /// The watcher of [`new_debouncer`].
 #[cfg(target_os = "linux")]
-pub type RecommendedWatcher = InotifyWatcher;
+pub type RecommendedWatcher = INotifyWatcher;

@@ -1,5 +1,20 @@
 //! The calls of `c/ndf.h`, as they are.
+#![allow(missing_docs)]
 use std::ffi::c_void;
+
+/// The version of c/ndf.h that these are the calls of: NDF_VERSION there.
+pub const VERSION: u32 = part(env!("CARGO_PKG_VERSION_MAJOR")) * 10000
+    + part(env!("CARGO_PKG_VERSION_MINOR")) * 100
+    + part(env!("CARGO_PKG_VERSION_PATCH"));
+
+const fn part(digits: &str) -> u32 {
+    let (digits, mut value, mut i) = (digits.as_bytes(), 0, 0);
+    while i < digits.len() {
+        value = value * 10 + (digits[i] - b'0') as u32;
+        i += 1;
+    }
+    value
+}
 
 #[repr(C)]
 pub struct Handle {
@@ -81,15 +96,25 @@ pub struct Number {
 
 #[repr(C)]
 #[derive(Clone, Copy, Default, Debug)]
+/// What a core has counted.
 pub struct Counts {
+    /// How many events were taken.
     pub taken: u64,
+    /// How many were emitted.
     pub given: u64,
+    /// How many wait.
     pub waiting: u64,
+    /// How many paths the last tick found due.
     pub visited: u64,
+    /// The greatest moment so far.
     pub latest: u64,
+    /// How old an event is when it is emitted.
     pub timeout: u64,
+    /// How many errors are kept.
     pub errors: usize,
+    /// How many paths have a file number.
     pub numbers: usize,
+    /// How many entries the journal has.
     pub entries: usize,
 }
 
@@ -107,6 +132,7 @@ pub const STEP_UNWATCH: u32 = 3;
 pub const STEP_TICK: u32 = 5;
 
 extern "C" {
+    pub fn ndf_version() -> u32;
     pub fn ndf_new(h: *mut Handle, timeout: u64) -> u32;
     pub fn ndf_free(h: *mut Handle);
     pub fn ndf_watch(h: *mut Handle, path: *const u8, len: usize, recursive: bool) -> u32;

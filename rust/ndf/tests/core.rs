@@ -10,10 +10,8 @@ const WRITTEN: EventKind = EventKind::Modify(ModifyKind::Data(DataChange::Any));
 #[test]
 fn an_event_comes_out_with_all_it_has() {
     let mut core = Core::new(50).unwrap();
-    let mut event = Event::new(WRITTEN).add_path("/w/a").add_path("/w/b").set_tracker(7);
-    event.attrs.info = Some("i".repeat(2000));
-    event.attrs.source = Some("source".to_string());
-    event.attrs.process_id = Some(11);
+    let event = Event::new(WRITTEN).add_path("/w/a".into()).add_path("/w/b".into()).set_tracker(7);
+    let event = event.set_info(&"i".repeat(2000)).set_source("source").set_process_id(11);
     core.add_event(&event, 10, true).unwrap();
     core.add_event(&Event::new(EventKind::Other).set_flag(Flag::Rescan), 10, false).unwrap();
     assert!(core.tick(59).unwrap().is_empty());
@@ -26,7 +24,8 @@ fn an_event_comes_out_with_all_it_has() {
 #[test]
 fn halves_are_joined_and_what_waits_is_seen() {
     let mut core = Core::new(50).unwrap();
-    let half = |mode, path: &str| Event::new(EventKind::Modify(ModifyKind::Name(mode))).add_path(path).set_tracker(1);
+    let half =
+        |mode, path: &str| Event::new(EventKind::Modify(ModifyKind::Name(mode))).add_path(path.into()).set_tracker(1);
     core.add_event(&half(RenameMode::From, "/w/a"), 0, false).unwrap();
     core.add_event(&half(RenameMode::To, "/w/b"), 1, true).unwrap();
     let waiting = core.outlook().unwrap();
@@ -38,7 +37,7 @@ fn halves_are_joined_and_what_waits_is_seen() {
 #[test]
 fn halves_are_joined_by_the_number_of_their_file() {
     let mut core = Core::new(50).unwrap();
-    let half = |mode, path: &str| Event::new(EventKind::Modify(ModifyKind::Name(mode))).add_path(path);
+    let half = |mode, path: &str| Event::new(EventKind::Modify(ModifyKind::Name(mode))).add_path(path.into());
     core.set_number(Path::new("/w/a"), 1, 7).unwrap();
     core.set_number(Path::new("/w/a/1"), 1, 8).unwrap();
     core.add_event(&half(RenameMode::From, "/w/a"), 0, false).unwrap();
@@ -60,7 +59,7 @@ fn roots_have_modes_and_errors_wait() {
     assert_eq!(core.recursive_mode(Path::new("/w/x")).unwrap(), RecursiveMode::Recursive);
     core.unwatch(Path::new("/w")).unwrap();
     assert_eq!(core.recursive_mode(Path::new("/w/x")).unwrap(), RecursiveMode::NonRecursive);
-    core.add_error(&Error::generic("text").add_path("/w")).unwrap();
+    core.add_error(&Error::generic("text").add_path("/w".into())).unwrap();
     let errors = core.errors().unwrap();
     assert_eq!(errors.len(), 1);
     assert_eq!(errors[0].to_string(), "text /w");
@@ -74,10 +73,10 @@ fn a_journal_has_what_was_done() {
     core.keep_journal(true).unwrap();
     core.watch(Path::new("/w"), RecursiveMode::Recursive).unwrap();
     core.set_number(Path::new("/w/a"), 1, 7).unwrap();
-    let mut event = Event::new(EventKind::Modify(ModifyKind::Name(RenameMode::From))).add_path("/w/a");
-    event.attrs.info = Some("i".repeat(2000));
+    let event = Event::new(EventKind::Modify(ModifyKind::Name(RenameMode::From))).add_path("/w/a".into());
+    let event = event.set_info(&"i".repeat(2000));
     core.add_event(&event, 10, false).unwrap();
-    core.add_error(&Error::generic("text").add_path("/w")).unwrap();
+    core.add_error(&Error::generic("text").add_path("/w".into())).unwrap();
     let batch = core.tick(60).unwrap();
     assert_eq!(batch.len(), 1);
     core.errors().unwrap();
@@ -101,8 +100,8 @@ fn a_path_that_is_not_a_text_is_refused() {
     use std::ffi::OsStr;
     use std::os::unix::ffi::OsStrExt;
     let mut core = Core::new(50).unwrap();
-    let event = Event::new(EventKind::Create(CreateKind::File)).add_path(OsStr::from_bytes(b"/\xff"));
+    let event = Event::new(EventKind::Create(CreateKind::File)).add_path(OsStr::from_bytes(b"/\xff").into());
     assert!(matches!(core.add_event(&event, 0, true), Err(Error { kind: ErrorKind::NotText, .. })));
-    let three = Event::new(WRITTEN).add_path("a").add_path("b").add_path("c");
+    let three = Event::new(WRITTEN).add_path("a".into()).add_path("b".into()).add_path("c".into());
     assert!(matches!(core.add_event(&three, 0, true), Err(Error { kind: ErrorKind::TooManyPaths, .. })));
 }
