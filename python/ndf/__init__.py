@@ -1,15 +1,26 @@
-"""The debouncer of c/ndf.h in Python, by ctypes over a shared library (docs/C.md: how it is made; NDF_SO names it).
+"""The debouncer of c/ndf.h in Python, by ctypes over a shared library (docs/C.md: how it is made). The environment's
+NDF_SO names it, when this module is imported; without it the system looks for libndf.so.0.
 
     with Debouncer(timeout=50_000_000) as debouncer:
         debouncer.feed(CREATE_FILE, "/w/a", moment=0)
         for event in debouncer.tick(50_000_000):
             print(event.word, *event.paths)
 
-Moments are nanoseconds. A debouncer stays on the thread that made it.
+Moments are nanoseconds. A debouncer stays on the thread that made it: a call on another one is a RuntimeError.
 """
+from __future__ import annotations
+
 import ctypes
 import os
+import threading
+import warnings
+from collections.abc import Callable, Iterator
 from dataclasses import dataclass, field
+from types import TracebackType
+
+__version__ = "0.2.0"
+
+Path = str | bytes | os.PathLike[str] | os.PathLike[bytes]
 
 WORDS = """Any Access(Any) Access(Read) Access(Open(Any)) Access(Open(Execute)) Access(Open(Read)) Access(Open(Write))
 Access(Open(Other)) Access(Close(Any)) Access(Close(Execute)) Access(Close(Read)) Access(Close(Write))
@@ -25,6 +36,9 @@ NAME_TO, NAME_FROM, NAME_BOTH = (KIND_OF_WORD[f"Modify(Name({mode}))"] for mode 
 REMOVE_FILE, REMOVE_FOLDER, OTHER = KIND_OF_WORD["Remove(File)"], KIND_OF_WORD["Remove(Folder)"], KIND_OF_WORD["Other"]
 GENERIC, IO, PATH_NOT_FOUND, WATCH_NOT_FOUND = range(4)
 STEPS = "event error watch unwatch errors tick".split()
+
+# In a record that nothing was told into yet.
+_NO_KIND = 2**32 - 1
 
 CODES = "done empty no_memory full not_text no_kind unread at_end too_short too_many_paths bad_counts".split()
 
@@ -72,6 +86,9 @@ class Told(ctypes.Structure):
         ("source", ctypes.c_size_t),
     ]
 
+    def sizes(self) -> tuple[int, ...]:
+        return self.first, self.second, self.info, self.source
+
 
 class ToldError(ctypes.Structure):
     _fields_ = [
@@ -80,6 +97,9 @@ class ToldError(ctypes.Structure):
         ("text", ctypes.c_size_t),
         ("first", ctypes.c_size_t),
     ]
+
+    def sizes(self) -> tuple[int, ...]:
+        return self.text, self.first
 
 
 class ToldEntry(ctypes.Structure):
@@ -96,6 +116,9 @@ class ToldEntry(ctypes.Structure):
         ("path", ctypes.c_size_t),
     ]
 
+    def sizes(self) -> tuple[int, ...]:
+        return (self.path,)
+
 
 class Number(ctypes.Structure):
     _fields_ = [("known", ctypes.c_bool), ("device", ctypes.c_uint64), ("inode", ctypes.c_uint64)]
@@ -106,8 +129,9 @@ class Counts(ctypes.Structure):
     _fields_ += [(name, ctypes.c_size_t) for name in "errors numbers entries".split()]
 
 
-def _load():
-    lib = ctypes.CDLL(os.environ.get("NDF_SO", "libndf.so"))
+def _load() -> ctypes.CDLL:
+    lib = ctypes.CDLL(os.environ.get("NDF_SO", "libndf.so.0"))
+    _check_version(lib)
     handle, moment, size, flag = ctypes.POINTER(Handle), ctypes.c_uint64, ctypes.c_size_t, ctypes.c_bool
     text, count = [ctypes.c_char_p, size], ctypes.POINTER(size)
     calls = {
@@ -141,13 +165,25 @@ def _load():
     return lib
 
 
+def _check_version(lib: ctypes.CDLL) -> None:
+    """A library of another version has other records, so it is refused."""
+    major, minor, patch = map(int, __version__.split("."))
+    wanted = 10000 * major + 100 * minor + patch
+    try:
+        version = lib.ndf_version()
+    except AttributeError:
+        version = 0
+    if version != wanted:
+        raise ImportError(f"the library {lib._name} is version {version}, and the package ndf {wanted}")
+
+
 _lib = _load()
 
 
 class Refused(Exception):
     """A call that did nothing, with its code."""
 
-    def __init__(self, code):
+    def __init__(self, code: int) -> None:
         super().__init__(CODES[code])
         self.code = code
 
@@ -166,7 +202,7 @@ class Event:
     source: str | None = None
 
     @property
-    def word(self):
+    def word(self) -> str:
         return WORDS[self.kind]
 
 
@@ -193,164 +229,247 @@ class Entry:
     errors: list[Error] = field(default_factory=list)
 
 
-def _bytes(text):
+def _bytes(text: Path) -> bytes:
     """A path as bytes: one of os.fsdecode, or bytes, goes back to the bytes it was."""
     return os.fsencode(text)
+
+
+def _number(name: str, value: int, bits: int = 64) -> int:
+    """The number, if it fits into so many bits: ctypes would take away what doesn't fit."""
+    if not 0 <= value < 1 << bits:
+        raise ValueError(f"{name} has to be from 0 to 2**{bits} - 1, and is {value}")
+    return value
 
 
 class Debouncer:
     """A debouncer without clock and threads. `close`, or the end of a `with`, frees it."""
 
-    def __init__(self, timeout, taken=0, given=0):
+    def __init__(self, timeout: int, taken: int = 0, given: int = 0) -> None:
+        self._thread = threading.get_ident()
         self._handle = Handle()
         self._room = ctypes.create_string_buffer(512)
-        self._done(_lib.ndf_new_with_counts(self._handle, timeout, taken, given))
+        # What the library has handed out and was not returned: an exception in the middle of a batch leaves it here.
+        self._told, self._events = Told(_NO_KIND), list[Event]()
+        self._told_error, self._errors = ToldError(_NO_KIND), list[Error]()
+        numbers = _number("timeout", timeout), _number("taken", taken), _number("given", given)
+        self._code(_lib.ndf_new_with_counts, *numbers)
 
-    def __enter__(self):
+    def __enter__(self) -> Debouncer:
         return self
 
-    def __exit__(self, *_):
+    def __exit__(
+        self, kind: type[BaseException] | None, fault: BaseException | None, trace: TracebackType | None
+    ) -> None:
         self.close()
 
-    def __del__(self):
-        if hasattr(self, "_handle"):
+    def __del__(self) -> None:
+        if not hasattr(self, "_handle") or not self._handle.full:
+            return
+        if self._thread == threading.get_ident():
             self.close()
+        else:
+            # It may not be freed here.
+            warnings.warn("a debouncer was left open by another thread", ResourceWarning, stacklevel=1)
 
-    def close(self):
+    def close(self) -> None:
+        """Frees the debouncer, with all that waits."""
+        self._check_thread()
         _lib.ndf_free(self._handle)
 
-    @staticmethod
-    def _done(code):
-        if code == 2:
+    def _check_thread(self) -> None:
+        if self._thread != threading.get_ident():
+            raise RuntimeError("a debouncer stays on the thread that made it")
+
+    def _code(self, call: Callable[..., int], *words: object) -> int:
+        """What the call answers, if it is a code that its caller knows what to do with."""
+        self._check_thread()
+        code = call(self._handle, *words)
+        if code == CODES.index("no_memory"):
             raise MemoryError
-        if code:
+        if code and CODES[code] not in ("at_end", "too_short"):
             raise Refused(code)
+        return code
 
-    def watch(self, path, recursive=True):
-        path = _bytes(path)
-        self._done(_lib.ndf_watch(self._handle, path, len(path), recursive))
+    def watch(self, path: Path, recursive: bool = True) -> None:
+        """Watches a path from now on; an event is taken whether or not its path is watched."""
+        text = _bytes(path)
+        self._code(_lib.ndf_watch, text, len(text), recursive)
 
-    def unwatch(self, path):
-        path = _bytes(path)
-        self._done(_lib.ndf_unwatch(self._handle, path, len(path)))
+    def unwatch(self, path: Path) -> None:
+        """Watches a path no longer, nor any path below it."""
+        text = _bytes(path)
+        self._code(_lib.ndf_unwatch, text, len(text))
 
-    def is_recursive(self, path):
-        path, recursive = _bytes(path), ctypes.c_bool()
-        self._done(_lib.ndf_mode(self._handle, path, len(path), recursive))
+    def is_recursive(self, path: Path) -> bool:
+        """Whether the path is watched with what is below it."""
+        text, recursive = _bytes(path), ctypes.c_bool()
+        self._code(_lib.ndf_mode, text, len(text), recursive)
         return recursive.value
 
-    def set_number(self, path, device, inode):
+    def set_number(self, path: Path, device: int, inode: int) -> None:
         """The file at the path has this number from now on, by which two halves of a rename find each other."""
-        path = _bytes(path)
-        self._done(_lib.ndf_number(self._handle, path, len(path), device, inode))
+        text = _bytes(path)
+        self._code(_lib.ndf_number, text, len(text), _number("device", device), _number("inode", inode))
 
-    def forget(self, path):
+    def forget(self, path: Path) -> None:
         """The path has no number any longer, nor has what lies below it."""
-        path = _bytes(path)
-        self._done(_lib.ndf_forget(self._handle, path, len(path)))
+        text = _bytes(path)
+        self._code(_lib.ndf_forget, text, len(text))
 
-    def number_of(self, path):
+    def number_of(self, path: Path) -> tuple[int, int] | None:
         """The device and the inode of the file at the path, or None."""
-        path, number = _bytes(path), Number()
-        self._done(_lib.ndf_number_of(self._handle, path, len(path), number))
+        text, number = _bytes(path), Number()
+        self._code(_lib.ndf_number_of, text, len(text), number)
         return (number.device, number.inode) if number.known else None
 
     def feed(
-        self, kind, *paths, moment, exists=False, tracker=None, rescan=False, info=None, source=None, process=None
-    ):
+        self,
+        kind: int,
+        *paths: Path,
+        moment: int,
+        exists: bool = False,
+        tracker: int | None = None,
+        rescan: bool = False,
+        info: str | None = None,
+        source: str | None = None,
+        process: int | None = None,
+    ) -> None:
         """Takes an event of at most two paths."""
         first, second = ([_bytes(path) for path in paths] + [b"", b""])[:2]
-        change = Change(kind, len(paths), rescan, tracker is not None, exists, tracker or 0, moment)
-        attributes = Attributes(info is not None, source is not None, process is not None, process or 0)
+        change = Change(
+            _number("kind", kind, 32),
+            len(paths),
+            rescan,
+            tracker is not None,
+            exists,
+            _number("tracker", tracker or 0),
+            _number("moment", moment),
+        )
+        process_id = _number("process", process or 0, 32)
+        attributes = Attributes(info is not None, source is not None, process is not None, process_id)
         words = [first, second, (info or "").encode(), (source or "").encode()]
         texts = [it for word in words for it in (word, len(word))]
-        self._done(_lib.ndf_event_with(self._handle, change, attributes, *texts))
+        self._code(_lib.ndf_event_with, change, attributes, *texts)
 
-    def add_error(self, kind, text="", path=None):
-        text, at = text.encode(), _bytes(path or "")
-        self._done(_lib.ndf_error(self._handle, kind, path is not None, text, len(text), at, len(at)))
+    def add_error(self, kind: int, text: str = "", path: Path | None = None) -> None:
+        """Keeps an error of a watcher until it is asked for."""
+        words, at = text.encode(), _bytes("" if path is None else path)
+        self._code(_lib.ndf_error, _number("kind", kind, 32), path is not None, words, len(words), at, len(at))
 
-    def tick(self, now):
-        """Emits what is expired, and returns the batch."""
-        self._done(_lib.ndf_tick(self._handle, now, ctypes.c_size_t()))
+    def tick(self, now: int) -> list[Event]:
+        """Emits what is expired, and returns the batch. If an exception, as that of Ctrl-C, has broken off the reading of
+        an earlier batch, its events come first.
+        """
+        _number("now", now)
+        self._read_events()
+        self._code(_lib.ndf_tick, now, ctypes.c_size_t())
         return list(self)
 
-    def outlook(self):
-        """What waits, as if all of it were expired; it waits on."""
-        self._done(_lib.ndf_outlook(self._handle, ctypes.c_size_t()))
+    def outlook(self) -> list[Event]:
+        """What waits, as if all of it were expired; it waits on. Of a batch that wasn't read to its end the events come
+        first.
+        """
+        self._read_events()
+        self._code(_lib.ndf_outlook, ctypes.c_size_t())
         return list(self)
 
-    def __iter__(self):
-        """The events of the last batch that weren't read."""
-        while event := self._event(_lib.ndf_next):
-            yield event
+    def __iter__(self) -> Iterator[Event]:
+        """The events of the last batch that weren't returned yet."""
+        self._read_events()
+        events, self._events = self._events, []
+        return iter(events)
 
-    def _event(self, call, *places):
-        """The event that the call tells, or None."""
-        told, texts, at = Told(), [], 0
-        if not self._next(call, told, lambda: told.first + told.second + told.info + told.source, *places):
-            return None
-        for size in (told.first, told.second, told.info, told.source):
-            texts.append(self._room.raw[at : at + size].decode())
+    def errors(self) -> list[Error]:
+        """Hands out the errors that were kept."""
+        self._read_errors()
+        self._code(_lib.ndf_errors, ctypes.c_size_t())
+        self._read_errors()
+        errors, self._errors = self._errors, []
+        return errors
+
+    def _read_events(self) -> None:
+        self._read(_lib.ndf_next, self._told, self._event_of, self._events)
+
+    def _read_errors(self) -> None:
+        self._read(_lib.ndf_next_error, self._told_error, self._error_of, self._errors)
+
+    def _read(self, call: Callable[..., int], told: Told | ToldError, made: Callable, into: list) -> None:
+        """Reads to its end what the call tells. What an exception breaks off is gone on with the next time: until it is in
+        the list, what the library has handed out stays in the record and the buffer.
+        """
+        while True:
+            if told.kind != _NO_KIND and sum(told.sizes()) <= len(self._room):
+                into += [made(told)]
+                told.kind = _NO_KIND
+            code = self._code(call, told, self._room, len(self._room))
+            if code == CODES.index("at_end"):
+                return
+            if code == CODES.index("too_short"):
+                total = sum(told.sizes())
+                told.kind = _NO_KIND
+                self._room = ctypes.create_string_buffer(total)
+
+    def _at(self, call: Callable[..., int], told: Told | ToldError | ToldEntry, *places: int) -> None:
+        """What stands at these places of the journal; a buffer that is too short grows."""
+        while self._code(call, *places, told, self._room, len(self._room)) == CODES.index("too_short"):
+            self._room = ctypes.create_string_buffer(sum(told.sizes()))
+
+    def _texts(self, told: Told | ToldError | ToldEntry) -> list[str]:
+        texts, at = [], 0
+        for size in told.sizes():
+            texts.append(self._room[at : at + size].decode())
             at += size
+        return texts
+
+    def _event_of(self, told: Told) -> Event:
+        *paths, info, source = self._texts(told)
         return Event(
             told.kind,
             told.time,
-            texts[: min(told.paths, 2)],
+            paths[: min(told.paths, 2)],
             told.rescan,
             told.tracker if told.tracked else None,
             told.process if told.has_process else None,
-            texts[2] if told.has_info else None,
-            texts[3] if told.has_source else None,
+            info if told.has_info else None,
+            source if told.has_source else None,
         )
 
-    def errors(self):
-        """Hands out the errors that were kept."""
-        self._done(_lib.ndf_errors(self._handle, ctypes.c_size_t()))
-        return list(iter(lambda: self._error(_lib.ndf_next_error), None))
+    def _error_of(self, told: ToldError) -> Error:
+        text, path = self._texts(told)
+        return Error(told.kind, text, path if told.paths else None)
 
-    def _error(self, call, *places):
-        """The error that the call tells, or None."""
-        told = ToldError()
-        if not self._next(call, told, lambda: told.text + told.first, *places):
-            return None
-        room = self._room.raw
-        path = room[told.text : told.text + told.first].decode() if told.paths else None
-        return Error(told.kind, room[: told.text].decode(), path)
-
-    def keep_journal(self, on=True):
+    def keep_journal(self, on: bool = True) -> None:
         """A journal begins, or none is kept any longer. What was kept before is dropped."""
-        self._done(_lib.ndf_journal(self._handle, on))
+        self._code(_lib.ndf_journal, on)
 
-    def journal(self):
+    def journal(self) -> list[Entry]:
         """The entries of the journal, which it keeps."""
+        self._read_events()
+        self._read_errors()
         return [self._entry(place) for place in range(self.counts().entries)]
 
-    def _entry(self, place):
-        told = ToldEntry()
-        self._next(_lib.ndf_entry, told, lambda: told.path, place)
-        step = STEPS[told.step]
-        return Entry(
+    def _entry(self, place: int) -> Entry:
+        told, event, error = ToldEntry(), Told(), ToldError()
+        self._at(_lib.ndf_entry, told, place)
+        (path,), step = self._texts(told), STEPS[told.step]
+        entry = Entry(
             step,
             told.moment,
             told.exists,
             (told.device, told.inode) if told.known else None,
-            self._room.raw[: told.path].decode() if step in ("watch", "unwatch") else None,
+            path if step in ("watch", "unwatch") else None,
             told.recursive,
-            [self._event(_lib.ndf_entry_event, place, within) for within in range(told.events)],
-            [self._error(_lib.ndf_entry_error, place, within) for within in range(told.errors)],
         )
+        for within in range(told.events):
+            self._at(_lib.ndf_entry_event, event, place, within)
+            entry.events.append(self._event_of(event))
+        for within in range(told.errors):
+            self._at(_lib.ndf_entry_error, error, place, within)
+            entry.errors.append(self._error_of(error))
+        return entry
 
-    def _next(self, call, told, total, *places):
-        """Whether the next one, or the one at these places, was told; a buffer that is too short grows."""
-        while (code := call(self._handle, *places, told, self._room, len(self._room))) == CODES.index("too_short"):
-            self._room = ctypes.create_string_buffer(total())
-        if code == CODES.index("at_end"):
-            return False
-        self._done(code)
-        return True
-
-    def counts(self):
+    def counts(self) -> Counts:
+        """How many events were taken, were emitted and wait, and what else is counted."""
         counts = Counts()
-        self._done(_lib.ndf_counts(self._handle, counts))
+        self._code(_lib.ndf_counts, counts)
         return counts
