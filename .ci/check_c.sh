@@ -160,9 +160,9 @@ if has python3; then
     else
         not_run 1 "mirror isn't built" 'random scripts through the library'
     fi
-    check 'the class of Python' python3 "$top/python/test_ndf.py"
-    check 'file numbers as the Rust crate has them' python3 "$top/python/test_numbers.py"
-    check 'the records lie in Python as in the library' sh -c "python3 '$top/python/layout.py' >layout.python"
+    check 'the class of Python' python3 "$top/python/tests/test_ndf.py"
+    check 'file numbers as the Rust crate has them' python3 "$top/python/tests/test_numbers.py"
+    check 'the records lie in Python as in the library' sh -c "python3 '$top/python/tests/layout.py' >layout.python"
     check 'the records of Python are those of the library' same_layout layout.python
 else
     not_run 6 'no python3' 'users in Python'
@@ -171,10 +171,10 @@ if has cargo; then
     export NDF_LIB=$room CARGO_TARGET_DIR=$room/target
     check 'the crate of Rust' cargo test --offline --quiet --manifest-path "$top/rust/ndf/Cargo.toml"
     check 'the programs of Rust' cargo build --offline --quiet --release --manifest-path "$top/rust/ndf/Cargo.toml" \
-        --bins --examples
+        --examples
     check 'the records lie in Rust as in the library' sh -c 'target/release/examples/layout >layout.rust'
     check 'the records of Rust are those of the library' same_layout layout.rust
-    check 'a reader of the Rust watch has the paths of the folder' follows target/release/watch --timeout 30 \
+    check 'a reader of the Rust watch has the paths of the folder' follows target/release/examples/watch --timeout 30 \
         --until-eof
 else
     not_run 5 'no cargo' 'users in Rust'
