@@ -223,7 +223,9 @@ impl<T: Watcher, C: FileIdCache> Debouncer<T, C> {
     }
 
     fn send(&self, message: Message) {
-        let _ = self.sender.as_ref().map(|sender| sender.send(message));
+        if let Some(sender) = &self.sender {
+            let _ = sender.send(message);
+        }
     }
 
     /// Stops the debouncer, and waits until the handler has returned, if it isn't the handler that stops it. What waits

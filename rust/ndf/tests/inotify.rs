@@ -93,7 +93,7 @@ fn folders_above_the_limit_are_an_error() {
 /// Runs the test as a user who may not read what is closed, in a folder that this user has.
 fn is_nobody(name: &str, room: &Room) -> bool {
     let closed = room.join("closed");
-    DirBuilder::new().mode(0).create(&closed).unwrap();
+    DirBuilder::new().mode(0o0).create(&closed).unwrap();
     let is_closed = fs::read_dir(&closed).is_err();
     fs::remove_dir(&closed).unwrap();
     if is_closed {
@@ -121,14 +121,14 @@ fn closed_folders_are_an_error_and_watched_once_open() {
     let closed = room.join("closed");
     let (mut debouncer, mut told) = started();
     debouncer.watch(&room.0, Recursive).unwrap();
-    DirBuilder::new().mode(0).create(&closed).unwrap();
+    DirBuilder::new().mode(0o0).create(&closed).unwrap();
     assert!(told.until(|told| told.has_error(is_refused, &closed)));
     fs::set_permissions(&closed, Permissions::from_mode(0o755)).unwrap();
     assert!(told.until_event(EventKind::is_create, &closed));
     thread::sleep(Duration::from_millis(200));
     fs::write(closed.join("a"), "").unwrap();
     assert!(told.until_event(EventKind::is_create, &closed.join("a")));
-    fs::set_permissions(&closed, Permissions::from_mode(0)).unwrap();
+    fs::set_permissions(&closed, Permissions::from_mode(0o0)).unwrap();
     let (mut other, _) = started();
     let error = other.watch(&room.0, Recursive).unwrap_err();
     assert!(is_refused(&error.kind) && error.paths == [closed.clone()], "{error:?}");

@@ -196,7 +196,7 @@ fn errors_come_of_other_errors() {
     fn fails(work: impl FnOnce() -> notify::Result<()>) -> String {
         reason(&work().unwrap_err())
     }
-    assert_eq!(fails(|| Ok(drop(fs::read("/nowhere")?))), "entity not found");
+    assert_eq!(fails(|| Err(fs::read("/nowhere").unwrap_err())?), "entity not found");
     let (sender, receiver) = mpsc::channel::<()>();
     drop(sender);
     assert_eq!(fails(|| Ok(receiver.recv()?)), "receiving on a closed channel");
