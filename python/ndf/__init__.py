@@ -241,16 +241,36 @@ def _number(name: str, value: int, bits: int = 64) -> int:
     return value
 
 
+class _Place:
+    """Where a call tells something: a record, and a buffer for its texts."""
+
+    def __init__(self, told: Told | ToldError | ToldEntry) -> None:
+        self.told = told
+        self.room = ctypes.create_string_buffer(512)
+
+    def has_room(self) -> bool:
+        return sum(self.told.sizes()) <= len(self.room)
+
+    def grow(self) -> None:
+        self.room = ctypes.create_string_buffer(sum(self.told.sizes()))
+
+    def texts(self) -> list[str]:
+        texts, at = [], 0
+        for size in self.told.sizes():
+            texts.append(self.room[at : at + size].decode())
+            at += size
+        return texts
+
+
 class Debouncer:
     """A debouncer without clock and threads. `close`, or the end of a `with`, frees it."""
 
     def __init__(self, timeout: int, taken: int = 0, given: int = 0) -> None:
         self._thread = threading.get_ident()
         self._handle = Handle()
-        self._room = ctypes.create_string_buffer(512)
         # What the library has handed out and was not returned: an exception in the middle of a batch leaves it here.
-        self._told, self._events = Told(_NO_KIND), list[Event]()
-        self._told_error, self._errors = ToldError(_NO_KIND), list[Error]()
+        self._told, self._events = _Place(Told(_NO_KIND)), list[Event]()
+        self._told_error, self._errors = _Place(ToldError(_NO_KIND)), list[Error]()
         numbers = _number("timeout", timeout), _number("taken", taken), _number("given", given)
         self._code(_lib.ndf_new_with_counts, *numbers)
 
@@ -393,36 +413,32 @@ class Debouncer:
     def _read_errors(self) -> None:
         self._read(_lib.ndf_next_error, self._told_error, self._error_of, self._errors)
 
-    def _read(self, call: Callable[..., int], told: Told | ToldError, made: Callable, into: list) -> None:
+    def _read(self, call: Callable[..., int], place: _Place, made: Callable, into: list) -> None:
         """Reads to its end what the call tells. What an exception breaks off is gone on with the next time: until it is in
-        the list, what the library has handed out stays in the record and the buffer.
+        the list, what the library has handed out stays in its place.
         """
+        told = place.told
         while True:
-            if told.kind != _NO_KIND and sum(told.sizes()) <= len(self._room):
-                into += [made(told)]
+            if told.kind != _NO_KIND and place.has_room():
+                into += [made(place)]
                 told.kind = _NO_KIND
-            code = self._code(call, told, self._room, len(self._room))
+            code = self._code(call, told, place.room, len(place.room))
             if code == CODES.index("at_end"):
                 return
             if code == CODES.index("too_short"):
-                total = sum(told.sizes())
                 told.kind = _NO_KIND
-                self._room = ctypes.create_string_buffer(total)
+                place.grow()
 
-    def _at(self, call: Callable[..., int], told: Told | ToldError | ToldEntry, *places: int) -> None:
-        """What stands at these places of the journal; a buffer that is too short grows."""
-        while self._code(call, *places, told, self._room, len(self._room)) == CODES.index("too_short"):
-            self._room = ctypes.create_string_buffer(sum(told.sizes()))
+    def _at(self, call: Callable[..., int], place: _Place, *numbers: int) -> _Place:
+        """The place, into which the call has told what these numbers of the journal name."""
+        while self._code(call, *numbers, place.told, place.room, len(place.room)) == CODES.index("too_short"):
+            place.grow()
+        return place
 
-    def _texts(self, told: Told | ToldError | ToldEntry) -> list[str]:
-        texts, at = [], 0
-        for size in told.sizes():
-            texts.append(self._room[at : at + size].decode())
-            at += size
-        return texts
-
-    def _event_of(self, told: Told) -> Event:
-        *paths, info, source = self._texts(told)
+    @staticmethod
+    def _event_of(place: _Place) -> Event:
+        told = place.told
+        *paths, info, source = place.texts()
         return Event(
             told.kind,
             told.time,
@@ -434,9 +450,10 @@ class Debouncer:
             source if told.has_source else None,
         )
 
-    def _error_of(self, told: ToldError) -> Error:
-        text, path = self._texts(told)
-        return Error(told.kind, text, path if told.paths else None)
+    @staticmethod
+    def _error_of(place: _Place) -> Error:
+        text, path = place.texts()
+        return Error(place.told.kind, text, path if place.told.paths else None)
 
     def keep_journal(self, on: bool = True) -> None:
         """A journal begins, or none is kept any longer. What was kept before is dropped."""
@@ -444,29 +461,22 @@ class Debouncer:
 
     def journal(self) -> list[Entry]:
         """The entries of the journal, which it keeps."""
-        self._read_events()
-        self._read_errors()
-        return [self._entry(place) for place in range(self.counts().entries)]
+        return [self._entry(number) for number in range(self.counts().entries)]
 
-    def _entry(self, place: int) -> Entry:
-        told, event, error = ToldEntry(), Told(), ToldError()
-        self._at(_lib.ndf_entry, told, place)
-        (path,), step = self._texts(told), STEPS[told.step]
-        entry = Entry(
+    def _entry(self, number: int) -> Entry:
+        place = self._at(_lib.ndf_entry, _Place(ToldEntry()), number)
+        told, step = place.told, STEPS[place.told.step]
+        event, error = _Place(Told()), _Place(ToldError())
+        return Entry(
             step,
             told.moment,
             told.exists,
             (told.device, told.inode) if told.known else None,
-            path if step in ("watch", "unwatch") else None,
+            place.texts()[0] if step in ("watch", "unwatch") else None,
             told.recursive,
+            [self._event_of(self._at(_lib.ndf_entry_event, event, number, i)) for i in range(told.events)],
+            [self._error_of(self._at(_lib.ndf_entry_error, error, number, i)) for i in range(told.errors)],
         )
-        for within in range(told.events):
-            self._at(_lib.ndf_entry_event, event, place, within)
-            entry.events.append(self._event_of(event))
-        for within in range(told.errors):
-            self._at(_lib.ndf_entry_error, error, place, within)
-            entry.errors.append(self._error_of(error))
-        return entry
 
     def counts(self) -> Counts:
         """How many events were taken, were emitted and wait, and what else is counted."""
