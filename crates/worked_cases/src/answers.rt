@@ -67,7 +67,10 @@ fn is_same(alloc: Global, signs: &Signs<'_>, answer: &str) -> Result<bool, Alloc
 fn show<O: Write>(alloc: Global, signs: &Signs<'_>, answer: &str, out: &mut O) -> io::Result<()> {
     let (_digest, script) = answer.split_once(' ').unwrap_or(("", answer));
     let script = signs.spelled_out(alloc, script)?;
-    writeln!(out, "The Rust crate's answer is another of\n{script}\nPrinted:")?;
+    writeln!(
+        out,
+        "The Rust crate's answer is another of\n{script}\nPrinted:"
+    )?;
     let printed = printed_of(alloc, script.as_str())?;
     out.write_all(printed.as_slice())
 }

@@ -40,7 +40,11 @@ impl Walk {
 
     fn walk(&mut self, root: &PathBuf, recursive: bool) -> Result<(), AllocError> {
         self.scans = self.scans.saturating_add(1);
-        let mode = if recursive { "Recursive" } else { "NonRecursive" };
+        let mode = if recursive {
+            "Recursive"
+        } else {
+            "NonRecursive"
+        };
         write!(self.asked, "scan {mode} ")?;
         push_path(&mut self.asked, root)?;
         self.asked.push('\n')?;
