@@ -4,11 +4,11 @@
 
 use clap::{ArgMatches, Command};
 use notify_debouncer_full::{DebouncerRuntime, PathBuf, RecursiveMode};
-use program_copy::files::{FolderCopy, RealDisk};
+use program_copy::files::{FolderCopy, RealDisk, check_apart};
 use program_copy::{Leave, Mirror, NAME};
 use program_frame::{
-    ClosedPaths, Complaints, Fault, Pace, PlaceWord, check_apart, command, flag, folder_of,
-    pace_of, place_arg, place_of, run_with_words, with_until_eof,
+    ClosedPaths, Complaints, Fault, Pace, PlaceWord, command, flag, folder_of, pace_of, place_arg,
+    place_of, run_with_words, with_until_eof,
 };
 use program_reports::follow_folder;
 use std::alloc::{AllocError, Global};

@@ -9,12 +9,14 @@
 //! let mut mirror = Mirror::new(rt.alloc(), copy, leave, rt.stdout(), rt.stderr());
 //! ```
 
+mod apart;
 mod copy;
 mod disk;
 mod places;
 mod real;
 mod writing;
 
+pub use apart::check_apart;
 pub use copy::FolderCopy;
 pub use disk::Disk;
 pub use real::RealDisk;

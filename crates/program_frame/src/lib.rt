@@ -3,7 +3,6 @@
 //!
 //! [`reports`] is the loop over a source of reports, [`pace`] how a program watches, [`hints`] lines that say where to
 //! look, and [`whole`] a write to the end. [`fault_runs`] says what a run that ended in a fault has written.
-//! [`check_apart`] refuses two places of which one lies in the other.
 //!
 //! A program adds its own words to [`command`], and is run by [`run_with_words`]. It takes a [`Pace`] by
 //! [`pace_of`]. A line is gathered in a `Vec<u8>`, its fields by [`push_field`], and written by
@@ -17,7 +16,6 @@
 //! ```
 #![tactic(auto)]
 
-mod apart;
 mod closed;
 mod complaints;
 mod ends;
@@ -33,7 +31,6 @@ pub mod whole;
 mod words;
 
 pub use crate::pace::{HintWords, Pace, hints_of, milliseconds_of, number_of, pace_of};
-pub use apart::check_apart;
 pub use closed::ClosedPaths;
 pub use complaints::Complaints;
 pub use ends::{end, write_errors, write_left_out, write_missed, write_too_deep, write_watching};

@@ -9,6 +9,7 @@
 //! report by `next` or `next_within`, and for the rest by `finish`.
 #![tactic(auto)]
 
+mod apart;
 pub mod folders;
 mod follow;
 mod path_steps;

@@ -13,13 +13,14 @@ ghost use Rattle.program_reports.specs.WholeProgram.{IsRefusal, IsStatus, RunsFo
 ghost use Rattle.program_frame.specs.Faults.{end_status};
 ghost use Rattle.program_frame.specs.Words.{EndsAt, IsCheckOfHints, ids_of};
 
+use crate::apart::check_apart;
 use crate::follow::follow_folder;
 use clap::{ArgMatches, Command};
 use notify_debouncer_full::{DebouncerRuntime, PathBuf, RecursiveMode};
 use program_frame::reports::{BatchTaker, Places, TakesBatches};
 use program_frame::{
-    ClosedPaths, Complaints, Fault, Pace, PlaceWord, check_apart, command, end, folder_of,
-    matches_of, pace_of, place_arg, place_of, with_until_eof, words_of,
+    ClosedPaths, Complaints, Fault, Pace, PlaceWord, command, end, folder_of, matches_of, pace_of,
+    place_arg, place_of, with_until_eof, words_of,
 };
 use std::alloc::{AllocError, Global};
 use std::fs::Files;

@@ -2,6 +2,7 @@
 ghost use Rattle.std.specs.Prelude.{◌≡◌, true};
 ghost use Rattle.std.specs.Fs.{asks_create_new};
 
+use crate::files::apart::check_apart;
 use crate::files::disk::Disk;
 use crate::is_missing;
 use notify_paths::PathBuf;
@@ -9,7 +10,7 @@ use notify_types::{DebouncedEvent, RecursiveMode};
 use poll_listing::Listing;
 use poll_rounds::list;
 use poll_watcher::RealFolders;
-use program_frame::{Fault, check_apart};
+use program_frame::Fault;
 use reader_paths::plan::{Target, name_beside, name_listed};
 use std::alloc::Global;
 use std::fs::{self, Files, Metadata, OpenOptions};

@@ -2,13 +2,13 @@
 ghost use Rattle.std.specs.Prelude.{◌≡◌, ◌⊎◌, IfErr};
 ghost use Rattle.program_frame.specs.declared.fault.Fault.TheVariants.{NotApart, NotThere};
 
-use crate::fault::Fault;
+use program_frame::Fault;
 use std::fs::{self, Files};
 use std::path::{Path, PathBuf};
 
 /// It is a fault if one of the places lies in the other, also if the second isn't there yet, or if the first isn't
 /// there.
-pub fn check_apart<R: Files + AllocGlobal>(rt: &R, from: &str, to: &str) -> Result<(), Fault>
+pub(crate) fn check_apart<R: Files + AllocGlobal>(rt: &R, from: &str, to: &str) -> Result<(), Fault>
     ensures err { IfErr result (λ e. (e ≡ NotThere) ⊎ (e ≡ NotApart)) }
 {
     let Ok(from) = fs::canonicalize(rt, from) else {
