@@ -24,6 +24,7 @@ begins with a line `calls` is a list of calls of such a map.
 import hashlib
 import os
 import random
+import re
 import shutil
 import subprocess
 import sys
@@ -32,7 +33,8 @@ from collections import Counter
 
 KINDS = ["Any", "Other"]
 KINDS += [f"Access({kind})" for kind in ["Any", "Read", "Other"]]
-KINDS += [f"Access({kind}({mode}))" for kind in ["Open", "Close"] for mode in ["Any", "Execute", "Read", "Write", "Other"]]
+MODES = ["Any", "Execute", "Read", "Write", "Other"]
+KINDS += [f"Access({kind}({mode}))" for kind in ["Open", "Close"] for mode in MODES]
 KINDS += [f"Create({kind})" for kind in ["Any", "File", "Folder", "Other"]]
 KINDS += [f"Modify({kind})" for kind in ["Any", "Other"]]
 KINDS += [f"Modify(Data({change}))" for change in ["Any", "Size", "Content", "Other"]]
@@ -256,6 +258,23 @@ def numbered(chance):
     return lines + [f"tick {moment + 100}"]
 
 
+def rooted(chance):
+    """Roots that lie in one another, and what is scanned below them."""
+    lines = ["numbers", "timeout 10"]
+    paths = ["/a", "/a/b", "/a/b/c", "/a/d"]
+    for moment in range(length(chance)):
+        path, drawn = chance.choice(paths), chance.random()
+        if drawn < 0.4:
+            lines.append(f"root {chance.choice(['Recursive', 'NonRecursive'])} {path}")
+        elif drawn < 0.6:
+            lines.append(f"unroot {path}")
+        elif drawn < 0.7:
+            lines.append(f"event {moment} Other rescan")
+        else:
+            lines.append(f"event {moment} {chance.choice([*CREATIONS, *CHANGES])} - {path}")
+    return lines + ["tick 100"]
+
+
 def calls(chance):
     """Calls of a map of file numbers."""
     lines = ["calls"]
@@ -295,8 +314,11 @@ def ending(chance, moment):
 # How many scripts of each kind are kept.
 WANTED = {
     honest: 5000, stepping: 3500, renames: 3500, untracked: 1500, folders: 2500, wild: 4000, counted: 500, great: 300,
-    long: 400, numbered: 2500, calls: 2000,
+    long: 400, numbered: 2500, rooted: 500, calls: 2000,
 }
+
+# Those that are carried out over a map of file numbers, or are calls of one.
+NUMBERED = [numbered, rooted, calls]
 
 
 # The crate's programs.
@@ -346,62 +368,71 @@ def signs(scripts):
     return [(sign, text) for sign, (text, _) in zip(SIGNS, saved.most_common())]
 
 
-def in_signs(script, table):
-    """The script in signs: at each place the longest text that has one."""
-    by_length = sorted(((text.replace("|", "\n").replace("_", " "), sign) for sign, text in table), key=lambda one: -len(one[0]))
-    short, at = [], 0
-    while at < len(script):
-        for text, sign in by_length:
-            if script.startswith(text, at):
-                short.append(sign)
-                at += len(text)
-                break
-        else:
-            if script[at] in SIGNS or script[at] in "\n":
-                raise SystemExit(f"no sign for what begins with {script[at]!r} in\n{script}")
-            short.append(script[at])
-            at += 1
-    return "".join(short)
+def in_signs(table):
+    """What writes a script in signs: at each place the longest text that has one."""
+    texts = {sign: text.replace("|", "\n").replace("_", " ") for sign, text in table}
+    sign_of = {text: sign for sign, text in texts.items()}
+    longest_first = sorted(sign_of, key=len, reverse=True)
+    found = re.compile("|".join(map(re.escape, longest_first)))
+
+    def write(script):
+        short = found.sub(lambda text: sign_of[text[0]], script)
+        if "".join(texts.get(sign, sign) for sign in short) != script or "\n" in short:
+            raise SystemExit(f"a character has no sign in\n{script}")
+        return short
+
+    return write
+
+
+def gather(oracle, source, seed, portion):
+    """The answers, each a digest and its script; and how many scripts of each kind were left out, by why."""
+    answers, left_out, seen = [], Counter(), set()
+    with tempfile.TemporaryDirectory() as room:
+        plain, numbers = build(oracle, source, room)
+        file = os.path.join(room, "script")
+        for make, wanted in WANTED.items():
+            chance = random.Random(f"{seed} {make.__name__}")
+            end = len(answers) + int(wanted * portion)
+            while len(answers) < end:
+                script = "\n".join(make(chance))
+                printed, why = None, "the same script again"
+                if script not in seen:
+                    printed, why = ask(numbers if make in NUMBERED else plain, script, file)
+                seen.add(script)
+                if why:
+                    left_out[make.__name__, why] += 1
+                else:
+                    answers.append((hashlib.sha256(printed.encode()).hexdigest()[:16], script))
+    return answers, left_out
+
+
+def write_file(name, answers, seed):
+    table = signs([script for _, script in answers])
+    write = in_signs(table)
+    with open(name, "w", encoding="utf-8") as file:
+        crate = "the Rust crate notify-debouncer-full 0.6.0"
+        print(f"# What {crate} prints of {len(answers)} random scripts, by digests.", file=file)
+        print(f"# Made by scripts/answers.py, which says how and what the lines mean, from the seed {seed}.", file=file)
+        for sign, text in table:
+            print(sign, text, file=file)
+        print(file=file)
+        for digest, script in answers:
+            print(digest, write(script), file=file)
 
 
 def main(words):
     if len(words) not in (3, 4, 5):
         print(__doc__.split("\n\n")[1], file=sys.stderr)
         return 2
-    oracle, source, file = words[:3]
+    oracle, source, name = words[:3]
     seed = int(words[3]) if len(words) > 3 else 1
     portion = float(words[4]) if len(words) > 4 else 1
-    answers, left_out, seen = [], Counter(), set()
-    with tempfile.TemporaryDirectory() as room:
-        plain, numbers = build(oracle, source, room)
-        for make, wanted in WANTED.items():
-            chance = random.Random(f"{seed} {make.__name__}")
-            kept = 0
-            while kept < wanted * portion:
-                script = "\n".join(make(chance))
-                if script in seen:
-                    left_out[make.__name__, "the same script again"] += 1
-                    continue
-                seen.add(script)
-                printed, why = ask(numbers if make in (numbered, calls) else plain, script, os.path.join(room, "script"))
-                if why:
-                    left_out[make.__name__, why] += 1
-                    continue
-                answers.append((hashlib.sha256(printed.encode()).hexdigest()[:16], script))
-                kept += 1
-    table = signs([script for _, script in answers])
-    with open(file, "w", encoding="utf-8") as out:
-        print(f"# What the Rust crate notify-debouncer-full 0.6.0 prints of {len(answers)} random scripts, by digests.", file=out)
-        print(f"# Made by scripts/answers.py, which says how and what the lines mean, from the seed {seed}.", file=out)
-        for sign, text in table:
-            print(sign, text, file=out)
-        print(file=out)
-        for digest, script in answers:
-            print(digest, in_signs(script, table), file=out)
+    answers, left_out = gather(oracle, source, seed, portion)
+    write_file(name, answers, seed)
     for make, wanted in WANTED.items():
-        out = [f"{count} {why}" for (name, why), count in sorted(left_out.items()) if name == make.__name__]
-        print(f"{make.__name__}: {int(wanted * portion)} kept; left out: {', '.join(out) or 'none'}")
-    print(f"{len(answers)} answers, {os.path.getsize(file)} bytes")
+        others = [f"{count} {why}" for (kind, why), count in sorted(left_out.items()) if kind == make.__name__]
+        print(f"{make.__name__}: {int(wanted * portion)} kept; left out: {', '.join(others) or 'none'}")
+    print(f"{len(answers)} answers, {os.path.getsize(name)} bytes")
     return 0
 
 
