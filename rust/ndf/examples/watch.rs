@@ -2,6 +2,7 @@
 #![cfg_attr(not(target_os = "linux"), allow(unused))]
 use ndf::{Config, DebounceEventResult, DebouncedEvent, Debouncer, Error, NoCache, RecursiveMode};
 use std::io::{self, Write};
+use std::path::{Path, PathBuf};
 use std::time::Duration;
 use std::{env, process, thread};
 
@@ -10,11 +11,13 @@ fn escaped(path: &str) -> String {
     path.replace('\\', "\\\\").replace('\t', "\\t").replace('\n', "\\n").replace('\r', "\\r")
 }
 
-fn print(events: &[DebouncedEvent]) -> io::Result<()> {
+/// Prints the events, their paths from the folder `above`.
+fn print(events: &[DebouncedEvent], above: &Path) -> io::Result<()> {
     let mut out = io::stdout().lock();
     for event in events {
         write!(out, "{}", word_of(event))?;
         for path in &event.paths {
+            let path = path.strip_prefix(above).unwrap_or(path);
             write!(out, "\t{}", escaped(&path.to_string_lossy()))?;
         }
         writeln!(out)?;
@@ -55,8 +58,11 @@ fn main() -> Result<(), Error> {
     }
     let folder = folder.unwrap_or_else(|| usage());
     let config = Config::default().with_joined_renames(renames);
-    let handler = |result: DebounceEventResult| match result {
-        Ok(events) => print(&events).unwrap_or_else(|_| process::exit(6)),
+    // A relative folder is told as one.
+    let above = if Path::new(&folder).is_relative() { env::current_dir()? } else { PathBuf::new() };
+    let above_all = above.clone();
+    let handler = move |result: DebounceEventResult| match result {
+        Ok(events) => print(&events, &above_all).unwrap_or_else(|_| process::exit(6)),
         Err(errors) => errors.iter().for_each(|error| eprintln!("watch: {error}")),
     };
     let timeout = Duration::from_millis(timeout);
@@ -69,5 +75,5 @@ fn main() -> Result<(), Error> {
     } else {
         thread::sleep(Duration::from_secs(seconds));
     }
-    Ok(print(&debouncer.finish())?)
+    Ok(print(&debouncer.finish(), &above)?)
 }

@@ -3,7 +3,7 @@
 //! watcher are tested.
 //!
 //! ```no_run
-//! use ndf::{new_debouncer, notify::RecursiveMode, DebounceEventResult};
+//! use ndf::{new_debouncer, DebounceEventResult, RecursiveMode};
 //! use std::{sync::mpsc, time::Duration};
 //!
 //! let (sender, reports) = mpsc::channel::<DebounceEventResult>();
@@ -23,10 +23,14 @@
 //! [`Core`], which has no thread and no clock. (docs/C.md says what is proved of it.)
 //!
 //! [`new_debouncer`] has inotify on Linux, and isn't there elsewhere; any other watcher implements [`Watcher`] and goes
-//! under [`new_debouncer_opt`]. This one is notify's, which isn't compiled here, since notify isn't here. The functions
-//! after the impl were compiled once beside declarations of the types of notify 8, which have the same names and variants.
+//! under [`new_debouncer_opt`]. This one is notify's. As notify isn't here, it is compiled with the types of [`notify`] in
+//! this crate, which are to have the names and variants of notify 8.
 //!
-//! ```text
+//! ```
+//! # #[cfg(target_os = "linux")]
+//! # mod native {
+//! # use ndf::notify;
+//! # use std::path::Path;
 //! struct Native(notify::RecommendedWatcher);
 //!
 //! impl ndf::Watcher for Native {
@@ -44,7 +48,7 @@
 //!     }
 //!
 //!     fn kind() -> ndf::WatcherKind {
-//!         ndf::WatcherKind::Fsevent
+//!         ndf::WatcherKind::Fsevent // that of the system
 //!     }
 //! }
 //!
@@ -147,6 +151,7 @@
 //!         R::Other => ndf::RenameMode::Other,
 //!     }
 //! }
+//! # }
 //! ```
 
 #![warn(missing_docs)]
