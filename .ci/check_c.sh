@@ -2,7 +2,7 @@
 # check_c.sh: builds the C library over what the gate left, or takes that of the folder NDF_LIBRARY, and its users in C, C++,
 # Rust and Python, and runs them. What has no compiler here is not run, which is counted.
 . "$(dirname "$0")/checks.sh" || exit 1
-expects 22
+expects 23
 sanitizers='-g -fsanitize=address,undefined -fno-sanitize-recover=all'
 warnings='-Wall -Wextra -Werror'
 
@@ -129,6 +129,7 @@ if has gcc; then
       sed -n '/^```c$/,/^```$/p' "$top/docs/C.md" | sed '/^```/d'
       echo '}'; } >page.c
     check 'the calls on the page' sh -c "gcc -std=c11 $warnings $sanitizers -I'$top/c' page.c libndf.a -o page && ./page"
+    check 'what is installed is enough, and names no folder of ours' "$top/c/test/install.sh" .
     # shellcheck disable=SC2086
     check 'watch.c is built' gcc -std=gnu11 -O2 $warnings $sanitizers -I"$top/c" "$top/c/watch.c" libndf.a -o watch
     check 'watch.c prints what happens' tells "$(printf '%s\n' 'Create(Folder)	tree/notes' \
@@ -139,7 +140,7 @@ if has gcc; then
         'Remove(Folder)	tree/notes')" ./watch --timeout 40 --until-eof --renames
     check 'a reader of watch.c has the paths of the folder' follows ./watch --timeout 30 --until-eof
 else
-    not_run 9 'no gcc' 'users in C'
+    not_run 10 'no gcc' 'users in C'
 fi
 if has g++; then
     check 'the class of C++' sh -c "g++ -std=c++17 $warnings $sanitizers -I'$top/c' -c '$top/c/test/wrapper.cpp' -o wrapper.o &&
@@ -170,6 +171,7 @@ fi
 if has cargo; then
     export NDF_LIB=$room CARGO_TARGET_DIR=$room/target
     check 'the crate of Rust' cargo test --offline --quiet --manifest-path "$top/rust/ndf/Cargo.toml"
+    grep -a '^not run' said
     check 'the programs of Rust' cargo build --offline --quiet --release --manifest-path "$top/rust/ndf/Cargo.toml" \
         --examples
     check 'the records lie in Rust as in the library' sh -c 'target/release/examples/layout >layout.rust'
