@@ -12,11 +12,13 @@ use std::mem;
 use std::ops::{Deref, DerefMut};
 use std::path::{Path, PathBuf};
 use std::sync::atomic::{AtomicBool, Ordering};
-use std::sync::mpsc::{self, Receiver, RecvTimeoutError, Sender};
+use std::sync::mpsc::{self, Receiver, RecvTimeoutError, Sender, SyncSender};
 use std::sync::Arc;
 use std::thread::{self, JoinHandle};
 use std::time::{Duration, Instant};
 
+/// How many events wait for the core's thread at most: a faster watcher waits too, and its system says what it lost.
+const ROOM: usize = 4096;
 /// How long a watcher that was dropped has to hand on its last events, and to let go of its handler.
 const LAST_EVENTS: Duration = Duration::from_secs(1);
 
@@ -85,7 +87,7 @@ enum Message {
 /// a handler may drop it too.
 pub struct Debouncer<T: Watcher, C: FileIdCache = RecommendedCache> {
     watcher: Option<T>,
-    sender: Option<Sender<Message>>,
+    sender: Option<SyncSender<Message>>,
     core: Option<JoinHandle<Vec<DebouncedEvent>>>,
     handler: Option<JoinHandle<()>>,
     cache: PhantomData<fn() -> C>,
@@ -122,7 +124,7 @@ pub fn new_debouncer_opt<F: DebounceEventHandler, T: Watcher, C: FileIdCache + S
         None => timeout / 4,
     };
     let timeout = u64::try_from(timeout.as_nanos()).map_err(|_| Error::generic("the timeout is too long"))?;
-    let (sender, receiver) = mpsc::channel();
+    let (sender, receiver) = mpsc::sync_channel(ROOM);
     let (turns, handed) = mpsc::channel();
     let is_idle = Arc::new(AtomicBool::new(true));
     let handler = start("ndf handler", {
@@ -159,7 +161,7 @@ fn start<R: Send + 'static>(name: &str, work: impl FnOnce() -> R + Send + 'stati
 }
 
 /// Hands an event of the watcher on. Whether its path exists is asked at once, if it matters.
-fn send(sender: &Sender<Message>, event: Result<Event>) {
+fn send(sender: &SyncSender<Message>, event: Result<Event>) {
     let message = match event {
         Ok(event) => {
             let asks = event.kind == EventKind::Modify(ModifyKind::Name(RenameMode::Any));

@@ -415,13 +415,9 @@ impl Shared {
             Err(_) => self.notes.paths.clear(),
         }
         for i in 0..self.roots.len() {
-            let (path, mode) = (self.roots[i].path.clone(), self.roots[i].mode);
             self.roots[i].standing = self.roots[i].standing().ok();
-            if self.roots[i].standing.is_none() {
-                continue;
-            }
-            if let Err(error) = self.watch_root(&path, mode, &mut |_, _| {}) {
-                self.reports.push(Err(error));
+            if self.roots[i].standing.is_some() {
+                self.watch_again(i, &mut |_, _| {});
             }
         }
         self.report_rescan();
@@ -438,28 +434,35 @@ impl Shared {
             if self.roots[i].standing.is_some() {
                 continue;
             }
-            let (path, mode) = (self.roots[i].path.clone(), self.roots[i].mode);
             match self.roots[i].standing() {
-                Ok(standing) => self.take_up(i, standing, &path, mode),
+                Ok(standing) => self.take_up(i, standing),
                 Err(error) if !self.roots[i].is_said => {
                     self.roots[i].is_said = true;
-                    self.reports.push(Err(refused(error, &path)));
+                    self.reports.push(Err(refused(error, &self.roots[i].path)));
                 }
                 Err(_) => {}
             }
         }
     }
 
-    fn take_up(&mut self, i: usize, standing: Standing, path: &Path, mode: RecursiveMode) {
+    fn take_up(&mut self, i: usize, standing: Standing) {
         self.roots[i].standing = Some(standing);
         self.roots[i].is_said = false;
-        let mut below = vec![(path.to_path_buf(), standing.is_folder)];
-        if let Err(error) =
-            self.watch_root(path, mode, &mut |path, is_folder| below.push((path.to_path_buf(), is_folder)))
-        {
+        let mut found = vec![(self.roots[i].path.clone(), standing.is_folder)];
+        self.watch_again(i, &mut |path, is_folder| found.push((path.to_path_buf(), is_folder)));
+        found.iter().for_each(|(path, is_folder)| self.report(creation(*is_folder), path, 0));
+    }
+
+    /// Watches a root that stands there. What can't be watched is said; if it is the root, it is looked for again.
+    fn watch_again(&mut self, i: usize, found: &mut Found) {
+        let (path, mode) = (self.roots[i].path.clone(), self.roots[i].mode);
+        if let Err(error) = self.watch_root(&path, mode, found) {
+            if error.paths == [path] {
+                self.roots[i].standing = None;
+                self.roots[i].is_said = true;
+            }
             self.reports.push(Err(error));
         }
-        below.iter().for_each(|(path, is_folder)| self.report(creation(*is_folder), path, 0));
     }
 }
 
