@@ -153,6 +153,8 @@ struct Shared {
     notes: Notes,
     roots: Vec<Root>,
     joins_renames: bool,
+    /// What couldn't be watched, since this was last said.
+    refused: Vec<Error>,
     /// What is to be handed to the handler.
     reports: Vec<Result<Event>>,
 }
@@ -197,6 +199,7 @@ impl Watcher for INotifyWatcher {
             notes: Notes::new()?,
             roots: Vec::new(),
             joins_renames: config.joined_renames(),
+            refused: Vec::new(),
             reports: Vec::new(),
         };
         let shared = Arc::new(Mutex::new(shared));
@@ -214,12 +217,13 @@ impl Watcher for INotifyWatcher {
         let standing = root.standing().map_err(|error| refused(error, &path))?;
         shared.roots.retain(|known| known.path != path);
         shared.roots.push(Root { standing: Some(standing), ..root });
-        let watched = shared.watch_root(&path, mode, &mut |_, _| {});
-        if watched.is_err() {
+        shared.watch_root(&path, mode, &mut |_, _| {});
+        let first = mem::take(&mut shared.refused).into_iter().next();
+        if first.is_some() {
             shared.roots.retain(|known| known.path != path);
         }
         shared.forget_uncovered();
-        watched
+        first.map_or(Ok(()), Err)
     }
 
     fn unwatch(&mut self, path: &Path) -> Result<()> {
@@ -253,38 +257,62 @@ impl Shared {
         self.reports.push(Ok(Event::new(EventKind::Other).set_flag(Flag::Rescan)));
     }
 
-    fn watch_root(&mut self, path: &Path, mode: RecursiveMode, found: &mut Found) -> Result<()> {
-        self.notes.watch(path, MASK).map_err(|error| refused(error, path))?;
-        if mode.is_recursive() && path.is_dir() {
-            self.watch_below(path, found)?;
+    fn refuse(&mut self, error: io::Error, path: &Path) {
+        self.refused.push(refused(error, path));
+    }
+
+    /// Whether the system watches no further folder.
+    fn is_full(&self) -> bool {
+        self.refused.last().is_some_and(|error| matches!(error.kind, ErrorKind::MaxFilesWatch))
+    }
+
+    fn watch_root(&mut self, path: &Path, mode: RecursiveMode, found: &mut Found) {
+        match self.notes.watch(path, MASK) {
+            Err(error) => self.refuse(error, path),
+            Ok(_) if mode.is_recursive() && path.is_dir() => self.watch_below(path, found),
+            Ok(_) => {}
         }
-        Ok(())
     }
 
     /// Watches each folder below a watched one. The watch comes before the listing, so that what appears meanwhile is
     /// seen by one of them.
-    fn watch_below(&mut self, folder: &Path, found: &mut Found) -> Result<()> {
+    fn watch_below(&mut self, folder: &Path, found: &mut Found) {
         let listing = match fs::read_dir(folder) {
-            Err(error) if is_gone(&error) => return Ok(()),
-            listing => listing.map_err(|error| refused(error, folder))?,
+            Err(error) if is_gone(&error) => return,
+            Err(error) => return self.refuse(error, folder),
+            Ok(listing) => listing,
         };
         for entry in listing {
-            let entry = entry.map_err(|error| refused(error, folder))?;
-            let is_folder = entry.file_type().is_ok_and(|kind| kind.is_dir());
-            found(&entry.path(), is_folder);
-            if is_folder {
-                self.watch_folder(&entry.path(), found)?;
+            match entry {
+                Err(error) => return self.refuse(error, folder),
+                Ok(entry) => {
+                    let is_folder = entry.file_type().is_ok_and(|kind| kind.is_dir());
+                    found(&entry.path(), is_folder);
+                    if is_folder {
+                        self.watch_folder(&entry.path(), found);
+                    }
+                }
             }
         }
-        Ok(())
     }
 
     /// Watches a folder that lies below a root, and each folder below it.
-    fn watch_folder(&mut self, folder: &Path, found: &mut Found) -> Result<()> {
+    fn watch_folder(&mut self, folder: &Path, found: &mut Found) {
+        if self.is_full() {
+            return;
+        }
         match self.notes.watch(folder, FOLDER_MASK) {
-            Err(error) if is_gone(&error) => Ok(()),
-            Err(error) => Err(refused(error, folder)),
+            Err(error) if is_gone(&error) => {}
+            Err(error) => self.refuse(error, folder),
             Ok(_) => self.watch_below(folder, found),
+        }
+    }
+
+    /// Says what couldn't be watched, and that what is there should be read.
+    fn report_refused(&mut self) {
+        if !self.refused.is_empty() {
+            self.reports.extend(mem::take(&mut self.refused).into_iter().map(Err));
+            self.report_rescan();
         }
     }
 
@@ -388,8 +416,7 @@ impl Shared {
         }
     }
 
-    /// Watches a folder that wasn't watched, if a recursive root is above it, and returns what stands in it. What can't
-    /// be watched is said, and that what is there should be read.
+    /// Watches a folder that wasn't watched, if a recursive root is above it, and returns what stands in it.
     fn watch_new(&mut self, folder: &Path) -> Vec<(PathBuf, bool)> {
         let mut below = Vec::new();
         if !self.roots.iter().any(|root| root.mode.is_recursive() && folder.starts_with(&root.path)) {
@@ -398,11 +425,8 @@ impl Shared {
         if self.notes.watch(folder, FOLDER_MASK).is_ok_and(|is_new| !is_new) {
             return below;
         }
-        let watched = self.watch_folder(folder, &mut |path, is_folder| below.push((path.to_path_buf(), is_folder)));
-        if let Err(error) = watched {
-            self.reports.push(Err(error));
-            self.report_rescan();
-        }
+        self.watch_folder(folder, &mut |path, is_folder| below.push((path.to_path_buf(), is_folder)));
+        self.report_refused();
         below
     }
 
@@ -453,16 +477,15 @@ impl Shared {
         found.iter().for_each(|(path, is_folder)| self.report(creation(*is_folder), path, 0));
     }
 
-    /// Watches a root that stands there. What can't be watched is said; if it is the root, it is looked for again.
+    /// Watches a root that stands there. One that can't be watched is looked for again.
     fn watch_again(&mut self, i: usize, found: &mut Found) {
         let (path, mode) = (self.roots[i].path.clone(), self.roots[i].mode);
-        if let Err(error) = self.watch_root(&path, mode, found) {
-            if error.paths == [path] {
-                self.roots[i].standing = None;
-                self.roots[i].is_said = true;
-            }
-            self.reports.push(Err(error));
+        self.watch_root(&path, mode, found);
+        if self.refused.iter().any(|error| error.paths == [path.clone()]) {
+            self.roots[i].standing = None;
+            self.roots[i].is_said = true;
         }
+        self.report_refused();
     }
 }
 

@@ -121,6 +121,15 @@ fn closed_folders_are_an_error_and_watched_once_open() {
     let closed = room.join("closed");
     let (mut debouncer, mut told) = started();
     debouncer.watch(&room.0, Recursive).unwrap();
+    // What lies beside a closed folder is watched, in whatever order they are listed.
+    fs::create_dir(room.join("made")).unwrap();
+    ["a", "c", "d"].iter().for_each(|name| fs::create_dir_all(room.join("made/in").join(name)).unwrap());
+    DirBuilder::new().mode(0o0).create(room.join("made/in/b")).unwrap();
+    assert!(told.until(|told| told.has_error(is_refused, &room.join("made/in/b"))));
+    for name in ["a", "c", "d"] {
+        fs::write(room.join("made/in").join(name).join("file"), "").unwrap();
+        assert!(told.until_event(EventKind::is_create, &room.join("made/in").join(name).join("file")));
+    }
     DirBuilder::new().mode(0o0).create(&closed).unwrap();
     assert!(told.until(|told| told.has_error(is_refused, &closed)));
     fs::set_permissions(&closed, Permissions::from_mode(0o755)).unwrap();
@@ -130,6 +139,7 @@ fn closed_folders_are_an_error_and_watched_once_open() {
     assert!(told.until_event(EventKind::is_create, &closed.join("a")));
     fs::set_permissions(&closed, Permissions::from_mode(0o0)).unwrap();
     let (mut other, _) = started();
+    fs::remove_dir(room.join("made/in/b")).unwrap();
     let error = other.watch(&room.0, Recursive).unwrap_err();
     assert!(is_refused(&error.kind) && error.paths == [closed.clone()], "{error:?}");
     fs::set_permissions(&closed, Permissions::from_mode(0o755)).unwrap();
