@@ -1,7 +1,7 @@
 #!/usr/bin/env python3
 """Times this debouncer beside the Rust crate's own code, and prints a table.
 
-usage: scripts/bench.py [--instructions] FOLDER [N [KIND..]]
+usage: scripts/bench/bench.py [--instructions] FOLDER [N [KIND..]]
 
 FOLDER is the source of notify-debouncer-full 0.6.0, with src/lib.rs and src/cache.rs; none of it is kept.
 scripts/rust_crate/build makes a program of it. The program here is crates/bench, which says what the kinds
@@ -23,7 +23,10 @@ import sys
 import tempfile
 import time
 
-TOP = os.path.dirname(os.path.dirname(os.path.abspath(__file__)))
+if __name__ == "__main__" and "--help" in sys.argv[1:]:
+    sys.exit(print(*[line for line in __doc__.split("\n") if line][:2], sep="\n"))
+
+TOP = os.path.dirname(os.path.dirname(os.path.dirname(os.path.abspath(__file__))))
 KINDS = ["create", "modify", "rename", "sort", "idle", "rmdir", "due"]
 COUNTED = KINDS[:4]
 ROUNDS = 5

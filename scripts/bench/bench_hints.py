@@ -1,7 +1,7 @@
 #!/usr/bin/env python3
 """Times change_journal with hints: from a write to its line, and what it takes of a processor at rest.
 
-usage: scripts/bench_hints.py [PROGRAM]
+usage: scripts/bench/bench_hints.py [PROGRAM]
 
 PROGRAM is change_journal, crates/change_journal/out/change_journal if none is given (rt ci change_journal builds
 it). The folder has 20,000 files in 200 folders; the timeout is 50 ms. With inotifywait, if it is installed, and
@@ -21,7 +21,10 @@ import tempfile
 import threading
 import time
 
-TOP = os.path.dirname(os.path.dirname(os.path.abspath(__file__)))
+if "--help" in sys.argv[1:]:
+    sys.exit(print(*[line for line in __doc__.split("\n") if line][:2], sep="\n"))
+
+TOP = os.path.dirname(os.path.dirname(os.path.dirname(os.path.abspath(__file__))))
 JOURNAL = os.path.join(TOP, "crates", "change_journal", "out", "change_journal")
 EVENTS = "modify,create,delete,move,attrib,close_write"
 FILES = 20_000

@@ -1,7 +1,7 @@
 #!/usr/bin/env python3
 """Times whole runs of `mirror` on scripts of many events, with reading and printing, and prints a table.
 
-usage: scripts/bench_mirror.py [EVENTS]
+usage: scripts/bench/bench_mirror.py [EVENTS]
 
 EVENTS is 100000 if it isn't given. The program `mirror` has to be built (./mirror --build). A figure is the
 least of six runs; the output goes to a file in a temporary folder.
@@ -12,7 +12,10 @@ import sys
 import tempfile
 import time
 
-TOP = os.path.dirname(os.path.dirname(os.path.abspath(__file__)))
+if "--help" in sys.argv[1:]:
+    sys.exit(print(*[line for line in __doc__.split("\n") if line][:2], sep="\n"))
+
+TOP = os.path.dirname(os.path.dirname(os.path.dirname(os.path.abspath(__file__))))
 MIRROR = os.path.join(TOP, "crates", "mirror", "out", "mirror")
 RUNS = 6
 

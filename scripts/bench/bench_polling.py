@@ -1,11 +1,11 @@
 #!/usr/bin/env python3
 """Times the rounds of the watcher that polls beside a plain walk of the folder, and prints a table.
 
-usage: scripts/bench_polling.py [FILES..]
+usage: scripts/bench/bench_polling.py [FILES..]
 
 FILES are numbers of files, 1000 10000 100000 if none is given; a hundred stand in a folder, and nothing
 changes. The program `bench` has to be built (rt ci bench). It times each round itself, with modified times,
-with numbers too, and with neither, and the plain walk, scripts/plain_walk.rs, compiled by rustc, does too; they
+with numbers too, and with neither, and the plain walk, scripts/bench/plain_walk.rs, compiled by rustc, does too; they
 run in turns, and each figure is the least of all its rounds. The peak memory is that of the rounds with numbers,
 as Linux tells it.
 """
@@ -15,7 +15,10 @@ import sys
 import tempfile
 import time
 
-TOP = os.path.dirname(os.path.dirname(os.path.abspath(__file__)))
+if "--help" in sys.argv[1:]:
+    sys.exit(print(*[line for line in __doc__.split("\n") if line][:2], sep="\n"))
+
+TOP = os.path.dirname(os.path.dirname(os.path.dirname(os.path.abspath(__file__))))
 BENCH = os.path.join(TOP, "crates", "bench", "out", "bench")
 ROUNDS = "10"
 TURNS = 5
@@ -69,7 +72,7 @@ def times_of(walk, folder):
 def main(*counts):
     with tempfile.TemporaryDirectory() as room:
         walk = os.path.join(room, "plain_walk")
-        source = os.path.join(TOP, "scripts", "plain_walk.rs")
+        source = os.path.join(TOP, "scripts", "bench", "plain_walk.rs")
         subprocess.run(["rustc", "-O", "-o", walk, source], check=True)
         print("| files | a round | with numbers | without modified times | a plain walk | peak memory |")
         print("|---:|---:|---:|---:|---:|---:|")

@@ -1,7 +1,7 @@
 #!/usr/bin/env python3
 """Prints which functions cost a check most, and at what.
 
-usage: scripts/function_cost.py FOLDER [COUNT]
+usage: scripts/bench/function_cost.py FOLDER [COUNT]
 
 FOLDER is where a check keeps what it checked, as out/incremental/NAME in a crate's folder after `rt check
 --jobs 1` of a crate that wasn't checked before. Each file there is of one function and one step of its proof;
@@ -14,6 +14,9 @@ import collections
 import os
 import re
 import sys
+
+if "--help" in sys.argv[1:]:
+    sys.exit(print(*[line for line in __doc__.split("\n") if line][:2], sep="\n"))
 
 FILE = re.compile(r"Rattle-\w+-(?:proofs|specs\.contracts)\.(.+)\.oantt$")
 STEPS = (

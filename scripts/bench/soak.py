@@ -1,7 +1,7 @@
 #!/usr/bin/env python3
 """Runs change_journal for long over a folder that changes all the while, and says what it lost and what it took.
 
-usage: scripts/soak.py [PROGRAM] [--minutes N] [--files N] [--rate N]
+usage: scripts/bench/soak.py [PROGRAM] [--minutes N] [--files N] [--rate N]
 
 PROGRAM is change_journal, crates/change_journal/out/change_journal if none is given (rt ci change_journal builds
 it). Two journals watch one folder of 100,000 files in 1,000 folders for 60 minutes: one has a hint for each
@@ -21,11 +21,15 @@ import os
 import random
 import shutil
 import subprocess
+import sys
 import tempfile
 import threading
 import time
 
-TOP = os.path.dirname(os.path.dirname(os.path.abspath(__file__)))
+if "--help" in sys.argv[1:]:
+    sys.exit(print(*[line for line in __doc__.split("\n") if line][:2], sep="\n"))
+
+TOP = os.path.dirname(os.path.dirname(os.path.dirname(os.path.abspath(__file__))))
 JOURNAL = os.path.join(TOP, "crates", "change_journal", "out", "change_journal")
 EACH = 100
 

@@ -1,11 +1,11 @@
 #!/usr/bin/env python3
 """Times the C library beside the Rust crate's own code, and prints a table.
 
-usage: scripts/bench_c.py [--instructions] LIBRARY FOLDER [N [KIND..]]
-       scripts/bench_c.py --watch LIBRARY [N]
+usage: scripts/bench/bench_c.py [--instructions] LIBRARY FOLDER [N [KIND..]]
+       scripts/bench/bench_c.py --watch LIBRARY [N]
 
 LIBRARY is the folder that scripts/c_library made, FOLDER the source of notify-debouncer-full 0.6.0, as
-scripts/bench.py has it, whose workloads create, modify and rename these are, and its figures and turns: here
+scripts/bench/bench.py has it, whose workloads create, modify and rename these are, and its figures and turns: here
 a path crosses the boundary as text, and each event that is emitted is read with its paths. N is 100000 if it
 isn't given, and 5000 for instructions.
 
@@ -20,6 +20,9 @@ import tempfile
 import time
 
 from bench import TOP, count, head, least_of_turns, ratio_row
+
+if "--help" in sys.argv[1:]:
+    sys.exit(print(*[line for line in __doc__.split("\n") if line][:2], sep="\n"))
 
 KINDS = ["create", "modify", "rename"]
 
