@@ -125,12 +125,24 @@ def leave_out_programs(folder):
         shutil.rmtree(os.path.join(folder, "crates", crate))
 
 
+def lanes():
+    """Returns how many checks run at a time: as many as processors, or as memory holds (a large one takes 3 GB).
+
+    With this number `rt ci` begins a check as soon as a processor is free, and first the one with the longest chain
+    behind it. Left to itself it plans with twice the memory, and such a check waits while others run.
+    """
+    with open("/proc/meminfo", encoding="ascii") as it:
+        free = int(re.search(r"MemAvailable: *(\d+) kB", it.read())[1])
+    return max(1, min(len(os.sched_getaffinity(0)), free // 3_500_000))
+
+
 def prove(folder):
     """Runs `rt ci` in the folder, and returns its status and the wrong bodies that it saw refused."""
     refused = set()
     gate = [os.path.join(TOP, "scripts", "gate_cost.py")]
-    pipes = {"stdout": subprocess.PIPE, "stderr": subprocess.STDOUT, "text": True, "errors": "replace"}
-    with subprocess.Popen(gate, cwd=folder, **pipes) as running:
+    how = {"stdout": subprocess.PIPE, "stderr": subprocess.STDOUT, "text": True, "errors": "replace"}
+    how["env"] = {"RT_JOBS": str(lanes()), **os.environ}
+    with subprocess.Popen(gate, cwd=folder, **how) as running:
         for line in running.stdout:
             print(line, end="", flush=True)
             edit = re.match(r"rt: must-fail (\w+)/(\S+\.edit): refused, ", line)
