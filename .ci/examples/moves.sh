@@ -22,7 +22,7 @@ is_copy() {
 
 # A folder of 1,000 files that is renamed is one rename, and nothing of it is copied.
 mkdir -p from/many
-for number in $(seq 1000); do head -c 20000 /dev/zero >"from/many/file$number"; done
+for number in $(seq 1000); do head -c 2000 /dev/zero >"from/many/file$number"; done
 : >err
 "$mirror" from to --timeout 1000 --interval 10 --ticks 100000 >out 2>err &
 running=$!
