@@ -10,7 +10,7 @@ within some seconds: files are written, written over by a rename, renamed, remov
 the next look; folders come and go with what is in them; permission closes files and folders for a while. As root
 the programs run as nobody, so that permission means something. The mirror is ended by the end of its input at the
 last change; then its status is 0 and the copy is the folder, path by path and byte by byte. The index is asked for each
-word until its answers are right, for ten seconds at most. The last line is 'N right, M wrong'; a wrong one is said
+word until its answers are right, for a minute at most. The last line is 'N right, M wrong'; a wrong one is said
 with its seed.
 
 With --renames half of the changes are renames, of files and of folders: onto each other, into each other's place,
@@ -275,7 +275,7 @@ def churn(seed, changes, mirror, index, journal=None):
             wrong += [f"the journal's reader at {it}" for it in sorted(read ^ stand)]
         for word in WORDS:
             wanted = documents_with(word, room)
-            until = time.monotonic() + 10
+            until = time.monotonic() + 60
             while (answer := ask(answers, word)) != wanted and time.monotonic() < until:
                 time.sleep(0.1)
             if answer != wanted:
