@@ -26,7 +26,9 @@ case $1 in
 *) echo 'usage: .ci/check_all.sh --proved|--trials' >&2 && trap - EXIT && rm -r "$room" && exit 2 ;;
 esac
 
-scripts=("${made[@]/#/.ci/trials/program.sh }" "${library[@]}" "${tested[@]/#/.ci/trials/tests.sh }" .ci/examples/keeper.sh
+# Worked cases take minutes if each access to memory is checked, and seconds if not.
+made=("${made[@]/#/.ci/trials/program.sh }")
+scripts=("${made[@]/%worked_cases/worked_cases --plain}" "${library[@]}" "${tested[@]/#/.ci/trials/tests.sh }" .ci/examples/keeper.sh
     .ci/examples/vendor.sh .ci/check_c.sh .ci/examples/folder_mirror.sh .ci/examples/hints.sh .ci/examples/churn.sh
     .ci/programs/roots.sh .ci/programs/paths.sh .ci/examples/words.sh "${printed[@]/#/.ci/trials/output.sh }")
 mapfile -t short < <(printf '%s\n' .ci/programs/*.sh .ci/examples/*.sh .ci/check_documents.sh | grep -vxF "$(printf '%s\n' "${scripts[@]}")")

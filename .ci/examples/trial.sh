@@ -1,7 +1,7 @@
 #!/usr/bin/env bash
 # scripts/trial, in a repository with one small program, which is kept and run: from any folder, in a pipe, with its status.
 . "$(dirname "$0")/../checks.sh" || exit 1
-expects 5
+expects 6
 
 mkdir trial && cd trial || exit 1
 here=$PWD
@@ -47,12 +47,16 @@ wait $running
 report 'a trial that is ended by a signal' "$([ $? = 143 ] && ! kill -0 $running 2>/dev/null && ! pgrep -f "$here/kept/program.program" >/dev/null && echo yes)"
 exec 3>&-
 
+try --plain tiny ../kept/plain
+kept/plain <wanted >out 2>err
+report 'a plain trial' "$([ $? = 7 ] && cmp -s out wanted && [ "$(cat err)" = 'plain: a trial build, nothing is proved' ] && echo yes)"
+
 # refuses STATUS COMPLAINT WORD..: nothing is kept.
 refuses() {
     try "${@:3}"
     [ $? = "$1" ] && [ ! -s out ] && [ ! -e kept/none ] && grep -qF -- "$2" err
 }
 well=no
-refuses 2 'trial: usage: scripts/trial CRATE OUT' tiny && refuses 2 'trial: nothing is no program' nothing ../kept/none &&
+refuses 2 'trial: usage: scripts/trial [--plain] CRATE OUT' tiny && refuses 2 'trial: nothing is no program' nothing ../kept/none &&
     refuses 2 "trial: ../kept can't be a file" tiny ../kept && refuses 1 nothing wrong ../kept/none && well=yes
 report 'trials that are refused' $well
