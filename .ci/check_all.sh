@@ -1,8 +1,8 @@
 #!/usr/bin/env bash
 # check_all.sh --proved|--trials: all checks that are no proof: of the programs, of the C library and its users, and of
 # the pages. With --proved they run the programs that the gate left in crates/*/out, and trials of those crates that it
-# doesn't prove; with --trials nothing need be there: all are trials, which the toolchain compiles with checks, and
-# worked cases and the C library are too. As many scripts run side by side as there are processors, the longest first.
+# doesn't prove; with --trials nothing need be there: all are trials, which the toolchain compiles without a proof, worked
+# cases and the C library too. As many scripts run side by side as there are processors, the longest first.
 # The last lines are 'K not run: NAMES', or '0 not run', and 'N passed, M failed'.
 . "$(dirname "$0")/checks.sh" || exit 1
 cd "$top" || exit 1
@@ -19,16 +19,14 @@ case $1 in
     library=() printed=("${made[@]}")
     ;;
 --trials)
-    export NDF_TRIAL=yes NDF_LIBRARY=$NDF_PROGRAMS/library
+    export NDF_LIBRARY=$NDF_PROGRAMS/library
     made+=("${proved[@]}")
     library=(.ci/trials/library.sh) printed=("${made[@]}")
     ;;
 *) echo 'usage: .ci/check_all.sh --proved|--trials' >&2 && trap - EXIT && rm -r "$room" && exit 2 ;;
 esac
 
-# Worked cases take minutes if each access to memory is checked, and seconds if not.
-made=("${made[@]/#/.ci/trials/program.sh }")
-scripts=("${made[@]/%worked_cases/worked_cases --plain}" "${library[@]}" "${tested[@]/#/.ci/trials/tests.sh }" .ci/examples/keeper.sh
+scripts=("${made[@]/#/.ci/trials/program.sh }" "${library[@]}" "${tested[@]/#/.ci/trials/tests.sh }" .ci/examples/keeper.sh
     .ci/examples/vendor.sh .ci/check_c.sh .ci/examples/folder_mirror.sh .ci/examples/hints.sh .ci/examples/churn.sh
     .ci/programs/roots.sh .ci/programs/paths.sh .ci/examples/words.sh "${printed[@]/#/.ci/trials/output.sh }")
 mapfile -t short < <(printf '%s\n' .ci/programs/*.sh .ci/examples/*.sh .ci/check_documents.sh | grep -vxF "$(printf '%s\n' "${scripts[@]}")")

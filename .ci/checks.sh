@@ -4,7 +4,7 @@
 # is neither made nor said to be left out has failed, so a script that ends early, or can't be read, passes nothing.
 #
 # NDF_PROGRAMS is a folder with the programs, each under its crate's name; else they are those of crates/*/out, which
-# the gate proved. NDF_TRIAL is yes if all are trials: compiled with checks, slower, and in need of more memory.
+# the gate proved.
 top=$(cd "$(dirname "${BASH_SOURCE[0]}")/.." && pwd) || exit 1
 toolchain=$(command -v rt)
 room=$(mktemp -d) && chmod 711 "$room" && cd "$room" || exit 1
@@ -87,11 +87,6 @@ not_run() {
 # has TOOL: the tool is here.
 has() {
     command -v "$1" >/dev/null
-}
-
-# is_trial: the programs are compiled with checks, whose room a limit of memory doesn't leave.
-is_trial() {
-    [ "$NDF_TRIAL" = yes ]
 }
 
 # finish: says what was counted, and removes the folder.

@@ -3,11 +3,6 @@
 . "$(dirname "$0")/../checks.sh" || exit 1
 expects 9
 
-if is_trial; then
-    not_run 9 'a trial needs more memory' 'no memory and no threads for the programs of docs/examples'
-    exit
-fi
-
 # A folder of 10,000 files, whose listing takes 38 MB, since their paths are long.
 name=$(printf '%0180d' 0)
 deep=tree

@@ -152,15 +152,6 @@ done
 expect 'an empty path is watched' 5 nothing 'mirror: cannot watch ' "$program" --watch '' 1
 expect 'a path below a file is watched' 5 nothing 'mirror: cannot watch example/f' "$program" --watch example/f 1
 
-# What follows is long, or limits the memory of the program.
-if is_trial; then
-    not_run 1 'a trial is too slow' 'a great tick'
-    not_run 3 'a trial needs more memory' 'no memory'
-    not_run 3 'a trial needs more memory' 'no thread'
-    not_run 1 'a trial needs more memory' 'no memory for a listing'
-    exit
-fi
-
 # A tick of 70,000 due events: more than 64 KiB of output, and more events than 16 bits count.
 (echo timeout 50; seq -f 'event 0 Create(File) - /%05.0f' 70000; echo tick 100) >great
 (
