@@ -163,8 +163,9 @@ side_by_side() {
         {
             SECONDS=0
             trap 'kill $running' TERM
+            cd "$top" || exit
             # shellcheck disable=SC2086
-            cd "$top" && timeout -k 10 "$limit" bash $script >"$said/$number" 2>&1 </dev/null &
+            timeout -k 10 "$limit" bash $script >"$said/$number" 2>&1 </dev/null &
             running=$!
             wait $running
             echo "$? $SECONDS" >"$said/$number.status"
