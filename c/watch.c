@@ -2,7 +2,7 @@
  *
  * A line has a kind and the event's paths, parted by tabs, as the program change_journal prints it. A rename is a
  * removal and a creation that share a tracker; by --renames its halves are joined, which can leave a reader's
- * paths wrong (docs/PROOFS.md). If inotify loses events, one that asks to read all anew is fed. */
+ * paths wrong (docs/RENAMES.md). If inotify loses events, one that asks to read all anew is fed. */
 #define _GNU_SOURCE
 #include "ndf.h"
 #include "ndf_words.h"

@@ -1,5 +1,5 @@
 #!/usr/bin/env bash
-# The build trigger of docs/examples, over a folder in which files come and go in bursts.
+# The build trigger, over a folder in which files come and go in bursts.
 . "$(dirname "$0")/../checks.sh" || exit 1
 expects 13
 

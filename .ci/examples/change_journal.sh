@@ -1,5 +1,5 @@
 #!/usr/bin/env bash
-# The page docs/examples/change_journal.md: three journals of one folder, of which each change waits until all have told the one before.
+# The program change_journal: three journals of one folder, of which each change waits until all have told the one before.
 . "$(dirname "$0")/../checks.sh" || exit 1
 expects 14
 

@@ -1,5 +1,5 @@
 #!/usr/bin/env bash
-# The configuration reloader of docs/examples, over a file that is replaced, spoilt and removed.
+# The configuration reloader, over a file that is replaced, spoilt and removed.
 . "$(dirname "$0")/../checks.sh" || exit 1
 expects 8
 

@@ -1,5 +1,5 @@
 #!/usr/bin/env bash
-# The document index of docs/examples, over a folder in which documents come, change and go.
+# The document index, over a folder in which documents come, change and go.
 . "$(dirname "$0")/../checks.sh" || exit 1
 expects 12
 

@@ -1,5 +1,5 @@
 #!/usr/bin/env bash
-# A watcher's errors under each program of docs/examples that goes on watching: said with the program's name, and
+# A watcher's errors under each program of docs/PROGRAMS.md that goes on watching: said with the program's name, and
 # what changed meanwhile is seen once the path is there again.
 . "$(dirname "$0")/../checks.sh" || exit 1
 expects 7

@@ -1,5 +1,5 @@
 #!/usr/bin/env bash
-# The mirror of docs/examples, over a folder in which files come, change, change their kind and go.
+# The mirror, over a folder in which files come, change, change their kind and go.
 . "$(dirname "$0")/../checks.sh" || exit 1
 expects 34
 

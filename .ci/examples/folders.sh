@@ -1,5 +1,5 @@
 #!/usr/bin/env bash
-# Several folders, in the two programs of docs/examples that take them: each is watched, and a missing one is named.
+# Several folders, in the two programs that take them: each is watched, and a missing one is named.
 . "$(dirname "$0")/../checks.sh" || exit 1
 expects 15
 

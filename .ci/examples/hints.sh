@@ -1,5 +1,5 @@
 #!/usr/bin/env bash
-# The page docs/HINTS.md: programs that look each minute, and are told by hints where something changes. What they
+# The hints of docs/WATCHING.md: programs that look each minute, and are told by hints where something changes. What they
 # show within ten seconds after the last change comes of hints alone, and of the look that follows them.
 . "$(dirname "$0")/../checks.sh" || exit 1
 expects 13

@@ -1,5 +1,5 @@
 #!/usr/bin/env bash
-# Names that are not UTF-8, and what lies too deep, under each program of docs/examples: it says once how many it
+# Names that are not UTF-8, and what lies too deep, under each program of docs/PROGRAMS.md: it says once how many it
 # leaves out, and goes on.
 . "$(dirname "$0")/../checks.sh" || exit 1
 expects 14

@@ -1,5 +1,5 @@
 #!/usr/bin/env bash
-# The programs of docs/examples that find no memory or can start no thread: status 4 and 8, and the line that says so.
+# The programs that find no memory or can start no thread: status 4 and 8, and the line that says so.
 . "$(dirname "$0")/../checks.sh" || exit 1
 expects 9
 

@@ -1,5 +1,5 @@
 #!/usr/bin/env bash
-# A folder that is named by a link, under each program of docs/examples: it is that to which the link leads, at each
+# A folder that is named by a link, under each program of docs/PROGRAMS.md: it is that to which the link leads, at each
 # look anew, and what is printed has the link's name. A link in the folder stays one.
 . "$(dirname "$0")/../checks.sh" || exit 1
 expects 19

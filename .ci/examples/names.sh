@@ -1,5 +1,5 @@
 #!/usr/bin/env bash
-# Names with a tab, a line feed, a carriage return and a backslash, in each program of docs/examples that prints paths.
+# Names with a tab, a line feed, a carriage return and a backslash, in each program of docs/PROGRAMS.md that prints paths.
 . "$(dirname "$0")/../checks.sh" || exit 1
 expects 6
 

@@ -1,5 +1,5 @@
 #!/usr/bin/env bash
-# The words of the five programs of docs/examples: what --help and --version say, and what isn't taken.
+# The words of the five programs: what --help and --version say, and what isn't taken.
 . "$(dirname "$0")/../checks.sh" || exit 1
 expects 49
 

@@ -1,5 +1,5 @@
 //! The program `build_trigger`: it prints one line for each burst of changes below some folders, as for
-//! `while read`. docs/examples/build_trigger.md is its page.
+//! `while read`. docs/PROGRAMS.md has its page.
 #![tactic(auto)]
 
 ghost use Rattle.std.specs.Prelude.{◌≡◌, ◌⊎◌, ◌*◌, ◌^◌, ℕ, [], None, codes, map, option_map, IfErr, IfOk, IfSome, OnOk};

@@ -1,5 +1,5 @@
 //! The program `change_journal`: it prints each change below some folders, as the debouncer emits it, until
-//! it is stopped. docs/examples/change_journal.md is its page.
+//! it is stopped. docs/PROGRAMS.md has its page.
 #![tactic(auto)]
 
 ghost use Rattle.std.specs.Prelude.{◌≡◌, ◌⊎◌, map, IfErr, OnOk};

@@ -1,5 +1,5 @@
 //! The program `config_reloader`: it reads a TOML file when it starts and whenever it may have
-//! changed, and prints the configuration in force. docs/examples/config_reloader.md is its page.
+//! changed, and prints the configuration in force. docs/PROGRAMS.md has its page.
 #![tactic(auto)]
 
 ghost use Rattle.std.specs.Prelude.{◌≡◌, ◌⊎◌, ◌∷◌, [], IfErr, OnOk};

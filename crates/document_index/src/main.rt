@@ -1,5 +1,5 @@
 //! The program `document_index`: it keeps an index of the words of all files below a folder, and answers
-//! which files have a word. docs/examples/document_index.md is its page.
+//! which files have a word. docs/PROGRAMS.md has its page.
 #![tactic(auto)]
 
 ghost use Rattle.std.specs.Prelude.{true, codes, IfOk, OnOk};

@@ -1,5 +1,5 @@
 //! The program `folder_mirror`: it keeps a folder a copy of another one, until it is stopped.
-//! docs/examples/folder_mirror.md is its page.
+//! docs/PROGRAMS.md has its page.
 #![tactic(auto)]
 
 use clap::{ArgMatches, Command};

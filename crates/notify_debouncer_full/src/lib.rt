@@ -17,8 +17,8 @@
 //! over a `FolderScan` reads them from the file system, and `NoCache` has none.
 //!
 //! Moments are nanoseconds from a start that the caller chooses; the core reads no clock. Most
-//! definitions that the contracts speak of are re-exported in `specs`; docs/PROOFS.md says where each
-//! stands.
+//! definitions that the contracts speak of are re-exported in `specs`; scripts/print/definitions lists
+//! them with their files.
 #![tactic(auto)]
 
 mod queue_handler;

@@ -19,7 +19,7 @@
 //! ```
 //!
 //! A program that is written for notify-debouncer-full finds its names here, and notify's in [`notify`]; what can't be
-//! had, and what is otherwise, docs/COMING_FROM.md of the repository lists. Whoever has a loop of their own takes
+//! had, and what is otherwise, docs/PORTING.md of the repository lists. Whoever has a loop of their own takes
 //! [`Core`], which has no thread and no clock. (docs/C.md says what is proved of it.)
 //!
 //! [`new_debouncer`] has inotify on Linux, and isn't there elsewhere; any other watcher implements [`Watcher`] and goes
