@@ -31,6 +31,9 @@ import sys
 import tempfile
 from collections import Counter
 
+if __name__ == "__main__" and "--help" in sys.argv[1:]:
+    sys.exit(print(*[line for line in __doc__.split("\n") if line][:2], sep="\n"))
+
 KINDS = ["Any", "Other"]
 KINDS += [f"Access({kind})" for kind in ["Any", "Read", "Other"]]
 MODES = ["Any", "Execute", "Read", "Write", "Other"]

@@ -29,6 +29,9 @@ import sys
 import tempfile
 import time
 
+if "--help" in sys.argv[1:]:
+    sys.exit(print(*[line for line in __doc__.split("\n") if line][:2], sep="\n"))
+
 TOP = os.path.dirname(os.path.dirname(os.path.abspath(__file__)))
 WORDS = ["apple", "birch", "cedar", "dune", "elm", "fern"]
 AS_NOBODY = ["setpriv", "--reuid=65534", "--regid=65534", "--clear-groups", "--no-new-privs"]

@@ -18,6 +18,9 @@ import sys
 import threading
 import time
 
+if __name__ == "__main__" and "--help" in sys.argv[1:]:
+    sys.exit(print(*[line for line in __doc__.split("\n") if line][:2], sep="\n"))
+
 TICKS = os.sysconf("SC_CLK_TCK")
 KINDS = ["proof", "edits", "tests", "runs"]
 RUN = re.compile(r"/rt-run-[^/]*/bin/(\w+?)(_tests)?$")
