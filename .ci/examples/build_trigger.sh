@@ -35,7 +35,7 @@ written_again() {
 # watches FOLDER: the trigger has said that it watches the folder, within a minute.
 watches() {
     for _ in $(seq 600); do
-        ! grep -qxF -- "build_trigger: watching $1" err || return 0
+        ! grep -qxF -- "build_trigger: watching $1" err 2>/dev/null || return 0
         sleep 0.1
     done
     return 1
