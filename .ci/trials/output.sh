@@ -6,8 +6,9 @@ expects 1
 program=$(program "$1")
 crate=$top/crates/$1
 
-[ ! -e "$crate/data" ] || cp -r "$crate"/data/. .
+mkdir run
+[ ! -e "$crate/data" ] || cp -r "$crate"/data/. run
 words=() && [ ! -e "$crate/args" ] || mapfile -t words <"$crate/args"
 stdout=$crate/stdout && [ -e "$stdout" ] || stdout=/dev/null
-"$program" "${words[@]}" >out 2>err </dev/null
+(cd run && exec "$program" "${words[@]}") >out 2>err </dev/null
 report "what $1 prints" "$([ $? = 0 ] && cmp -s out "$stdout" && echo yes)"
