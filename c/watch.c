@@ -34,6 +34,7 @@ struct place {
 struct watch {
     int number; /* inotify's */
     char *path;
+    ndf_stands stands; /* the folder that is watched */
 };
 
 struct number {
@@ -57,10 +58,12 @@ static const char *root;
 static bool joins_renames;
 static int notes;                   /* inotify's descriptor */
 static void *watches;               /* a tree of which watch is which folder, by number */
+static LIST(struct watch *) watched; /* as they were when they were asked for */
 static LIST(struct place) places;
 static LIST(struct number) written; /* files that were written, and may have further names */
 static LIST(struct line) lines;
 static bool was_refused;            /* something wasn't said for want of memory */
+static bool has_strangers;          /* a folder that was watched may have gone elsewhere */
 static bool is_blind;               /* something couldn't be looked at, since a folder is closed */
 static unsigned unwatched;          /* folders that couldn't be watched */
 static unsigned left_out;           /* names that aren't UTF-8 */
@@ -158,7 +161,7 @@ static void forget(struct watch *watch) {
 }
 
 /* Watches a folder; whether it wasn't watched under this path. */
-static bool watch(const char *path) {
+static bool watch(const char *path, const ndf_stands *stands) {
     int number = inotify_add_watch(notes, path, MASK);
     if (number < 0) {
         if (errno == ENOENT || errno == ENOTDIR) return false;
@@ -177,32 +180,31 @@ static bool watch(const char *path) {
         free(known->path);
     }
     known->path = copied(path);
+    known->stands = *stands;
     return true;
 }
 
-static LIST(struct watch *) chosen; /* of the walk over all watches */
-static const char *chosen_top;
-
-static void choose(const void *node, VISIT visit, int depth) {
+static void collect(const void *node, VISIT visit, int depth) {
     (void)depth;
-    struct watch *watch = *(struct watch *const *)node;
-    if ((visit == postorder || visit == leaf) && is_at_or_below(watch->path, chosen_top)) *ADDED(chosen) = watch;
+    if (visit == postorder || visit == leaf) *ADDED(watched) = *(struct watch *const *)node;
 }
 
-/* Chooses the watches at and below a path. */
-static void choose_below(const char *top) {
-    chosen_top = top;
-    chosen.count = 0;
-    twalk(watches, choose);
+/* Puts all watches into the list `watched`. */
+static void collect_watches(void) {
+    watched.count = 0;
+    twalk(watches, collect);
 }
 
-/* Watches nothing at and below a path any longer: what was there may be elsewhere. */
-static void drop_below(const char *top) {
-    choose_below(top);
-    for (size_t i = 0; i < chosen.count; i++) {
-        inotify_rm_watch(notes, chosen.items[i]->number);
-        forget(chosen.items[i]);
+/* Watches no longer what isn't known at its path: it went elsewhere. */
+static void drop_strangers(void) {
+    collect_watches();
+    for (size_t i = 0; i < watched.count; i++) {
+        ndf_stands known = known_at(watched.items[i]->path);
+        if (is_one(&known, &watched.items[i]->stands)) continue;
+        inotify_rm_watch(notes, watched.items[i]->number);
+        forget(watched.items[i]);
     }
+    has_strangers = false;
 }
 
 /* What is in a folder, or NULL. */
@@ -219,7 +221,7 @@ static char **names_in(DIR *folder) {
 static void find(const char *path, const ndf_stands *stands, bool is_known) {
     DIR *folder = NULL;
     if (stands->kind == NDF_STANDS_FOLDER) {
-        watch(path);
+        watch(path, stands);
         if (!(folder = opendir(path)) && errno != ENOENT && errno != ENOTDIR) is_blind = true;
     }
     if (folder && is_known) is_said(ndf_gone(&debouncer, path, strlen(path)));
@@ -252,12 +254,12 @@ static bool look_at(struct place *place) {
     if (is_there) stands = stands_of(&s);
     bool is_other = !is_one(&before, &stands);
     if (is_other || stands.length != before.length || stands.modified != before.modified) place->is_touched = false;
-    if (before.known && before.kind == NDF_STANDS_FOLDER && (is_other || place->is_whole)) drop_below(place->path);
+    if (before.known && before.kind == NDF_STANDS_FOLDER && (is_other || place->is_whole)) has_strangers = true;
     if (!is_there) {
         if (before.known) is_said(ndf_gone(&debouncer, place->path, strlen(place->path)));
         return before.known;
     }
-    if (stands.kind == NDF_STANDS_FOLDER && (is_other || place->is_whole || watch(place->path))) {
+    if (stands.kind == NDF_STANDS_FOLDER && (is_other || place->is_whole || watch(place->path, &stands))) {
         find(place->path, &stands, before.known);
         return true;
     }
@@ -328,12 +330,12 @@ static bool is_written(ino_t inode) {
 /* Looks at the further names of what was written. */
 static void look_at_names(void) {
     if (written.count == 0) return;
-    choose_below(root);
-    for (size_t i = 0; i < chosen.count; i++) {
-        DIR *folder = opendir(chosen.items[i]->path);
+    collect_watches();
+    for (size_t i = 0; i < watched.count; i++) {
+        DIR *folder = opendir(watched.items[i]->path);
         for (struct dirent *e; folder && (e = readdir(folder));) {
             if (!is_written(e->d_ino) || e->d_type == DT_DIR) continue;
-            char *path = joined(chosen.items[i]->path, e->d_name);
+            char *path = joined(watched.items[i]->path, e->d_name);
             struct stat s;
             if (lstat(path, &s) == 0 && S_ISREG(s.st_mode)) {
                 ndf_stands stands = stands_of(&s);
@@ -374,6 +376,7 @@ static void look(void) {
     if (is_said(ndf_look_end(&debouncer, &count)) && feed())
         for (size_t i = 0; i < places.count; i++)
             if (places.items[i].is_touched) feed_touched(places.items[i].path);
+    if (has_strangers) drop_strangers();
     for (size_t i = 0; i < places.count; i++) free(places.items[i].path);
     places.count = 0;
 }
@@ -629,6 +632,6 @@ int main(int argc, char **argv) {
     free(places.items);
     free(written.items);
     free(lines.items);
-    free(chosen.items);
+    free(watched.items);
     return unwatched ? 1 : 0;
 }
