@@ -5,6 +5,7 @@ use crate::config::{Config, RecursiveMode};
 use crate::core::{Core, Emitted};
 use crate::error::{Error, ErrorKind, Result};
 use crate::event::{Event, EventKind, ModifyKind, RenameMode};
+use crate::moves::join_moves;
 use crate::watcher::{absolute, Watcher, WatcherKind};
 use std::fmt;
 use std::marker::PhantomData;
@@ -134,8 +135,8 @@ pub fn new_debouncer_opt<F: DebounceEventHandler, T: Watcher, C: FileIdCache + S
     let core = start("ndf", move || match Core::new(timeout) {
         Ok(core) => {
             let _ = ready.send(Ok(()));
-            let (begin, roots, errors) = (Instant::now(), Vec::new(), Vec::new());
-            Work { core, begin, cache, roots, errors, turns, is_idle }.go(tick.max(Duration::from_millis(1)), &receiver)
+            let (begin, roots, errors, joins_moves) = (Instant::now(), Vec::new(), Vec::new(), config.joined_renames());
+            Work { core, begin, cache, roots, errors, joins_moves, turns, is_idle }.go(tick.max(Duration::from_millis(1)), &receiver)
         }
         Err(error) => {
             let _ = ready.send(Err(error));
@@ -269,6 +270,8 @@ struct Work<C> {
     roots: Vec<(PathBuf, RecursiveMode)>,
     /// Errors that the core doesn't keep: of the watcher, of paths that aren't UTF-8, of events that were refused.
     errors: Vec<Error>,
+    /// Whether moves are told as such.
+    joins_moves: bool,
     turns: Sender<Turn>,
     /// Whether the handler has returned.
     is_idle: Arc<AtomicBool>,
@@ -283,7 +286,7 @@ impl<C: FileIdCache> Work<C> {
         }
         self.take_last(receiver);
         let waiting = self.core.outlook().unwrap_or_default();
-        waiting.into_iter().map(|emitted| self.debounced(emitted)).collect()
+        self.debounced(waiting)
     }
 
     /// Takes all that was sent before this moment; whether the debouncer goes on. What is sent during a tick isn't
@@ -384,7 +387,7 @@ impl<C: FileIdCache> Work<C> {
         }
         let now = self.moment(now);
         let batch = match self.core.tick(now) {
-            Ok(batch) => batch.into_iter().map(|emitted| self.debounced(emitted)).collect(),
+            Ok(batch) => self.debounced(batch),
             // All waits on, and a later tick emits it.
             Err(Error { kind: ErrorKind::Memory, .. }) => Vec::new(),
             Err(error) => {
@@ -405,8 +408,17 @@ impl<C: FileIdCache> Work<C> {
         u64::try_from(time.saturating_duration_since(self.begin).as_nanos()).unwrap_or(u64::MAX)
     }
 
-    fn debounced(&self, emitted: Emitted) -> DebouncedEvent {
-        DebouncedEvent::new(emitted.event, self.begin + Duration::from_nanos(emitted.time))
+    fn debounced(&self, batch: Vec<Emitted>) -> Vec<DebouncedEvent> {
+        let time_of = |emitted: &Emitted| self.begin + Duration::from_nanos(emitted.time);
+        let events = batch.into_iter().map(|emitted| {
+            let time = time_of(&emitted);
+            DebouncedEvent::new(emitted.event, time)
+        }).collect();
+        if self.joins_moves {
+            join_moves(events)
+        } else {
+            events
+        }
     }
 }
 
