@@ -394,14 +394,17 @@ static void begin_anew(void) {
     add_root();
 }
 
-/* Whether what stands at the root is what is known. If not, it was moved, replaced or unmounted, or is there again. */
-static bool has_root(void) {
+/* If something else stands at the root than is known, it was moved, replaced or unmounted, or is there again. */
+static void check_root(void) {
     struct stat s;
     ndf_stands known = known_at(root), stands = {.known = false};
     if (lstat(root, &s) == 0) stands = stands_of(&s);
-    bool is_same = is_one(&known, &stands);
-    if (!is_same) fprintf(stderr, "watch: %s %s\n", root, stands.known ? "is another one now" : "is gone");
-    return is_same;
+    else if (errno != ENOENT && errno != ENOTDIR) return;
+    if (is_one(&known, &stands)) return;
+    fprintf(stderr, "watch: %s %s\n", root, !stands.known ? "is gone" : known.known ? "is another one now" : "is there again");
+    size_t count;
+    if (known.known && is_said(ndf_gone(&debouncer, root, strlen(root))) && is_said(ndf_look_end(&debouncer, &count))) feed();
+    add_root();
 }
 
 static void take(const struct inotify_event *e) {
@@ -443,7 +446,7 @@ static void turn(void) {
         else take(e);
     }
     if (is_lost) begin_anew();
-    else if (!has_root()) add_root();
+    else check_root();
     if (places.count > 0) look();
 }
 

@@ -299,13 +299,8 @@ impl<H: EventHandler> Listener<H> {
         }
         self.check_roots(&mut places);
         let has_moved = is_lost || places.values().any(|reason| reason.whole);
-        match self.looks.look(places, &mut self.notes) {
-            Ok(reports) => reports.into_iter().for_each(|report| self.handler.handle_event(report)),
-            Err(error) => {
-                self.is_incomplete = true;
-                self.handler.handle_event(Err(error));
-            }
-        }
+        let looked = self.looks.look(places, &mut self.notes);
+        self.hand_on(looked);
         if is_lost {
             self.handler.handle_event(Ok(Event::new(EventKind::Other).set_flag(Flag::Rescan)));
         }
@@ -315,6 +310,17 @@ impl<H: EventHandler> Listener<H> {
             self.notes.retain(|path, stands| looks.known(path).is_some_and(|known| known.is_same(stands)));
         }
         len > 0
+    }
+
+    /// Hands on what a look has told, or why it has told nothing.
+    fn hand_on(&mut self, looked: Result<Vec<Result<Event>>>) {
+        match looked {
+            Ok(reports) => reports.into_iter().for_each(|report| self.handler.handle_event(report)),
+            Err(error) => {
+                self.is_incomplete = true;
+                self.handler.handle_event(Err(error));
+            }
+        }
     }
 
     fn take(&mut self, notice: &Notice, places: &mut Places) {
@@ -357,12 +363,17 @@ impl<H: EventHandler> Listener<H> {
         let roots: Vec<PathBuf> = self.looks.roots().cloned().collect();
         for root in roots {
             let standing = self.looks.standing(&root);
-            let is_same = match (&standing, self.looks.known(&root)) {
+            let known = self.looks.known(&root);
+            let is_same = match (&standing, known) {
                 (Ok(Some(now)), Some(known)) => now.is_same(&known),
-                (Ok(None) | Err(_), None) => true,
+                (Ok(None), None) | (Err(_), _) => true,
                 _ => false,
             };
             if !is_same {
+                if known.is_some() {
+                    let looked = self.looks.lose(&root);
+                    self.hand_on(looked);
+                }
                 add_place(places, root.clone(), Reason::WHOLE);
             }
             match standing {

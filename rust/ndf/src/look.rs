@@ -267,6 +267,13 @@ impl Looks {
         self.end(&touched)
     }
 
+    /// Nothing of what was known stands at the path any longer.
+    pub fn lose(&mut self, path: &Path) -> Result<Vec<Result<Event>>> {
+        self.feed()?;
+        self.say(path, |core| core.gone(path))?;
+        self.end(&[])
+    }
+
     /// Says of what was written that it was. A file of several names was written under all of them.
     fn say_written(&mut self, places: &Places, folders: &mut dyn Folders) -> Result<()> {
         let mut numbers = Vec::new();
