@@ -160,13 +160,18 @@ static void forget(struct watch *watch) {
     free_watch(watch);
 }
 
+static const char *reason_of(int error) {
+    return error == ENOSPC ? "no watch is left (/proc/sys/fs/inotify/max_user_watches)" : strerror(error);
+}
+
 /* Watches a folder; whether it wasn't watched under this path. */
 static bool watch(const char *path, const ndf_stands *stands) {
     int number = inotify_add_watch(notes, path, MASK);
     if (number < 0) {
         if (errno == ENOENT || errno == ENOTDIR) return false;
         is_blind = true;
-        fprintf(stderr, "watch: cannot watch %s: %s\n", path, errno == ENOSPC ? "the limit of watches is reached" : strerror(errno));
+        /* One folder above the limit stands for all. */
+        if (errno != ENOSPC || !unwatched) fprintf(stderr, "watch: cannot watch %s: %s\n", path, reason_of(errno));
         unwatched++;
         return false;
     }
@@ -499,23 +504,36 @@ static bool touches(const struct line *line, const struct line *other) {
            (line->told.first == len || line->texts[len] == '/');
 }
 
-/* Finds the two events of each move. Those of a file are one line, at the place of the creation, unless something else
- * happened at the old path between them. What lies in a folder is told anew, so there the move is a line of its own. */
-static void join_renames(void) {
+/* The creation of what was removed here, or NULL. What lay in a folder that moved has its tracker too, wherever it is now. */
+static struct line *target_of(const struct line *from) {
+    struct line *target = NULL;
     for (size_t i = 0; i < lines.count; i++) {
         struct line *to = &lines.items[i];
-        if (!is_creation(to) || !to->told.tracked) continue;
-        for (size_t j = 0; j < lines.count; j++) {
-            struct line *from = &lines.items[j];
-            if (!is_removal(from) || !from->told.tracked || from->told.tracker != to->told.tracker) continue;
-            bool is_apart = false;
-            for (size_t k = (i < j ? i : j) + 1; k < (i < j ? j : i); k++) is_apart |= touches(&lines.items[k], from);
-            if (to->told.kind == NDF_CREATE_FOLDER) {
-                from->other = to;
-            } else if (!is_apart) {
-                to->other = from;
-                from->is_left_out = true;
-            }
+        bool is_one_move = is_creation(to) && to->told.tracked && to->told.tracker == from->told.tracker &&
+                           to->told.kind - NDF_CREATE_ANY == from->told.kind - NDF_REMOVE_ANY;
+        if (!is_one_move || (target && touches(to, target))) continue;
+        if (target && !touches(target, to)) return NULL;
+        target = to;
+    }
+    return target;
+}
+
+/* Finds the two events of each move. Those of a file are one line, at the place of the creation, unless something else
+ * happened at the old path between them. What lies in a folder is told anew, so there the move is a line of its own, behind
+ * the removal, where it moves nothing. */
+static void join_renames(void) {
+    for (size_t i = 0; i < lines.count; i++) {
+        struct line *from = &lines.items[i];
+        struct line *to = is_removal(from) && from->told.tracked ? target_of(from) : NULL;
+        if (!to) continue;
+        bool is_apart = false;
+        struct line *first = from < to ? from : to, *last = from < to ? to : from;
+        for (struct line *between = first + 1; between < last; between++) is_apart |= touches(between, from);
+        if (from->told.kind == NDF_REMOVE_FOLDER) {
+            from->other = to;
+        } else if (!is_apart) {
+            to->other = from;
+            from->is_left_out = true;
         }
     }
 }

@@ -192,7 +192,7 @@ class Watcher:
         self.say_written(places)
         whole, touched = None, []
         for path in sorted(places, key=lambda path: path.split("/")):
-            if whole and (path == whole or path.startswith(whole.rstrip("/") + "/")):
+            if whole and (whole == "/" or is_at_or_below(path, whole)):
                 continue
             is_whole, is_same = self.look_at(path, places[path])
             if is_whole:
@@ -261,22 +261,36 @@ class Watcher:
         return reason | (NEW if comes else 0)
 
 
+def is_at_or_below(path, top):
+    return path == top or path.startswith(top + "/")
+
+
+def target_of(removal, creations):
+    """The creation of what was removed. What lay in a folder that moved has its tracker too, wherever it is now."""
+    kind = removal.word.replace("Remove", "Create")
+    found = sorted((event.paths[0].count("/"), at, event.paths[0]) for at, event in creations if event.word == kind)
+    return found[0][1] if found and all(is_at_or_below(path, found[0][2]) for _, _, path in found) else None
+
+
 def with_moves(batch):
     """The batch with each of its moves told: a removal and a creation that share a tracker. Those of a file become one event;
     what lies in a folder is told anew, so there the move stands behind the removal, where it moves nothing.
     """
-    told = [[event] for event in batch]
-    removals = {event.tracker: at for at, event in enumerate(batch) if event.word.startswith("Remove") and event.tracker is not None}
-    for to, event in enumerate(batch):
-        at = removals.get(event.tracker) if event.word.startswith("Create") and event.tracker is not None else None
-        if at is None:
+    told, creations = [[event] for event in batch], defaultdict(list)
+    for at, event in enumerate(batch):
+        if event.word.startswith("Create") and event.tracker is not None:
+            creations[event.tracker].append((at, event))
+    for at, event in enumerate(batch):
+        is_move = event.word.startswith("Remove") and event.tracker is not None
+        to = target_of(event, creations[event.tracker]) if is_move else None
+        if to is None:
             continue
-        old = batch[at].paths[0]
-        both = ndf.Event(ndf.NAME_BOTH, event.time, [old, event.paths[0]])
+        old = event.paths[0]
+        both = ndf.Event(ndf.NAME_BOTH, event.time, [old, batch[to].paths[0]])
         between = batch[min(at, to) + 1 : max(at, to)]
-        if event.kind == ndf.CREATE_FOLDER:
+        if event.kind == ndf.REMOVE_FOLDER:
             told[at].append(both)
-        elif not any(path == old or path.startswith(old + "/") for other in between for path in other.paths):
+        elif not any(is_at_or_below(path, old) for other in between for path in other.paths):
             told[at], told[to] = [], [both]
     return [event for events in told for event in events]
 
