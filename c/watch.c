@@ -354,11 +354,12 @@ static void look_at_names(void) {
     written.count = 0;
 }
 
-/* Feeds what the last look told; whether all of it was fed. */
+/* Feeds what the last look told, each event a nanosecond after the one before, which keeps their order; whether all of it was
+ * fed. */
 static bool feed(void) {
     uint64_t moment = now();
     uint32_t code;
-    while ((code = ndf_look_feed(&debouncer, moment)) == NDF_DONE) {}
+    while ((code = ndf_look_feed(&debouncer, moment)) == NDF_DONE) moment++;
     return code == NDF_AT_END;
 }
 

@@ -448,8 +448,8 @@ class Debouncer:
         self._code(_lib.ndf_look_begin)
 
     def end_look(self, moment: int) -> None:
-        """Ends the look: what was said is known, and how it differs from what was known is fed, as at this moment. After a
-        MemoryError the next call feeds the rest first.
+        """Ends the look: what was said is known, and how it differs from what was known is fed. After a MemoryError the next
+        call feeds the rest first.
         """
         self.feed_look(moment)
         self._code(_lib.ndf_look_end, ctypes.c_size_t())
@@ -460,10 +460,11 @@ class Debouncer:
         self._code(_lib.ndf_look_known)
 
     def feed_look(self, moment: int) -> None:
-        """Feeds what the last look told and wasn't fed yet."""
-        _number("moment", moment)
-        while self._code(_lib.ndf_look_feed, moment) != CODES.index("at_end"):
-            pass
+        """Feeds what the last look told and wasn't fed yet: the first event at this moment, and each further one a nanosecond
+        later, which keeps their order.
+        """
+        while self._code(_lib.ndf_look_feed, _number("moment", moment)) != CODES.index("at_end"):
+            moment += 1
 
     def known(self, path: Path) -> Stands | None:
         """What is known to stand at a path since the last look ended."""

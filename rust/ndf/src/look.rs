@@ -167,6 +167,8 @@ pub(crate) trait Folders {
 pub(crate) struct Looks {
     /// A debouncer that emits at once what it is fed: the library's looks, without waiting.
     core: Core,
+    /// How many events were fed: their moments.
+    moment: u64,
     roots: Vec<(PathBuf, RecursiveMode)>,
     /// Whether something couldn't be looked at.
     is_blind: bool,
@@ -175,7 +177,7 @@ pub(crate) struct Looks {
 
 impl Looks {
     pub fn new() -> Result<Looks> {
-        Ok(Looks { core: Core::new(0)?, roots: Vec::new(), is_blind: false, reports: Vec::new() })
+        Ok(Looks { core: Core::new(0)?, moment: 0, roots: Vec::new(), is_blind: false, reports: Vec::new() })
     }
 
     pub fn roots(&self) -> impl Iterator<Item = &PathBuf> {
@@ -408,8 +410,11 @@ impl Looks {
         }
     }
 
+    /// Feeds what the last look told, one after the other, which keeps its order.
     fn feed(&mut self) -> Result<()> {
-        while self.core.feed_look(0)? {}
+        while self.core.feed_look(self.moment)? {
+            self.moment += 1;
+        }
         Ok(())
     }
 
@@ -417,7 +422,7 @@ impl Looks {
     fn end(&mut self, touched: &[&PathBuf]) -> Result<Vec<Result<Event>>> {
         self.core.end_look()?;
         self.feed()?;
-        let told = self.core.tick(0)?;
+        let told = self.core.tick(self.moment)?;
         let mut events: Vec<Event> = told.into_iter().map(|emitted| emitted.event).collect();
         for path in touched {
             if self.known(path).is_some() {
