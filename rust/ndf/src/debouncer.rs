@@ -6,7 +6,7 @@ use crate::core::{Core, Emitted};
 use crate::error::{Error, ErrorKind, Result};
 use crate::event::{Event, EventKind, ModifyKind, RenameMode};
 use crate::moves::join_moves;
-use crate::watcher::{absolute, Watcher, WatcherKind};
+use crate::watcher::{absolute, EventHandler, Watcher, WatcherKind};
 use std::fmt;
 use std::marker::PhantomData;
 use std::mem;
@@ -151,7 +151,7 @@ pub fn new_debouncer_opt<F: DebounceEventHandler, T: Watcher, C: FileIdCache + S
         handler: Some(handler),
         cache: PhantomData,
     };
-    debouncer.watcher = Some(T::new(move |event| send(&sender, event), config)?);
+    debouncer.watcher = Some(T::new(Feed(sender), config)?);
     Ok(debouncer)
 }
 
@@ -159,17 +159,34 @@ fn start<R: Send + 'static>(name: &str, work: impl FnOnce() -> R + Send + 'stati
     Ok(thread::Builder::new().name(name.to_string()).spawn(work)?)
 }
 
-/// Hands an event of the watcher on. Whether its path exists is asked at once, if it matters.
-fn send(sender: &Sender<Message>, event: Result<Event>) {
-    let message = match event {
+/// Hands the events of the watcher on.
+struct Feed(Sender<Message>);
+
+impl EventHandler for Feed {
+    fn handle_event(&mut self, event: Result<Event>) {
+        self.handle_events(vec![event]);
+    }
+
+    /// What one look told is a nanosecond apart, so that both events of a move are in one batch.
+    fn handle_events(&mut self, events: Vec<Result<Event>>) {
+        let mut time = Instant::now();
+        for event in events {
+            let _ = self.0.send(message_of(event, time));
+            time += Duration::from_nanos(1);
+        }
+    }
+}
+
+/// Whether the event's path exists is asked at once, if it matters.
+fn message_of(event: Result<Event>, time: Instant) -> Message {
+    match event {
         Ok(event) => {
             let asks = event.kind == EventKind::Modify(ModifyKind::Name(RenameMode::Any));
             let exists = asks && event.paths.first().is_some_and(|path| path.symlink_metadata().is_ok());
-            Message::Event { event, exists, time: Instant::now() }
+            Message::Event { event, exists, time }
         }
         Err(error) => Message::Error(error),
-    };
-    let _ = sender.send(message);
+    }
 }
 
 /// Calls the handler, until the core's thread has ended.

@@ -275,7 +275,7 @@ impl<H: EventHandler> Listener<H> {
     fn obey(&mut self, command: Command) -> Result<()> {
         let done = match command {
             Command::Watch(path, mode) => self.looks.add_root(&path, mode, &mut self.notes).map(|events| {
-                events.into_iter().for_each(|event| self.handler.handle_event(Ok(event)));
+                self.handler.handle_events(events.into_iter().map(Ok).collect());
             }),
             Command::Unwatch(path) if self.looks.remove_root(&path) => Ok(()),
             Command::Unwatch(path) => Err(Error::watch_not_found().add_path(path)),
@@ -315,7 +315,7 @@ impl<H: EventHandler> Listener<H> {
     /// Hands on what a look has told, or why it has told nothing.
     fn hand_on(&mut self, looked: Result<Vec<Result<Event>>>) {
         match looked {
-            Ok(reports) => reports.into_iter().for_each(|report| self.handler.handle_event(report)),
+            Ok(reports) => self.handler.handle_events(reports),
             Err(error) => {
                 self.is_incomplete = true;
                 self.handler.handle_event(Err(error));

@@ -585,7 +585,7 @@ fn go(mut looks: Looks, requests: &Receiver<Request>, mut handler: impl EventHan
             match request {
                 Request::Watch(path, mode, answer) => {
                     let added = looks.add_root(&path, mode, &mut NoFolders);
-                    let told = added.map(|events| events.into_iter().for_each(|event| handler.handle_event(Ok(event))));
+                    let told = added.map(|events| handler.handle_events(events.into_iter().map(Ok).collect()));
                     let _ = answer.send(told);
                 }
                 Request::Unwatch(path) => drop(looks.remove_root(&path)),
@@ -601,7 +601,7 @@ fn go(mut looks: Looks, requests: &Receiver<Request>, mut handler: impl EventHan
             looks.add_all(&mut places);
         }
         match looks.look(places, &mut NoFolders) {
-            Ok(reports) => reports.into_iter().for_each(|report| handler.handle_event(report)),
+            Ok(reports) => handler.handle_events(reports),
             Err(error) => {
                 is_incomplete = true;
                 handler.handle_event(Err(error));
