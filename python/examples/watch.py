@@ -254,10 +254,10 @@ class Watcher:
             self.look(places)
 
     def reason(self, mask):
-        comes = mask & (CREATE | MOVED_FROM | MOVED_TO)
+        comes = mask & (CREATE | MOVED_TO)
         reason = (WRITTEN if mask & MODIFY else 0) | (TOUCHED if mask & ATTRIB else 0)
         if mask & IS_FOLDER:
-            return reason | (WHOLE if comes or (mask & ATTRIB and self.is_blind) else 0)
+            return reason | (WHOLE if comes or mask & MOVED_FROM or (mask & ATTRIB and self.is_blind) else 0)
         return reason | (NEW if comes else 0)
 
 

@@ -335,7 +335,8 @@ impl<H: EventHandler> Listener<H> {
             let written = mask & MODIFY != 0;
             let touched = mask & ATTRIB != 0;
             if !name.is_empty() {
-                let (whole, anew) = (is_folder && mask & comes_or_goes != 0, !is_folder && mask & comes_or_goes != 0);
+                let whole = is_folder && mask & comes_or_goes != 0;
+                let anew = !is_folder && mask & (CREATE | MOVED_TO) != 0;
                 add_place(places, path.join(name), Reason { whole, anew, written, touched });
             } else if mask & (IGNORED | UNMOUNT) != 0 {
                 add_place(places, path, Reason::WHOLE);

@@ -68,7 +68,7 @@ fn moves_are_told_as_such() {
     fs::rename(room.join("d"), room.join("e")).unwrap();
     assert!(told.until_event(EventKind::is_create, &room.join("e/s")));
     let moves: Vec<_> = told.events.iter().filter(|event| event.kind == MOVED).map(|event| event.paths.clone()).collect();
-    assert_eq!(moves.len(), 2);
+    assert_eq!(moves.len(), 2, "{:?}", told.events);
     assert!(moves.contains(&vec![room.join("a"), room.join("b")]));
     assert!(moves.contains(&vec![room.join("d"), room.join("e")]));
     assert!(!told.has(EventKind::is_remove, &room.join("a")) && !told.has(EventKind::is_create, &room.join("b")));
