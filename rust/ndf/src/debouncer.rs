@@ -136,7 +136,8 @@ pub fn new_debouncer_opt<F: DebounceEventHandler, T: Watcher, C: FileIdCache + S
         Ok(core) => {
             let _ = ready.send(Ok(()));
             let (begin, roots, errors, joins_moves) = (Instant::now(), Vec::new(), Vec::new(), config.joined_renames());
-            Work { core, begin, cache, roots, errors, joins_moves, turns, is_idle }.go(tick.max(Duration::from_millis(1)), &receiver)
+            Work { core, begin, cache, roots, errors, joins_moves, turns, is_idle }
+                .go(tick.max(Duration::from_millis(1)), &receiver)
         }
         Err(error) => {
             let _ = ready.send(Err(error));
@@ -427,10 +428,13 @@ impl<C: FileIdCache> Work<C> {
 
     fn debounced(&self, batch: Vec<Emitted>) -> Vec<DebouncedEvent> {
         let time_of = |emitted: &Emitted| self.begin + Duration::from_nanos(emitted.time);
-        let events = batch.into_iter().map(|emitted| {
-            let time = time_of(&emitted);
-            DebouncedEvent::new(emitted.event, time)
-        }).collect();
+        let events = batch
+            .into_iter()
+            .map(|emitted| {
+                let time = time_of(&emitted);
+                DebouncedEvent::new(emitted.event, time)
+            })
+            .collect();
         if self.joins_moves {
             join_moves(events)
         } else {

@@ -232,7 +232,8 @@ impl Looks {
             Err(error) => Err(refused(error, path)),
         };
         // The first error that isn't of a single name, which is left out, is the answer.
-        let added = added.and_then(|reports| reports.into_iter().filter(|it| !is_of_name(it)).collect::<Result<Vec<Event>>>());
+        let added =
+            added.and_then(|reports| reports.into_iter().filter(|it| !is_of_name(it)).collect::<Result<Vec<Event>>>());
         if added.is_err() {
             self.roots = before.clone();
         }

@@ -3,7 +3,9 @@ mod common;
 
 use common::{Room, Told};
 use ndf::look::Looker;
-use ndf::{Config, CreateKind, DataChange, Event, EventKind, ModifyKind, RecursiveMode, RemoveKind, RenameMode, Result};
+use ndf::{
+    Config, CreateKind, DataChange, Event, EventKind, ModifyKind, RecursiveMode, RemoveKind, RenameMode, Result,
+};
 use std::fs;
 use std::path::PathBuf;
 use std::sync::mpsc::{self, Receiver};
@@ -67,7 +69,8 @@ fn moves_are_told_as_such() {
     fs::rename(room.join("a"), room.join("b")).unwrap();
     fs::rename(room.join("d"), room.join("e")).unwrap();
     assert!(told.until_event(EventKind::is_create, &room.join("e/s")));
-    let moves: Vec<_> = told.events.iter().filter(|event| event.kind == MOVED).map(|event| event.paths.clone()).collect();
+    let moves: Vec<_> =
+        told.events.iter().filter(|event| event.kind == MOVED).map(|event| event.paths.clone()).collect();
     assert_eq!(moves.len(), 2, "{:?}", told.events);
     assert!(moves.contains(&vec![room.join("a"), room.join("b")]));
     assert!(moves.contains(&vec![room.join("d"), room.join("e")]));
