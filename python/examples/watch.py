@@ -29,7 +29,7 @@ def say(text):
     print("watch:", text, file=sys.stderr, flush=True)
 
 
-def number_of(path, s):
+def number_of(s):
     return s.st_dev & 0xFFFFFFFF, s.st_ino
 
 
@@ -88,7 +88,7 @@ class Watcher:
         for end in [i for i, letter in enumerate(root) if letter == "/"]:
             self.debouncer.found(root[: end or 1], "folder")
         s = os.lstat(root)
-        self.notes.watch(root, number_of(root, s))
+        self.notes.watch(root, number_of(s))
         self.find(root, s, False)
         self.debouncer.end_look_known()
 
@@ -97,7 +97,7 @@ class Watcher:
         is_file = stat.S_ISREG(s.st_mode)
         length, modified = (s.st_size, s.st_mtime_ns) if is_file else (0, None)
         try:
-            self.debouncer.found(path, kind_of(s), length, modified, number_of(path, s))
+            self.debouncer.found(path, kind_of(s), length, modified, number_of(s))
         except ndf.Refused as refused:
             self.left_out += ndf.CODES[refused.code] == "not_text"
             return False
@@ -111,10 +111,12 @@ class Watcher:
 
     def watch(self, path, s):
         try:
-            return self.notes.watch(path, number_of(path, s))
+            return self.notes.watch(path, number_of(s))
         except OSError as error:
             if error.errno not in GONE:
-                say(f"cannot watch {path}: {error.strerror}")
+                # One folder above the limit stands for all.
+                if error.errno != errno.ENOSPC or not self.unwatched:
+                    say(f"cannot watch {path}: {error.strerror}")
                 self.is_blind, self.unwatched = True, self.unwatched + 1
             return False
 
@@ -151,7 +153,7 @@ class Watcher:
             elif before:
                 self.debouncer.gone(path)
             return bool(before) and error.errno in GONE, False
-        is_same = before and before.number == number_of(path, s) and ndf.STANDS[before.kind] == kind_of(s)
+        is_same = before and before.number == number_of(s) and ndf.STANDS[before.kind] == kind_of(s)
         if stat.S_ISDIR(s.st_mode) and (not is_same or reason & WHOLE or self.watch(path, s)):
             self.find(path, s, bool(before))
             return True, False
@@ -217,7 +219,7 @@ class Watcher:
         """If something else stands at the root than is known, it was moved, replaced or unmounted, or is there again."""
         known, number = self.known(self.root), None
         try:
-            number = number_of(self.root, os.lstat(self.root))
+            number = number_of(os.lstat(self.root))
         except OSError as error:
             if error.errno not in GONE:
                 return
