@@ -124,6 +124,9 @@ if has gcc; then
     check 'random calls, right and wrong' sh -c "gcc -std=gnu11 -O1 $warnings $sanitizers -I'$top/c' \
         '$top/c/test/random.c' libdebounce_c.a -o random && ./random 1 100000 && ./random 2 100000"
     cat said
+    check 'random looks, and a reader of what is told' sh -c "gcc -std=gnu11 -O1 $warnings $sanitizers -I'$top/c' \
+        '$top/c/test/looks.c' libdebounce_c.a -o looks && ./looks 1 100000 && ./looks 2 100000"
+    cat said
     { printf '#include "%s"\n' ndf.h ndf_words.h stdio.h string.h sys/stat.h
       echo 'int main(void) { uint64_t now = 0; const char *path = "/w/a";'
       sed -n '/^```c$/,/^```$/p' "$top/docs/C.md" | sed '/^```/d'

@@ -50,7 +50,10 @@ enum {
     NDF_AT_END = 7,         /* all was read */
     NDF_TOO_SHORT = 8,      /* the buffer is shorter than the texts, and the lengths are told */
     NDF_TOO_MANY_PATHS = 9, /* an event has at most two paths */
-    NDF_BAD_COUNTS = 10     /* more events were emitted than were taken */
+    NDF_BAD_COUNTS = 10,    /* more events were emitted than were taken */
+    NDF_NO_FOLDER = 11,     /* the folder in which a path would stand isn't there */
+    NDF_UNFED = 12,         /* an event of the last look wasn't fed */
+    NDF_BEGUN = 13          /* a look has ended before */
 };
 
 /* The kinds of events, by the names of notify's EventKind. */
@@ -186,6 +189,26 @@ typedef struct ndf_file_number {
     uint64_t inode;  /* st_ino */
 } ndf_file_number;
 
+/* What kind of thing stands at a path. A link is an NDF_STANDS_OTHER. */
+enum {
+    NDF_STANDS_FILE = 0,
+    NDF_STANDS_FOLDER = 1,
+    NDF_STANDS_OTHER = 2
+};
+
+/* What stands at a path, as it is said in a look. Two of them are told as a change if their length, time or number
+ * differs; so a folder, whose time follows its entries, has none, and its length is 0. */
+typedef struct ndf_stands {
+    bool known;        /* as ndf_known tells it: whether something is known to stand there; else not read */
+    bool has_time;     /* whether `modified` is said, */
+    bool has_number;   /* and `device` and `inode`, by which a move is found */
+    uint32_t kind;
+    uint32_t device;   /* st_dev */
+    uint64_t length;   /* st_size */
+    uint64_t modified; /* st_mtim, in nanoseconds since 1970 */
+    uint64_t inode;    /* st_ino */
+} ndf_stands;
+
 typedef struct ndf_totals {
     uint64_t taken;   /* how many events were taken, */
     uint64_t given;   /* were emitted, */
@@ -259,6 +282,48 @@ uint32_t ndf_event(ndf_handle *h, const ndf_change *change, const char *first, s
 uint32_t ndf_event_with(ndf_handle *h, const ndf_change *change, const ndf_attributes *attributes, const char *first,
                         size_t first_len, const char *second, size_t second_len, const char *info, size_t info_len,
                         const char *source, size_t source_len);
+
+/* What stands there: a watcher that looks wherever it is told to, says what it finds, and feeds what the library tells
+ * of the difference to what was known. A notice is only a place to look at then: a wrong or doubled one costs a look.
+ *
+ *     ndf_found(&h, path, len, &stands);   or   ndf_gone(&h, path, len);   .. for each place
+ *     ndf_look_end(&h, &count);
+ *     while ((code = ndf_look_feed(&h, now)) == NDF_DONE) {}
+ *
+ * What is said counts once the look ends. If all events are fed so, a reader of what is emitted, and then of the
+ * outlook, has just the paths that are known. The folders above a path are found first, from the root on. */
+
+/* A look begins: what was said since the last one ended is forgotten. It never lacks memory, and may be left out. */
+uint32_t ndf_look_begin(ndf_handle *h);
+
+/* This stands at the path. If something of another kind stood there, nothing stands below it until that is found.
+ * NDF_NO_KIND, exactly if the kind is above 2; else NDF_NOT_TEXT, exactly if the path isn't UTF-8; else NDF_NO_FOLDER,
+ * only if the path has no part, or in the folder above it nothing stands, or a file; else NDF_NO_MEMORY, which may
+ * also come in the place of NDF_NO_FOLDER. */
+uint32_t ndf_found(ndf_handle *h, const char *path, size_t len, const ndf_stands *stands);
+
+/* Nothing stands at the path, nor below it, but what is found there later in this look. So a folder is listed anew:
+ * ndf_gone of it, then ndf_found of it and of all that is in it; what isn't found again is removed.
+ * NDF_NOT_TEXT, exactly if the path isn't UTF-8; else NDF_NO_MEMORY. */
+uint32_t ndf_gone(ndf_handle *h, const char *path, size_t len);
+
+/* The look ends: what was said is known, and where nothing was said, what was known. `count` events are to be fed by
+ * ndf_look_feed: the removals, the creations and what was written, each in the order of their paths. What is one file
+ * at two paths has moved, and its events have one tracker.
+ * NDF_UNFED, exactly if an event of the last look wasn't fed; else NDF_NO_MEMORY: what was said is still said. */
+uint32_t ndf_look_end(ndf_handle *h, size_t *count);
+
+/* The first look ends, and nothing is told of it: what was said is what the reader has already.
+ * NDF_BEGUN, exactly if a look has ended before; else NDF_NO_MEMORY. */
+uint32_t ndf_look_known(ndf_handle *h);
+
+/* Takes the next event of the look that ended last, as ndf_event does. After NDF_NO_MEMORY it is still the next.
+ * NDF_AT_END, exactly if all were fed; else NDF_FULL, exactly if 2^64 - 1 events were taken; else NDF_NO_MEMORY. */
+uint32_t ndf_look_feed(ndf_handle *h, uint64_t moment);
+
+/* Tells what is known at the path since the last look ended. If nothing is, all fields are false or 0.
+ * NDF_NOT_TEXT, exactly if the path isn't UTF-8; else NDF_NO_MEMORY. */
+uint32_t ndf_known(ndf_handle *h, const char *path, size_t len, ndf_stands *stands);
 
 /* Keeps an error of a watcher until it is asked for. The text is read if the kind is NDF_ERROR_GENERIC.
  * NDF_NO_KIND, exactly if the kind is above 3; else NDF_NOT_TEXT, exactly if a text that is meant isn't UTF-8;

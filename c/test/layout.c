@@ -58,6 +58,15 @@ int main(void) {
     FIELD("Number", ndf_file_number, known);
     FIELD("Number", ndf_file_number, device);
     FIELD("Number", ndf_file_number, inode);
+    SIZE("Stands", ndf_stands);
+    FIELD("Stands", ndf_stands, known);
+    FIELD("Stands", ndf_stands, has_time);
+    FIELD("Stands", ndf_stands, has_number);
+    FIELD("Stands", ndf_stands, kind);
+    FIELD("Stands", ndf_stands, device);
+    FIELD("Stands", ndf_stands, length);
+    FIELD("Stands", ndf_stands, modified);
+    FIELD("Stands", ndf_stands, inode);
     SIZE("Counts", ndf_totals);
     FIELD("Counts", ndf_totals, taken);
     FIELD("Counts", ndf_totals, given);

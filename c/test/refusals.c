@@ -85,6 +85,26 @@ static void story(bool is_journaled) {
     CALL(ndf_watch(&h, "/v", 2, false));
     CALL(ndf_mode(&h, "/w/x", 4, &recursive));
     if (!recursive) fail("a mode that isn't right");
+    ndf_stands folder = {.kind = NDF_STANDS_FOLDER}, file = {.kind = NDF_STANDS_FILE, .has_number = true, .inode = 5};
+    ndf_stands known;
+    CALL(ndf_found(&h, "/", 1, &folder));
+    CALL(ndf_look_known(&h));
+    CALL(ndf_found(&h, "/l", 2, &folder));
+    CALL(ndf_found(&h, "/l/a", 4, &file));
+    CALL(ndf_look_end(&h, &many));
+    if (many != 2) fail("not as many events of a look as there are");
+    while (many-- > 0) CALL(ndf_look_feed(&h, 0));
+    CALL(ndf_found(&h, "/l", 2, &file));
+    CALL(ndf_gone(&h, "/l/a", 4));
+    CALL(ndf_look_begin(&h));
+    CALL(ndf_gone(&h, "/l/a", 4));
+    CALL(ndf_found(&h, "/l/b", 4, &file));
+    CALL(ndf_look_end(&h, &many));
+    if (many != 2) fail("not as many events of a move as there are");
+    while (many-- > 0) CALL(ndf_look_feed(&h, 0));
+    if (ndf_look_feed(&h, 0) != NDF_AT_END) fail("an event of a look too many");
+    CALL(ndf_known(&h, "/l/b", 4, &known));
+    if (!known.known || known.inode != 5) fail("not what is known");
     ndf_file_number number;
     CALL(ndf_number(&h, "/w/m", 4, 1, 7));
     CALL(ndf_number(&h, "/w/m/1", 6, 1, 8));
@@ -120,8 +140,8 @@ static void story(bool is_journaled) {
     CALL(ndf_errors(&h, &many));
     if (many != 2) fail("not the errors that were fed");
     CALL(ndf_unwatch(&h, "/w", 2));
-    /* 3 paths, 13 events, 2 errors, 2 ticks, 1 call for the errors */
-    if (is_journaled) read_journal(21, 13 + given, 4);
+    /* 3 paths, 13 events and 4 of looks, 2 errors, 2 ticks, 1 call for the errors */
+    if (is_journaled) read_journal(25, 17 + given, 4);
     else read_journal(0, 0, 0);
     CALL(ndf_journal(&h, false));
     read_journal(0, 0, 0);

@@ -40,7 +40,8 @@ STEPS = "event error watch unwatch errors tick".split()
 # In a record that nothing was told into yet.
 _NO_KIND = 2**32 - 1
 
-CODES = "done empty no_memory full not_text no_kind unread at_end too_short too_many_paths bad_counts".split()
+CODES = """done empty no_memory full not_text no_kind unread at_end too_short too_many_paths bad_counts no_folder unfed
+begun""".split()
 
 
 class Handle(ctypes.Structure):
@@ -124,6 +125,19 @@ class Number(ctypes.Structure):
     _fields_ = [("known", ctypes.c_bool), ("device", ctypes.c_uint64), ("inode", ctypes.c_uint64)]
 
 
+class Stands(ctypes.Structure):
+    _fields_ = [
+        ("known", ctypes.c_bool),
+        ("has_time", ctypes.c_bool),
+        ("has_number", ctypes.c_bool),
+        ("kind", ctypes.c_uint32),
+        ("device", ctypes.c_uint32),
+        ("length", ctypes.c_uint64),
+        ("modified", ctypes.c_uint64),
+        ("inode", ctypes.c_uint64),
+    ]
+
+
 class Counts(ctypes.Structure):
     _fields_ = [(name, ctypes.c_uint64) for name in "taken given waiting visited latest timeout".split()]
     _fields_ += [(name, ctypes.c_size_t) for name in "errors numbers entries".split()]
@@ -147,6 +161,14 @@ def _load() -> ctypes.CDLL:
         "ndf_event": [ctypes.POINTER(Change), *text, *text],
         "ndf_event_with": [ctypes.POINTER(Change), ctypes.POINTER(Attributes), *text * 4],
         "ndf_error": [ctypes.c_uint32, flag, *text, *text],
+        "ndf_look_begin": [],
+        "ndf_found": [*text, ctypes.POINTER(Stands)],
+        "ndf_gone": text,
+        "ndf_changed": text,
+        "ndf_look_end": [count],
+        "ndf_look_known": [],
+        "ndf_look_feed": [moment],
+        "ndf_known": [*text, ctypes.POINTER(Stands)],
         "ndf_tick": [moment, count],
         "ndf_outlook": [count],
         "ndf_next": [ctypes.POINTER(Told), *text],

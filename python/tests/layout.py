@@ -3,7 +3,8 @@ import ctypes
 
 import ndf
 
-for record in (ndf.Handle, ndf.Change, ndf.Attributes, ndf.Told, ndf.ToldError, ndf.ToldEntry, ndf.Number, ndf.Counts):
+for record in (ndf.Handle, ndf.Change, ndf.Attributes, ndf.Told, ndf.ToldError, ndf.ToldEntry, ndf.Number, ndf.Stands,
+               ndf.Counts):
     print(record.__name__, ctypes.sizeof(record))
     for name, kind in record._fields_:
         print(f"{record.__name__}.{name}", getattr(record, name).offset, ctypes.sizeof(kind))

@@ -2,3 +2,4 @@ pub mod CallLemmas
 pub mod JournalLemmas
 pub mod OutcomeLemmas
 pub mod TextLemmas
+pub mod LookLemmas

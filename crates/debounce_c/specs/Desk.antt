@@ -4,6 +4,7 @@ pub mod Answers
 pub mod Calls
 pub mod Codes
 pub mod Faults
+pub mod Looks
 pub mod Said
 pub mod Tells
 use Rattle.std.specs.Prelude.{◌≡◌, ℕ, Bool, List, [], length, slice_get, unwrap_or, Option, None, Some, if◌then◌else◌}
@@ -14,10 +15,12 @@ use Rattle.debounce_model.specs.State.{Core, counted_state, with_state, without_
 use Rattle.debounce_model.specs.Tick.{IsBatch, IsOnlyBatch, IsOutlook, IsOnlyOutlook, after_tick}
 use Rattle.debounce_book.specs.Book.{entry_of, with_entry}
 use Rattle.debounce_book.specs.Journal.{EntryValue}
+use Rattle.listing_looks.specs.Looks.{LookerValue, new_looker}
 use Rattle.debounce_c.specs.Numbered.Numbers.{Numbers}
 
 -- a debouncer, with the file numbers that C said; the last batch, of which so many events were read; the errors that
--- were last asked for, of which so many were read; and the journal, if one is kept
+-- were last asked for, of which so many were read; the journal, if one is kept; and what is known and said to stand at
+-- paths
 pub record DeskValue : Type 0 where
   pub core : Core Numbers
   pub batch : List Timed
@@ -25,6 +28,7 @@ pub record DeskValue : Type 0 where
   pub errors : List ErrorValue
   pub errors_read : ℕ
   pub journal : Option (List EntryValue)
+  pub looker : LookerValue
 
 -- a journal that has just begun, or none
 abbrev pub begun : Bool → Option (List EntryValue)
@@ -53,6 +57,7 @@ pub record IsOpened (timeout taken given : ℕ) (t : DeskValue) : Type 0 where
   pub errors : t.errors ≡ []
   pub errors_read : t.errors_read ≡ 0
   pub journal : t.journal ≡ None
+  pub looker : t.looker ≡ new_looker
 
 -- a tick: the batch that the core's tick emits is to be read
 pub record IsTicked (s : DeskValue) (now many : ℕ) (t : DeskValue) : Type 0 where

@@ -1,7 +1,7 @@
 -- What each export promises, by the code that it answers, and of the handle before and after.
 -- Assumes nothing: these are definitions.
 use Rattle.std.specs.Prelude.{◌≡◌, ◌⊎◌, ◌+◌, ⊤, ℕ, Bool, true, false, List, length, Option, None, Some, slice_get}
-use Rattle.notify_types.specs.Event.{Timed}
+use Rattle.notify_types.specs.Event.{EventValue, Timed}
 use Rattle.notify_paths.specs.Errors.{ErrorValue}
 use Rattle.notify_paths.specs.PathText.{parts_of}
 use Rattle.debounce_model.specs.Calls.{recursive_mode}
@@ -10,8 +10,9 @@ use Rattle.debounce_model.specs.Step.{IsTaken}
 use Rattle.debounce_book.specs.Journal.{EntryValue}
 use Rattle.debounce_c.specs.Numbered.Numbers.{number_at, said_numbers}
 use Rattle.debounce_c.specs.Desk.Answers.{Answers}
-use Rattle.debounce_c.specs.Desk.Calls.{Forgets, Keeps, Makes, Notes, Says, Unwatches, Watches}
+use Rattle.debounce_c.specs.Desk.Calls.{Forgets, Keeps, Looks, Makes, Notes, Says, Unwatches, Watches}
 use Rattle.debounce_c.specs.Desk.Codes.{fault_code}
+use Rattle.debounce_c.specs.Desk.Looks.{Begins, Ends, EndsKnown, Finds, IsFedNext, LateAnswers, LeavesLook, Loses, TellsStands, at_path, end_fault, feed_fault, found_fault, found_of, known_fault, place_fault}
 use Rattle.debounce_c.specs.Desk.{DeskValue, IsAsked, IsForeseen, IsOpened, IsTicked, entry_at, stepped}
 use Rattle.debounce_c.specs.Desk.Faults.{batch_fault, entry_fault, error_fault, errors_fault, errors_need, event_fault, event_needs, next_error_fault, next_fault, no_fault, text_fault, tick_needs}
 use Rattle.debounce_c.specs.Desk.Said.{error_of, event_of, id_of, mode_of}
@@ -22,6 +23,7 @@ use Rattle.debounce_c.specs.declared.desk.records.Attributes.{Attributes}
 use Rattle.debounce_c.specs.declared.desk.records.Change.{Change}
 use Rattle.debounce_c.specs.declared.desk.records.Counts.{Counts}
 use Rattle.debounce_c.specs.declared.desk.records.Number.{Number}
+use Rattle.debounce_c.specs.declared.desk.records.Stands.{Stands}
 use Rattle.debounce_c.specs.declared.desk.records.Told.{Told}
 use Rattle.debounce_c.specs.declared.desk.records.ToldEntry.{ToldEntry}
 use Rattle.debounce_c.specs.declared.desk.records.ToldError.{ToldError}
@@ -71,6 +73,38 @@ IsFed code c a first second info source =
     IsTaken said_numbers s.core (event_of c a first second info source) c.moment c.exists t.core
     × (t ≡ stepped s t.core (EventCommand (event_of c a first second info source) c.moment c.exists)
     (TakenReply t.core.answer))) (λ f. ⊤)
+
+-- a look has begun
+abbrev pub IsLookBegun : ℕ → Option DeskValue → Option DeskValue → Type 0
+IsLookBegun code = Answers code no_fault (λ s. false) (Makes (Looks Begins)) (λ f. ⊤)
+
+-- this was found at the path
+abbrev pub IsFound : ℕ → List ℕ → Stands → Option DeskValue → Option DeskValue → Type 0
+IsFound code path stands = LateAnswers code (found_fault stands path) (place_fault path)
+    (Makes (Looks (Finds (parts_of path) (found_of stands))))
+
+-- nothing stands at the path, nor below it
+abbrev pub IsLost : ℕ → List ℕ → Option DeskValue → Option DeskValue → Type 0
+IsLost code path = Answers code (λ s. text_fault path) (λ s. true) (Makes (Looks (Loses (parts_of path)))) (λ f. ⊤)
+
+-- the look ended, and so many events are to be fed
+abbrev pub IsLookEnded : ℕ → ℕ → ℕ → Option DeskValue → Option DeskValue → Type 0
+IsLookEnded code before after = Answers code end_fault (λ s. true)
+    (λ s t. LeavesLook Ends s t × (after ≡ length t.looker.told)) (λ f. after ≡ before)
+
+-- the first look ended, and what was said is known
+abbrev pub IsLookKnown : ℕ → Option DeskValue → Option DeskValue → Type 0
+IsLookKnown code = Answers code known_fault (λ s. true)
+    (λ s t. LeavesLook (EndsKnown t.looker.known) s t) (λ f. ⊤)
+
+-- the next event of the look was taken
+abbrev pub IsNextFed : ℕ → ℕ → Option DeskValue → Option DeskValue → Type 0
+IsNextFed code now = Answers code feed_fault (λ s. true) (λ s t. (event : EventValue) × IsFedNext s event now t) (λ f. ⊤)
+
+-- what is known at the path was told
+abbrev pub IsKnownTold : ℕ → List ℕ → Stands → Stands → Option DeskValue → Option DeskValue → Type 0
+IsKnownTold code path before after = Answers code (λ s. text_fault path) (λ s. true) (λ s t.
+    TellsStands (at_path s.looker.known (parts_of path)) after × (t ≡ s)) (λ f. after ≡ before)
 
 -- the error was kept
 abbrev pub IsNoted : ℕ → ℕ → Bool → List ℕ → List ℕ → Option DeskValue → Option DeskValue → Type 0

@@ -1,6 +1,6 @@
 -- What a C program has done with a handle: each call that it made since `ndf_new`, right or wrong, with the code that
 -- was answered; and what holds of all of it. Assumes nothing: these are definitions.
-use Rattle.std.specs.Prelude.{◌≡◌, ℕ, ◌==◌, Bool, false, true, not, List, [], ◌∷◌, ◌++◌, Option, Some, if◌then◌else◌}
+use Rattle.std.specs.Prelude.{◌≡◌, ⊤, ℕ, ◌==◌, Bool, false, true, not, List, [], ◌∷◌, ◌++◌, Option, None, Some, if◌then◌else◌}
 use Rattle.std.specs.List.{list_all}
 use Rattle.notify_paths.specs.PathText.{parts_of}
 use Rattle.debounce_model.specs.Command.{CommandValue, ReplyValue}
@@ -10,19 +10,24 @@ use Rattle.debounce_model.specs.Kept.{has_rename, is_kept}
 use Rattle.debounce_model.specs.PathsLaw.{LeavesRawPaths}
 use Rattle.debounce_model.specs.Soon.{is_soon}
 use Rattle.debounce_model.specs.State.{State}
-use Rattle.debounce_c.specs.Desk.Calls.{CallValue, Asks, Feeds, Forgets, IsWrittenDown, Keeps, MakesAll, Notes, Reads, Says, Ticks, Unwatches, Watches, changes_journal, commands_of}
+use Rattle.notify_types.specs.Event.{EventValue}
+use Rattle.poll_listing.specs.Listing.{ListingValue}
+use Rattle.debounce_c.specs.Desk.Calls.{CallValue, Asks, Feeds, FeedsNext, Forgets, IsWrittenDown, Keeps, Looks, MakesAll, Notes, Reads, Says, TellsKnown, Ticks, Unwatches, Watches, changes_journal, commands_of, feeds_by_hand}
+use Rattle.debounce_c.specs.Desk.Looks.{Begins, Ends, EndsKnown, Finds, Loses, found_of, next_told}
 use Rattle.debounce_c.specs.Desk.{DeskValue, IsOpened}
 use Rattle.debounce_c.specs.Desk.Said.{error_of, event_of, id_of, mode_of}
 use Rattle.debounce_c.specs.declared.desk.records.Attributes.{Attributes}
 use Rattle.debounce_c.specs.declared.desk.records.Change.{Change}
 use Rattle.debounce_c.specs.declared.desk.records.Counts.{Counts}
 use Rattle.debounce_c.specs.declared.desk.records.Number.{Number}
+use Rattle.debounce_c.specs.declared.desk.records.Stands.{Stands}
 use Rattle.debounce_c.specs.declared.desk.records.Told.{Told}
 use Rattle.debounce_c.specs.declared.desk.records.ToldEntry.{ToldEntry}
 use Rattle.debounce_c.specs.declared.desk.records.ToldError.{ToldError}
-use Rattle.debounce_c.specs.Exports.{AreCountsTold, IsEntryErrorTold, IsEntryEventTold, IsEntryTold, IsErrorTold, IsErrorsAnswered, IsFed, IsForgotten, IsJournalKept, IsModeTold, IsNoted, IsNumbered, IsNumberTold, IsOutlookAnswered, IsTickAnswered, IsTold, IsUnwatched, IsWatched}
+use Rattle.debounce_c.specs.Exports.{AreCountsTold, IsEntryErrorTold, IsEntryEventTold, IsEntryTold, IsErrorTold, IsErrorsAnswered, IsFed, IsForgotten, IsFound, IsJournalKept, IsKnownTold, IsLookBegun, IsLookEnded, IsLookKnown, IsLost, IsModeTold, IsNextFed, IsNoted, IsNumbered, IsNumberTold, IsOutlookAnswered, IsTickAnswered, IsTold, IsUnwatched, IsWatched}
 
--- a call of an export but ndf_new.. and ndf_free, with what it was given
+-- a call of an export but ndf_new.. and ndf_free, with what it was given; of ndf_look_known also what is known then,
+-- and of ndf_look_feed the event that was the next, if it answered 0
 pub data ExportValue : Type 0 where
   CallsWatch : (path : List ℕ) → (recursive : Bool) → ExportValue
   CallsUnwatch : (path : List ℕ) → ExportValue
@@ -42,6 +47,23 @@ pub data ExportValue : Type 0 where
   CallsEntryEvent : (place within : ℕ) → ExportValue
   CallsEntryError : (place within : ℕ) → ExportValue
   CallsCounts : ExportValue
+  CallsLookBegin : ExportValue
+  CallsFound : (path : List ℕ) → (stands : Stands) → ExportValue
+  CallsGone : (path : List ℕ) → ExportValue
+  CallsLookEnd : ExportValue
+  CallsLookKnown : (known : ListingValue) → ExportValue
+  CallsLookFeed : (event : EventValue) → (now : ℕ) → ExportValue
+  CallsKnown : (path : List ℕ) → ExportValue
+
+-- what is known, if a debouncer is held
+abbrev pub Knows : ListingValue → Option DeskValue → Type 0
+Knows known None = ⊤
+Knows known (Some t) = t.looker.known ≡ known
+
+-- the next event of the look, if a debouncer is held that has one
+abbrev pub next_held : Option DeskValue → Option EventValue
+next_held None = None
+next_held (Some s) = next_told s
 
 -- the export promises this of the call, with this code, and of what was held before and after
 abbrev pub IsAnswered : ExportValue → ℕ → Option DeskValue → Option DeskValue → Type 0
@@ -66,6 +88,14 @@ IsAnswered (CallsEntryEvent place within) code old new =
 IsAnswered (CallsEntryError place within) code old new =
     (b c : ToldError) × (m n : List ℕ) × IsEntryErrorTold code place within b c m n old new
 IsAnswered CallsCounts code old new = (b c : Counts) × AreCountsTold code b c old new
+IsAnswered CallsLookBegin code old new = IsLookBegun code old new
+IsAnswered (CallsFound path stands) code old new = IsFound code path stands old new
+IsAnswered (CallsGone path) code old new = IsLost code path old new
+IsAnswered CallsLookEnd code old new = (b c : ℕ) × IsLookEnded code b c old new
+IsAnswered (CallsLookKnown known) code old new = (code ≡ 0 → Knows known new) × IsLookKnown code old new
+IsAnswered (CallsLookFeed event now) code old new =
+    (code ≡ 0 → next_held old ≡ Some event) × IsNextFed code now old new
+IsAnswered (CallsKnown path) code old new = (b c : Stands) × IsKnownTold code path b c old new
 
 -- what a call is that answers 0
 abbrev pub call_of : ExportValue → CallValue
@@ -87,6 +117,13 @@ call_of (CallsEntry place) = Reads
 call_of (CallsEntryEvent place within) = Reads
 call_of (CallsEntryError place within) = Reads
 call_of CallsCounts = Reads
+call_of CallsLookBegin = Looks Begins
+call_of (CallsFound path stands) = Looks (Finds (parts_of path) (found_of stands))
+call_of (CallsGone path) = Looks (Loses (parts_of path))
+call_of CallsLookEnd = Looks Ends
+call_of (CallsLookKnown known) = Looks (EndsKnown known)
+call_of (CallsLookFeed event now) = FeedsNext event now
+call_of (CallsKnown path) = Reads
 
 -- calls in the order in which they were made, each with its code
 abbrev pub History : Type 0
@@ -112,13 +149,15 @@ pub record KeepsLaws (s t : State) (calls : List CallValue) (replies : List Repl
   pub soon : has_rename (commands_of calls) replies ≡ false →
       is_soon s.timeout s.latest (commands_of calls) replies ≡ true
 
--- what a history has left: a debouncer, to which the calls that answered 0 have led, and they keep the laws
+-- what a history has left: a debouncer, to which the calls that answered 0 have led, and they keep the laws; if they
+-- fed events by looks alone, a reader has just the known paths
 pub record HasLed (s : DeskValue) (history : History) (new : Option DeskValue) : Type 0 where
   pub t : DeskValue
   pub replies : List ReplyValue
   pub held : new ≡ Some t
   pub made : MakesAll (done history) replies s t
   pub laws : KeepsLaws s.core.state t.core.state (done history) replies
+  pub known : list_all (λ call. not (feeds_by_hand call)) (done history) ≡ true → TellsKnown (done history) replies t
 
 -- of each history of a debouncer that ndf_new made, whatever was called, right or wrong
 abbrev pub HistoriesKeepLaws : Type 0

@@ -1,5 +1,5 @@
 //! The calls of the C library, on what a handle holds: a debouncer, the batch and the errors that are being
-//! read, and a journal if one is kept. Each call finds first whether it can be done, and then does it; its contract
+//! read, a journal if one is kept, and what is known and said to stand at paths. Each call finds first whether it can be done, and then does it; its contract
 //! says exactly when it answers which fault. [`crate::handle`] puts a [`Desk`] behind a handle, and [`crate::exports`]
 //! has the calls that C sees.
 ghost use Rattle.std.specs.Prelude.{◌≡◌, ◌<◌, ◌≤◌, ◌+◌, ◌-◌, ◌^◌, ◌==◌, length, nat_lt, slice_get, IfOk, IfErr, OnOk, true};
@@ -15,6 +15,7 @@ pub mod calls;
 pub mod entries;
 pub mod fault;
 pub mod laws;
+pub mod looks;
 pub mod numbers;
 pub mod reading;
 pub mod records;
@@ -28,13 +29,14 @@ use crate::desk::telling::word;
 use crate::numbered::NumberedCore;
 use debounce_book::Entry;
 use debounce_model::FileId;
+use listing_looks::Looker;
 use notify_paths::{Error, PathBuf};
 use notify_types::{DebouncedEvent, Moment, RecursiveMode};
 use std::alloc::Global;
 use std::marker::Model;
 
 /// A debouncer, with the file numbers that C said; its last batch, and the errors that were last asked for, of each of
-/// which so many were read; and a journal, if one is kept.
+/// which so many were read; a journal, if one is kept; and what is known and said to stand at paths.
 #[derive(Drop)]
 pub struct Desk {
     pub(crate) core: NumberedCore,
@@ -43,6 +45,7 @@ pub struct Desk {
     errors: Vec<Error>,
     errors_read: usize,
     pub(crate) journal: Option<Vec<Entry>>,
+    pub(crate) looker: Looker,
 }
 
 impl Model for Desk {
@@ -58,6 +61,7 @@ impl Model for Desk {
       errors = a.errors.items;
       errors_read = a.errors_read;
       journal = option_map (λ v. v.items) a.journal;
+      looker = a.looker;
     } };
 }
 
@@ -74,6 +78,7 @@ impl Desk {
             errors: Vec::new(alloc),
             errors_read: 0,
             journal: None,
+            looker: Looker::new(alloc),
         }
     }
 

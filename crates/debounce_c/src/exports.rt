@@ -1,12 +1,12 @@
 //! The functions that C calls.
 ghost use Rattle.std.specs.Prelude.{◌≡◌, [], None, Some};
-ghost use Rattle.debounce_c.specs.Exports.{AreCountsTold, IsEntryErrorTold, IsEntryEventTold, IsEntryTold, IsErrorTold, IsErrorsAnswered, IsFed, IsForgotten, IsJournalKept, IsMade, IsModeTold, IsNoted, IsNumberTold, IsNumbered, IsOutlookAnswered, IsTickAnswered, IsTold, IsUnwatched, IsWatched};
+ghost use Rattle.debounce_c.specs.Exports.{AreCountsTold, IsEntryErrorTold, IsEntryEventTold, IsEntryTold, IsErrorTold, IsErrorsAnswered, IsFed, IsForgotten, IsFound, IsJournalKept, IsKnownTold, IsLookBegun, IsLookEnded, IsLookKnown, IsLost, IsMade, IsModeTold, IsNextFed, IsNoted, IsNumberTold, IsNumbered, IsOutlookAnswered, IsTickAnswered, IsTold, IsUnwatched, IsWatched};
 ghost use Rattle.debounce_c.specs.Desk.Faults.{counts_fault};
 ghost use Rattle.debounce_c.specs.Desk.Said.{no_attributes};
 
 use crate::desk::fault::{Fault, code_of};
-use crate::desk::records::{Attributes, Change, Counts, Number, Told, ToldEntry, ToldError};
-use crate::desk::{Desk, calls};
+use crate::desk::records::{Attributes, Change, Counts, Number, Stands, Told, ToldEntry, ToldError};
+use crate::desk::{Desk, calls, looks};
 use crate::handle::Handle;
 use std::alloc::Global;
 
@@ -205,6 +205,103 @@ fn feed(
         &mut desk, alloc, change, attributes, first, second, info, source,
     );
     let code = code_of(outcome);
+    h.put(desk);
+    code
+}
+
+/// A look begins: what was said since the last one ended is forgotten.
+#[unsafe(no_mangle)]
+pub extern "C" fn ndf_look_begin(h: &mut Handle, alloc: Global) -> u32
+    ensures { IsLookBegun result h.old.sealed.desk h.new.sealed.desk }
+{
+    let Some(mut desk) = h.take(alloc) else {
+        return Fault::Empty.code();
+    };
+    desk.begin_look();
+    h.put(desk);
+    0
+}
+
+/// This was found at the path. Below something of another kind than what stood there nothing stands.
+#[unsafe(no_mangle)]
+pub extern "C" fn ndf_found(h: &mut Handle, alloc: Global, path: &[u8], stands: &Stands) -> u32
+    ensures { IsFound result path.now stands.now h.old.sealed.desk h.new.sealed.desk }
+{
+    let Some(mut desk) = h.take(alloc) else {
+        return Fault::Empty.code();
+    };
+    let code = code_of(looks::find(&mut desk, alloc, path, stands));
+    h.put(desk);
+    code
+}
+
+/// Nothing stands at the path, nor below it, but what is found there later in the look.
+#[unsafe(no_mangle)]
+pub extern "C" fn ndf_gone(h: &mut Handle, alloc: Global, path: &[u8]) -> u32
+    ensures { IsLost result path.now h.old.sealed.desk h.new.sealed.desk }
+{
+    let Some(mut desk) = h.take(alloc) else {
+        return Fault::Empty.code();
+    };
+    let code = code_of(looks::lose(&mut desk, alloc, path));
+    h.put(desk);
+    code
+}
+
+/// The look ends: what was said is known, and so many events, which tell what changed, are to be fed.
+#[unsafe(no_mangle)]
+pub extern "C" fn ndf_look_end(h: &mut Handle, alloc: Global, count: &mut usize) -> u32
+    ensures { IsLookEnded result count.old count.new h.old.sealed.desk h.new.sealed.desk }
+{
+    let Some(mut desk) = h.take(alloc) else {
+        return Fault::Empty.code();
+    };
+    let code = code_of(looks::end(&mut desk, count));
+    h.put(desk);
+    code
+}
+
+/// The first look ends: what was said is known, and nothing is told of it.
+#[unsafe(no_mangle)]
+pub extern "C" fn ndf_look_known(h: &mut Handle, alloc: Global) -> u32
+    ensures { IsLookKnown result h.old.sealed.desk h.new.sealed.desk }
+{
+    let Some(mut desk) = h.take(alloc) else {
+        return Fault::Empty.code();
+    };
+    let code = code_of(looks::end_known(&mut desk));
+    h.put(desk);
+    code
+}
+
+/// Takes the next event of the look that ended last.
+#[unsafe(no_mangle)]
+pub extern "C" fn ndf_look_feed(h: &mut Handle, alloc: Global, moment: u64) -> u32
+    ensures { IsNextFed result moment h.old.sealed.desk h.new.sealed.desk }
+{
+    let Some(mut desk) = h.take(alloc) else {
+        return Fault::Empty.code();
+    };
+    let code = code_of(looks::feed_next(&mut desk, moment));
+    h.put(desk);
+    code
+}
+
+/// Tells what is known at the path.
+#[unsafe(no_mangle)]
+pub extern "C" fn ndf_known(
+    h: &mut Handle,
+    alloc: Global,
+    path: &[u8],
+    stands: &mut Stands,
+) -> u32
+    ensures { IsKnownTold result path.now stands.old stands.new h.old.sealed.desk
+        h.new.sealed.desk }
+{
+    let Some(mut desk) = h.take(alloc) else {
+        return Fault::Empty.code();
+    };
+    let code = code_of(looks::tell_known(&mut desk, alloc, path, stands));
     h.put(desk);
     code
 }

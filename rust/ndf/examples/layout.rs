@@ -1,5 +1,5 @@
 //! The sizes of the records, and where their fields lie, as c/test/layout.c prints them.
-use ndf::raw::{Attributes, Change, Counts, Handle, Number, Told, ToldEntry, ToldError};
+use ndf::raw::{Attributes, Change, Counts, Handle, Number, Stands, Told, ToldEntry, ToldError};
 use std::mem::{offset_of, size_of, size_of_val};
 
 macro_rules! layout {
@@ -24,5 +24,6 @@ fn main() {
     layout!(ToldError, ToldError::default(), kind paths text first);
     layout!(ToldEntry, ToldEntry::default(), step exists known recursive device inode moment events errors path);
     layout!(Number, Number::default(), known device inode);
+    layout!(Stands, Stands::default(), known has_time has_number kind device length modified inode);
     layout!(Counts, Counts::default(), taken given waiting visited latest timeout errors numbers entries);
 }

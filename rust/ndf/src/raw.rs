@@ -95,6 +95,19 @@ pub struct Number {
 }
 
 #[repr(C)]
+#[derive(Clone, Copy, Default, Debug, PartialEq, Eq)]
+pub struct Stands {
+    pub known: bool,
+    pub has_time: bool,
+    pub has_number: bool,
+    pub kind: u32,
+    pub device: u32,
+    pub length: u64,
+    pub modified: u64,
+    pub inode: u64,
+}
+
+#[repr(C)]
 #[derive(Clone, Copy, Default, Debug)]
 /// What a core has counted.
 pub struct Counts {
@@ -186,5 +199,12 @@ extern "C" {
         buf: *mut u8,
         room: usize,
     ) -> u32;
+    pub fn ndf_look_begin(h: *mut Handle) -> u32;
+    pub fn ndf_found(h: *mut Handle, path: *const u8, len: usize, stands: *const Stands) -> u32;
+    pub fn ndf_gone(h: *mut Handle, path: *const u8, len: usize) -> u32;
+    pub fn ndf_look_end(h: *mut Handle, count: *mut usize) -> u32;
+    pub fn ndf_look_known(h: *mut Handle) -> u32;
+    pub fn ndf_look_feed(h: *mut Handle, moment: u64) -> u32;
+    pub fn ndf_known(h: *mut Handle, path: *const u8, len: usize, stands: *mut Stands) -> u32;
     pub fn ndf_counts(h: *mut Handle, counts: *mut Counts) -> u32;
 }

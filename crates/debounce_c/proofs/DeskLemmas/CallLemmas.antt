@@ -9,7 +9,7 @@ use Rattle.debounce_model.specs.State.{Core, State, empty_state}
 use Rattle.debounce_model.specs.WellFormed.{IsWellFormed}
 use Rattle.debounce_laws.proofs.StateRuns.{StateRun}
 use Rattle.debounce_c.specs.Numbered.Numbers.{Numbers, said_numbers, with_numbers}
-use Rattle.debounce_c.specs.Desk.Calls.{CallValue, Feeds, Notes, Watches, Unwatches, Asks, Ticks, Says, Forgets, Keeps, Reads, IsRenumbered, MakesAll, RunsBetween, changes_numbers, commands_of}
+use Rattle.debounce_c.specs.Desk.Calls.{CallValue, Feeds, Notes, Watches, Unwatches, Asks, Ticks, Says, FeedsNext, Forgets, Keeps, Looks, Reads, IsRenumbered, MakesAll, RunsBetween, changes_numbers, commands_of}
 use Rattle.debounce_c.specs.Desk.{DeskValue}
 
 -- none of the calls changes the numbers
@@ -38,6 +38,12 @@ runs (Keeps on ∷ calls) replies s t same (m, rest, split, made, more) =
     rw split
     (subst (λ (k : Core Numbers). Run said_numbers k (commands_of calls) rest t.core)
     (ap (λ (d : DeskValue). d.core) made) (runs calls rest m t same more))
+runs (Looks call ∷ calls) replies s t same (m, rest, split, made, more) =
+    rw split
+    (subst (λ (k : Core Numbers). Run said_numbers k (commands_of calls) rest t.core)
+    (ap (λ (d : DeskValue). d.core) made.1) (runs calls rest m t same more))
+runs (FeedsNext event now ∷ calls) replies s t same (m, rest, split, made, more) =
+    rw split (m.core, (made.taken, refl), runs calls rest m t same more)
 runs (Reads ∷ calls) replies s t same (m, rest, split, made, more) =
     rw split
     (subst (λ (k : Core Numbers). Run said_numbers k (commands_of calls) rest t.core) made.0
@@ -85,6 +91,12 @@ runs_between (Keeps on ∷ calls) replies s t (m, rest, split, made, more) =
     rw split
     (subst (λ (k : Core Numbers). RunsBetween k (commands_of calls) rest t.core)
     (ap (λ (d : DeskValue). d.core) made) (runs_between calls rest m t more))
+runs_between (Looks call ∷ calls) replies s t (m, rest, split, made, more) =
+    rw split
+    (subst (λ (k : Core Numbers). RunsBetween k (commands_of calls) rest t.core)
+    (ap (λ (d : DeskValue). d.core) made.1) (runs_between calls rest m t more))
+runs_between (FeedsNext event now ∷ calls) replies s t (m, rest, split, made, more) =
+    rw split (s.core, m.core, refl, (made.taken, refl), runs_between calls rest m t more)
 runs_between (Reads ∷ calls) replies s t (m, rest, split, made, more) =
     rw split
     (subst (λ (k : Core Numbers). RunsBetween k (commands_of calls) rest t.core) made.0
@@ -118,6 +130,12 @@ state_runs (Keeps on ∷ calls) replies s t (m, rest, split, made, more) =
     rw split
     (subst (λ (k : State). StateRun k (commands_of calls) rest t.core.state) (ap (λ d. d.core.state) made)
     (state_runs calls rest m t more))
+state_runs (Looks call ∷ calls) replies s t (m, rest, split, made, more) =
+    rw split
+    (subst (λ (k : State). StateRun k (commands_of calls) rest t.core.state) (ap (λ d. d.core.state) made.1)
+    (state_runs calls rest m t more))
+state_runs (FeedsNext event now ∷ calls) replies s t (m, rest, split, made, more) =
+    rw split (m.core.state, made.taken.state, state_runs calls rest m t more)
 state_runs (Reads ∷ calls) replies s t (m, rest, split, made, more) =
     rw split
     (subst (λ (k : State). StateRun k (commands_of calls) rest t.core.state) (ap (λ (k : Core Numbers). k.state) made.0)

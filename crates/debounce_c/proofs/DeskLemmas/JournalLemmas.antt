@@ -5,7 +5,7 @@ use Rattle.debounce_model.specs.Command.{ReplyValue}
 use Rattle.debounce_model.specs.State.{State}
 use Rattle.debounce_book.specs.Book.{with_entry}
 use Rattle.debounce_book.specs.Journal.{EntryValue, Replays}
-use Rattle.debounce_c.specs.Desk.Calls.{CallValue, Feeds, Notes, Watches, Unwatches, Asks, Ticks, Says, Forgets, Keeps, Reads, MakesAll, changes_journal, commands_of, entries_of, with_entries}
+use Rattle.debounce_c.specs.Desk.Calls.{CallValue, Feeds, Notes, Watches, Unwatches, Asks, Ticks, Says, FeedsNext, Forgets, Keeps, Looks, Reads, MakesAll, changes_journal, commands_of, entries_of, with_entries}
 use Rattle.debounce_c.specs.Desk.{DeskValue}
 
 -- none of the calls begins a journal or ends it
@@ -73,8 +73,13 @@ journal_got (Says path id ∷ calls) replies s t same (m, rest, split, made, mor
 journal_got (Forgets path ∷ calls) replies s t same (m, rest, split, made, more) =
     rw split (none_more _ m.journal _ _ (ap (λ (d : DeskValue). d.journal) made) (journal_got calls rest m t same more))
 journal_got (Keeps on ∷ calls) replies s t same made = cc
+journal_got (Looks call ∷ calls) replies s t same (m, rest, split, made, more) =
+    rw split (none_more _ m.journal _ _ (ap (λ (d : DeskValue). d.journal) made.1) (journal_got calls rest m t same more))
+journal_got (FeedsNext event now ∷ calls) replies s t same (m, rest, split, made, more) =
+    rw split (one_more _ m.journal _ _ _ (ap (λ (d : DeskValue). d.journal) made.rest) (journal_got calls rest m t same
+    more))
 journal_got (Reads ∷ calls) replies s t same (m, rest, split, made, more) =
-    rw split (none_more _ m.journal _ _ made.1 (journal_got calls rest m t same more))
+    rw split (none_more _ m.journal _ _ made.1.0 (journal_got calls rest m t same more))
 
 -- .. and these lead from state to state
 pub entries_lead : (calls : List CallValue) (replies : List ReplyValue) (s t : DeskValue) → MakesAll calls replies s t →
@@ -112,6 +117,12 @@ entries_lead (Keeps on ∷ calls) replies s t (m, rest, split, made, more) =
     rw split
     (subst (λ (k : State). Replays k (entries_of (commands_of calls) rest) t.core.state)
     (ap (λ (d : DeskValue). d.core.state) made) (entries_lead calls rest m t more))
+entries_lead (Looks call ∷ calls) replies s t (m, rest, split, made, more) =
+    rw split
+    (subst (λ (k : State). Replays k (entries_of (commands_of calls) rest) t.core.state)
+    (ap (λ (d : DeskValue). d.core.state) made.1) (entries_lead calls rest m t more))
+entries_lead (FeedsNext event now ∷ calls) replies s t (m, rest, split, made, more) =
+    rw split (m.core.state, (made.taken.room, made.taken.state), entries_lead calls rest m t more)
 entries_lead (Reads ∷ calls) replies s t (m, rest, split, made, more) =
     rw split
     (subst (λ (k : State). Replays k (entries_of (commands_of calls) rest) t.core.state)

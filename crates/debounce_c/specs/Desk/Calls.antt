@@ -1,17 +1,21 @@
 -- What C's calls make of a debouncer, and what calls that were made in turn are to its core: a run, of which the laws
 -- hold. Assumes nothing: these are definitions.
-use Rattle.std.specs.Prelude.{◌≡◌, ℕ, Bool, true, false, not, List, [], ◌∷◌, ◌++◌, Option}
+use Rattle.std.specs.Prelude.{◌≡◌, ℕ, Bool, true, false, not, List, [], ◌∷◌, ◌++◌, drop, Option}
 use Rattle.std.specs.List.{list_all}
+use Rattle.std.specs.Map.{keys_of}
 use Rattle.std.specs.Option.{option_map}
 use Rattle.notify_paths.specs.Errors.{ErrorValue}
 use Rattle.notify_paths.specs.Path.{PathValue}
-use Rattle.notify_types.specs.Event.{EventValue}
+use Rattle.notify_types.specs.Event.{EventValue, Timed}
 use Rattle.notify_types.specs.declared.event.RecursiveMode.{RecursiveMode}
 use Rattle.debounce_model.specs.Command.{CommandValue, EventCommand, ErrorCommand, RootCommand, UnrootCommand, ErrorsCommand, TickCommand, ReplyValue, TakenReply, NotedReply, RootedReply, UnrootedReply, ErrorsReply, BatchReply}
 use Rattle.debounce_model.specs.Flood.{FloodsNowhere}
 use Rattle.debounce_model.specs.Founded.{IsNoneInvented}
 use Rattle.debounce_model.specs.Kept.{has_rename, is_kept}
-use Rattle.debounce_model.specs.PathsLaw.{LeavesRawPaths}
+use Rattle.debounce_model.specs.PathsLaw.{LeavesRawPaths, read_paths}
+use Rattle.debounce_model.specs.Play.{Paths, play}
+use Rattle.debounce_model.specs.Tick.{IsOutlook}
+use Rattle.listing_looks.specs.Looks.{LookerValue}
 use Rattle.debounce_model.specs.Run.{Run, Step}
 use Rattle.debounce_model.specs.Soon.{is_soon}
 use Rattle.debounce_model.specs.State.{Core, with_error, with_state}
@@ -20,11 +24,12 @@ use Rattle.debounce_model.specs.declared.file_id.FileId.{FileId}
 use Rattle.debounce_book.specs.Book.{entry_of}
 use Rattle.debounce_book.specs.Journal.{EntryValue, Replays}
 use Rattle.debounce_c.specs.Numbered.Numbers.{Numbers, said_numbers, with_number, with_numbers, without_numbers}
+use Rattle.debounce_c.specs.Desk.Looks.{EndsKnown, Ends, IsFedNext, LeavesLook, LookCall, exists_told}
 use Rattle.debounce_c.specs.Desk.{DeskValue, IsAsked, IsOpened, IsTicked, begun, stepped}
 
 -- a call that did what it says: it fed an event, kept an error, watched or unwatched a path, asked for the errors,
--- made a tick; it said a file number, or took out those at a path; it began a journal, or ended it; or it read what
--- there was, as all others do
+-- made a tick; it said a file number, or took out those at a path; it began a journal, or ended it; it was one of a
+-- look, or fed the look's next event; or it read what there was, as all others do
 pub data CallValue : Type 0 where
   Feeds : (event : EventValue) → (now : ℕ) → (exists : Bool) → CallValue
   Notes : (error : ErrorValue) → CallValue
@@ -35,6 +40,8 @@ pub data CallValue : Type 0 where
   Says : (path : PathValue) → (id : FileId) → CallValue
   Forgets : (path : PathValue) → CallValue
   Keeps : (on : Bool) → CallValue
+  Looks : (call : LookCall) → CallValue
+  FeedsNext : (event : EventValue) → (now : ℕ) → CallValue
   Reads : CallValue
 
 -- what a call makes of a debouncer
@@ -55,7 +62,9 @@ Makes (Says path id) s t =
 Makes (Forgets path) s t =
     t ≡ record s { core = with_numbers s.core (without_numbers s.core.cache path) }
 Makes (Keeps on) s t = t ≡ record s { journal = begun on }
-Makes Reads s t = (t.core ≡ s.core) × (t.journal ≡ s.journal)
+Makes (Looks call) s t = LeavesLook call s t
+Makes (FeedsNext event now) s t = IsFedNext s event now t
+Makes Reads s t = (t.core ≡ s.core) × (t.journal ≡ s.journal) × (t.looker ≡ s.looker)
 
 -- the core's command that a call is, if it is one
 abbrev pub command_of : CallValue → List CommandValue
@@ -68,6 +77,8 @@ command_of (Ticks now) = TickCommand now ∷ []
 command_of (Says path id) = []
 command_of (Forgets path) = []
 command_of (Keeps on) = []
+command_of (Looks call) = []
+command_of (FeedsNext event now) = EventCommand event now (exists_told event) ∷ []
 command_of Reads = []
 
 -- the core's reply to it, by what the call left: of a tick the batch that C reads then, of a call for the errors those
@@ -81,6 +92,8 @@ reply_to (Ticks now) t = BatchReply t.batch ∷ []
 reply_to (Says path id) t = []
 reply_to (Forgets path) t = []
 reply_to (Keeps on) t = []
+reply_to (Looks call) t = []
+reply_to (FeedsNext event now) t = TakenReply t.core.answer ∷ []
 reply_to Reads t = []
 
 -- the core's commands that calls are
@@ -156,6 +169,33 @@ CallsFloodNowhere = OfCalls (λ commands replies s t. FloodsNowhere commands rep
 abbrev pub CallsEmitSoon : Type 0
 CallsEmitSoon = OfCalls (λ commands replies s t.
     has_rename commands replies ≡ false → is_soon s.core.state.timeout s.core.state.latest commands replies ≡ true)
+
+-- a call that feeds an event by hand
+abbrev pub feeds_by_hand : CallValue → Bool
+feeds_by_hand (Feeds event now exists) = true
+feeds_by_hand call = false
+
+-- the paths that a reader begins with: those that were known from the start, if the first look ended so, and else none
+abbrev pub first_paths : List CallValue → Paths
+first_paths [] = []
+first_paths (Looks (EndsKnown known) ∷ calls) = keys_of known
+first_paths (Looks Ends ∷ calls) = []
+first_paths (call ∷ calls) = first_paths calls
+
+-- the events of the last look that weren't fed yet
+abbrev pub unfed : LookerValue → List EventValue
+unfed l = drop l.handed l.told
+
+-- a reader who plays what C read, then the outlook, and then what wasn't fed yet, has just the known paths
+abbrev pub TellsKnown : List CallValue → List ReplyValue → DeskValue → Type 0
+TellsKnown calls replies t = (outlook : List Timed) → IsOutlook t.core.state outlook →
+    play (read_paths (first_paths calls) replies outlook) (unfed t.looker) ≡ keys_of t.looker.known
+
+-- .. if all events were fed by looks
+abbrev pub CallsTellKnown : Type 0
+CallsTellKnown = (timeout : ℕ) (calls : List CallValue) (replies : List ReplyValue) (s t : DeskValue) →
+    IsOpened timeout 0 0 s → list_all (λ call. not (feeds_by_hand call)) calls ≡ true → MakesAll calls replies s t →
+    TellsKnown calls replies t
 
 -- the entries of these commands, with these replies
 abbrev pub entries_of : List CommandValue → List ReplyValue → List EntryValue

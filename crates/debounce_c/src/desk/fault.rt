@@ -25,6 +25,12 @@ pub enum Fault {
     TooManyPaths,
     /// More events were emitted than were taken.
     BadCounts,
+    /// The folder in which a path would stand isn't there, or the path has no part.
+    NoFolder,
+    /// An event of the last look wasn't fed.
+    Unfed,
+    /// A look has ended before.
+    Begun,
 }
 
 impl Fault {
@@ -42,6 +48,9 @@ impl Fault {
             Fault::TooShort => 8,
             Fault::TooManyPaths => 9,
             Fault::BadCounts => 10,
+            Fault::NoFolder => 11,
+            Fault::Unfed => 12,
+            Fault::Begun => 13,
         }
     }
 }

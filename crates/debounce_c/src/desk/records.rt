@@ -97,6 +97,24 @@ pub struct Number {
     pub inode: u64,
 }
 
+/// What stands at a path, as C says it and is told it.
+#[repr(C)]
+#[derive(Clone, Copy)]
+pub struct Stands {
+    /// As it is told: whether something is known to stand there.
+    pub known: bool,
+    /// Whether its modified time is known, and its number.
+    pub has_time: bool,
+    pub has_number: bool,
+    /// 0 of a file, 1 of a folder, 2 of anything else.
+    pub kind: u32,
+    pub device: u32,
+    pub length: u64,
+    /// In nanoseconds since 1970.
+    pub modified: u64,
+    pub inode: u64,
+}
+
 /// What a debouncer has counted.
 #[repr(C)]
 #[derive(Clone, Copy)]

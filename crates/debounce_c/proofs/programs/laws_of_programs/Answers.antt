@@ -19,6 +19,7 @@ returns-clause-laws c = λ timeout history s new opened answered.
         flood = laws.flood timeout calls h.replies s h.t opened h.made;
         soon = laws.soon timeout calls h.replies s h.t opened h.made;
       };
+      known = λ by. laws.known timeout calls h.replies s h.t opened by h.made;
     }
 
 pub returns-clause-written : goal.returns-clause-written

@@ -8,6 +8,7 @@ use Rattle.debounce_laws.proofs.SoonLemmas.{state_emits_soon}
 use Rattle.debounce_c.specs.Desk.Calls.{commands_of}
 use Rattle.debounce_c.proofs.DeskLemmas.CallLemmas.{runs, runs_between, state_runs, well_formed-opened}
 use Rattle.debounce_c.proofs.DeskLemmas.JournalLemmas.{entries_lead, journal_got}
+use Rattle.debounce_c.proofs.DeskLemmas.LookLemmas.{reader_knows}
 use Rattle.debounce_c.proofs.desk.laws.laws_of_calls.Goals as goal
 
 pub returns-clause-run : goal.returns-clause-run
@@ -49,3 +50,10 @@ pub returns-clause-soon : goal.returns-clause-soon
 returns-clause-soon c = λ timeout calls replies s t opened made calm.
     state_emits_soon s.core.state t.core.state (commands_of calls) replies
     (ap (λ (k : State). waiting k) opened.state) calm (state_runs calls replies s t made)
+
+pub returns-clause-known : goal.returns-clause-known
+returns-clause-known c = λ timeout calls replies s t opened by made.
+    reader_knows calls replies s t timeout opened
+    (state_gives_raw_paths s.core.state t.core.state (commands_of calls) replies
+    (ap (λ (k : State). k.queues) opened.state) (ap (λ (k : State). k.rescan_slot) opened.state)
+    (state_runs calls replies s t made)) by made

@@ -1,0 +1,5 @@
+pub mod WithinLemmas
+pub mod SaidLemmas
+pub mod SaidUpdateLemmas
+pub mod LookerLemmas
+pub mod WrittenLemmas

@@ -1,0 +1,38 @@
+-- What was said in a look, as updates of what was known. The clauses of functions inside this crate cite this.
+use Rattle.std.specs.Prelude.{List, [], ◌∷◌, filter, Option, None, Some}
+use Rattle.std.specs.BTreeMap.{insert_entry}
+use Rattle.notify_paths.specs.Path.{PathValue, is_prefix, path_cmp}
+use Rattle.poll_listing.specs.declared.entry.Found.{Found}
+use Rattle.poll_listing.specs.declared.updates.Update.{Update}
+use Rattle.poll_listing.specs.declared.updates.Update.TheVariants.{Gone, Changed, Added}
+use Rattle.poll_listing.specs.Listing.{ListingValue, entry_at}
+use Rattle.poll_listing.specs.Updates.{UpdatesValue}
+
+-- the entries at and below the path
+abbrev pub within : ListingValue → PathValue → ListingValue
+within entries path = filter (λ entry. is_prefix path entry.0) entries
+
+-- the updates, and these entries go
+abbrev pub all_gone : UpdatesValue → ListingValue → UpdatesValue
+all_gone updates [] = updates
+all_gone updates (entry ∷ entries) = all_gone (insert_entry path_cmp updates entry.0 Gone) entries
+
+-- .. what lies at and below these paths goes
+abbrev pub each_gone : UpdatesValue → ListingValue → List PathValue → UpdatesValue
+each_gone updates known [] = updates
+each_gone updates known (top ∷ tops) = each_gone (all_gone updates (within known top)) known tops
+
+-- what becomes of a path where this was known, and this was found
+abbrev pub update_to : Option Found → Found → Update
+update_to None found = Added found
+update_to (Some before) found = Changed found
+
+-- .. and this was found
+abbrev pub all_found : UpdatesValue → ListingValue → ListingValue → UpdatesValue
+all_found updates known [] = updates
+all_found updates known (entry ∷ entries) =
+    all_found (insert_entry path_cmp updates entry.0 (update_to (entry_at known entry.0) entry.1)) known entries
+
+-- the updates that lead from what was known to what was said
+abbrev pub said_updates : ListingValue → List PathValue → ListingValue → UpdatesValue
+said_updates known lost found = all_found (each_gone [] known lost) known found
