@@ -307,6 +307,11 @@ uint32_t ndf_found(ndf_handle *h, const char *path, size_t len, const ndf_stands
  * NDF_NOT_TEXT, exactly if the path isn't UTF-8; else NDF_NO_MEMORY. */
 uint32_t ndf_gone(ndf_handle *h, const char *path, size_t len);
 
+/* The file at the path was written, as a notice may say: what is found there next is told as a change, though it may
+ * have the same length and time. Until then its length is known as 2^64 - 1. If no file is known to stand there, nothing
+ * changes. NDF_NOT_TEXT, exactly if the path isn't UTF-8; else NDF_NO_MEMORY. */
+uint32_t ndf_changed(ndf_handle *h, const char *path, size_t len);
+
 /* The look ends: what was said is known, and where nothing was said, what was known. `count` events are to be fed by
  * ndf_look_feed: the removals, the creations and what was written, each in the order of their paths. What is one file
  * at two paths has moved, and its events have one tracker.

@@ -24,7 +24,7 @@ struct place {
 
 static struct node nodes[NODES];
 static struct place known[NODES], said[NODES];
-static bool reader[NODES], begun;
+static bool reader[NODES], touched[NODES], begun; /* touched: something was said of it in this look */
 static size_t unfed;
 static uint64_t state, calls, refused, events, looks, now;
 static ndf_handle h = NDF_NONE;
@@ -96,9 +96,10 @@ static void find(void) {
     if (!answered("ndf_found", ndf_found(&h, nodes[i].path, nodes[i].len, &s), wanted, wanted == NDF_NO_FOLDER)) return;
     if (said[i].there && said[i].stands.kind != s.kind)
         for (int j = 0; j < NODES; j++)
-            if (is_at_or_below(j, i)) said[j].there = false;
+            if (is_at_or_below(j, i)) said[j].there = false, touched[j] = true;
     s.known = true;
     said[i] = (struct place){true, s};
+    touched[i] = true;
 }
 
 static void lose(void) {
@@ -106,7 +107,15 @@ static void lose(void) {
     if (i == 0 && below(8)) return;
     if (!answered("ndf_gone", ndf_gone(&h, nodes[i].path, nodes[i].len), NDF_DONE, false)) return;
     for (int j = 0; j < NODES; j++)
-        if (is_at_or_below(j, i)) said[j].there = false;
+        if (is_at_or_below(j, i)) said[j].there = false, touched[j] = true;
+}
+
+static void change(void) {
+    int i = (int)below(NODES);
+    if (!answered("ndf_changed", ndf_changed(&h, nodes[i].path, nodes[i].len), NDF_DONE, false)) return;
+    if (!known[i].there || known[i].stands.kind != NDF_STANDS_FILE) return;
+    known[i].stands.length = UINT64_MAX;
+    if (!touched[i]) said[i].stands.length = UINT64_MAX;
 }
 
 static void end(void) {
@@ -117,6 +126,7 @@ static void end(void) {
         return;
     }
     memcpy(known, said, sizeof known);
+    memset(touched, 0, sizeof touched);
     begun = true;
     unfed = count;
     events += count;
@@ -126,6 +136,7 @@ static void end(void) {
 static void end_known(void) {
     if (!answered("ndf_look_known", ndf_look_known(&h), begun ? NDF_BEGUN : NDF_DONE, false)) return;
     memcpy(known, said, sizeof known);
+    memset(touched, 0, sizeof touched);
     for (int i = 0; i < NODES; i++) reader[i] = known[i].there;
     begun = true;
 }
@@ -188,7 +199,10 @@ static void look_out(void) {
 }
 
 static void begin(void) {
-    if (answered("ndf_look_begin", ndf_look_begin(&h), NDF_DONE, false)) memcpy(said, known, sizeof said);
+    if (answered("ndf_look_begin", ndf_look_begin(&h), NDF_DONE, false)) {
+        memcpy(said, known, sizeof said);
+        memset(touched, 0, sizeof touched);
+    }
 }
 
 static void anew(void) {
@@ -196,6 +210,7 @@ static void anew(void) {
     if (ndf_new(&h, 50) != NDF_DONE) wrong("ndf_new");
     memset(known, 0, sizeof known);
     memset(said, 0, sizeof said);
+    memset(touched, 0, sizeof touched);
     memset(reader, 0, sizeof reader);
     begun = false;
     unfed = 0;
@@ -211,7 +226,8 @@ int main(int argc, char **argv) {
     while (calls < many) {
         left = below(6) == 0 ? (long)below(8) : -1;
         uint64_t which = below(100);
-        if (which < 45) find();
+        if (which < 2) change();
+        else if (which < 45) find();
         else if (which < 55) lose();
         else if (which < 62) end();
         else if (which < 63) end_known();

@@ -94,6 +94,11 @@ static void story(bool is_journaled) {
     CALL(ndf_look_end(&h, &many));
     if (many != 2) fail("not as many events of a look as there are");
     while (many-- > 0) CALL(ndf_look_feed(&h, 0));
+    CALL(ndf_changed(&h, "/l/a", 4));
+    CALL(ndf_found(&h, "/l/a", 4, &file));
+    CALL(ndf_look_end(&h, &many));
+    if (many != 1) fail("not the event of a file that was written");
+    CALL(ndf_look_feed(&h, 0));
     CALL(ndf_found(&h, "/l", 2, &file));
     CALL(ndf_gone(&h, "/l/a", 4));
     CALL(ndf_look_begin(&h));
@@ -140,8 +145,8 @@ static void story(bool is_journaled) {
     CALL(ndf_errors(&h, &many));
     if (many != 2) fail("not the errors that were fed");
     CALL(ndf_unwatch(&h, "/w", 2));
-    /* 3 paths, 13 events and 4 of looks, 2 errors, 2 ticks, 1 call for the errors */
-    if (is_journaled) read_journal(25, 17 + given, 4);
+    /* 3 paths, 13 events and 5 of looks, 2 errors, 2 ticks, 1 call for the errors */
+    if (is_journaled) read_journal(26, 18 + given, 4);
     else read_journal(0, 0, 0);
     CALL(ndf_journal(&h, false));
     read_journal(0, 0, 0);

@@ -1,6 +1,6 @@
 //! The functions that C calls.
 ghost use Rattle.std.specs.Prelude.{◌≡◌, [], None, Some};
-ghost use Rattle.debounce_c.specs.Exports.{AreCountsTold, IsEntryErrorTold, IsEntryEventTold, IsEntryTold, IsErrorTold, IsErrorsAnswered, IsFed, IsForgotten, IsFound, IsJournalKept, IsKnownTold, IsLookBegun, IsLookEnded, IsLookKnown, IsLost, IsMade, IsModeTold, IsNextFed, IsNoted, IsNumberTold, IsNumbered, IsOutlookAnswered, IsTickAnswered, IsTold, IsUnwatched, IsWatched};
+ghost use Rattle.debounce_c.specs.Exports.{AreCountsTold, IsChanged, IsEntryErrorTold, IsEntryEventTold, IsEntryTold, IsErrorTold, IsErrorsAnswered, IsFed, IsForgotten, IsFound, IsJournalKept, IsKnownTold, IsLookBegun, IsLookEnded, IsLookKnown, IsLost, IsMade, IsModeTold, IsNextFed, IsNoted, IsNumberTold, IsNumbered, IsOutlookAnswered, IsTickAnswered, IsTold, IsUnwatched, IsWatched};
 ghost use Rattle.debounce_c.specs.Desk.Faults.{counts_fault};
 ghost use Rattle.debounce_c.specs.Desk.Said.{no_attributes};
 
@@ -244,6 +244,19 @@ pub extern "C" fn ndf_gone(h: &mut Handle, alloc: Global, path: &[u8]) -> u32
         return Fault::Empty.code();
     };
     let code = code_of(looks::lose(&mut desk, alloc, path));
+    h.put(desk);
+    code
+}
+
+/// The file at the path was written: it is told as changed, though its length and time may be as before.
+#[unsafe(no_mangle)]
+pub extern "C" fn ndf_changed(h: &mut Handle, alloc: Global, path: &[u8]) -> u32
+    ensures { IsChanged result path.now h.old.sealed.desk h.new.sealed.desk }
+{
+    let Some(mut desk) = h.take(alloc) else {
+        return Fault::Empty.code();
+    };
+    let code = code_of(looks::touch(&mut desk, alloc, path));
     h.put(desk);
     code
 }

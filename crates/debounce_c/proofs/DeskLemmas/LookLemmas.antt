@@ -15,7 +15,7 @@ use Rattle.poll_listing.specs.Listing.{IsListing}
 use Rattle.poll_listing.proofs.HonestLemmas.{and_both}
 use Rattle.listing_looks.specs.Looks.{LookerValue}
 use Rattle.debounce_c.specs.Desk.Calls.{CallValue, Asks, Feeds, FeedsNext, Forgets, Keeps, Looks, MakesAll, Notes, Reads, Says, TellsKnown, Ticks, Unwatches, Watches, commands_of, feeds_by_hand, first_paths, unfed}
-use Rattle.debounce_c.specs.Desk.Looks.{Begins, Ends, EndsKnown, Finds, IsEnded, LookCall, Loses, MakesLook}
+use Rattle.debounce_c.specs.Desk.Looks.{Begins, Ends, EndsKnown, Finds, IsEnded, LookCall, Loses, MakesLook, Writes}
 use Rattle.debounce_c.specs.Desk.{DeskValue, IsOpened}
 
 -- from these paths on the events are honest, and they lead to those
@@ -73,7 +73,7 @@ record IsOn (paths : Paths) (l : LookerValue) : Type 0 where
 
 -- .. and so it is with one that says something else
 still_on : (paths : Paths) (l m : LookerValue) → m.begun ≡ l.begun → m.told ≡ l.told → m.handed ≡ l.handed →
-    m.known ≡ l.known → IsOn paths l → IsOn paths m
+    keys_of m.known ≡ keys_of l.known → IsOn paths l → IsOn paths m
 still_on paths l m begun told handed known on = record {
   begun = begun ∙ on.begun;
   leads = rw (told, handed, known) on.leads;
@@ -95,14 +95,18 @@ look_on : (call : LookCall) (paths : Paths) (l m : LookerValue) → MakesLook ca
 look_on (Finds path found) paths l m made on =
     let is = made.1.rest in
     still_on paths l m (ap (λ (k : LookerValue). k.begun) is) (ap (λ (k : LookerValue). k.told) is)
-    (ap (λ (k : LookerValue). k.handed) is) (ap (λ (k : LookerValue). k.known) is) on
+    (ap (λ (k : LookerValue). k.handed) is) (ap (λ (k : LookerValue). keys_of k.known) is) on
 look_on (Loses path) paths l m made on =
     let is = made.rest in
     still_on paths l m (ap (λ (k : LookerValue). k.begun) is) (ap (λ (k : LookerValue). k.told) is)
-    (ap (λ (k : LookerValue). k.handed) is) (ap (λ (k : LookerValue). k.known) is) on
+    (ap (λ (k : LookerValue). k.handed) is) (ap (λ (k : LookerValue). keys_of k.known) is) on
+look_on (Writes path) paths l m made on =
+    let is = made.is in
+    still_on paths l m (ap (λ (k : LookerValue). k.begun) is) (ap (λ (k : LookerValue). k.told) is)
+    (ap (λ (k : LookerValue). k.handed) is) made.paths on
 look_on Begins paths l m is on =
     still_on paths l m (ap (λ (k : LookerValue). k.begun) is) (ap (λ (k : LookerValue). k.told) is)
-    (ap (λ (k : LookerValue). k.handed) is) (ap (λ (k : LookerValue). k.known) is) on
+    (ap (λ (k : LookerValue). k.handed) is) (ap (λ (k : LookerValue). keys_of k.known) is) on
 look_on Ends paths l m made on =
     let none : unfed l ≡ [] = drop-none l.told l.handed made.waits in
     let now : paths ≡ keys_of l.known = rw none at on.leads.played in
@@ -158,10 +162,11 @@ later (Reads ∷ calls) replies s t paths by on (m, rest, split, made, more) =
 record IsFresh (l : LookerValue) : Type 0 where
   begun : l.begun ≡ false
   told : l.told ≡ []
-  known : l.known ≡ []
+  known : keys_of l.known ≡ []
 
 -- .. nor with one that says something else
-still_fresh : (l m : LookerValue) → m.begun ≡ l.begun → m.told ≡ l.told → m.known ≡ l.known → IsFresh l → IsFresh m
+still_fresh : (l m : LookerValue) → m.begun ≡ l.begun → m.told ≡ l.told → keys_of m.known ≡ keys_of l.known →
+    IsFresh l → IsFresh m
 still_fresh l m begun told known fresh = record {
   begun = begun ∙ fresh.begun;
   told = told ∙ fresh.told;
@@ -223,19 +228,24 @@ first (Looks (Finds path found) ∷ calls) replies s t by fresh (m, rest, split,
     let is = made.0.1.rest in
     rw split (first calls rest m t by
     (still_fresh s.looker m.looker (ap (λ (k : LookerValue). k.begun) is) (ap (λ (k : LookerValue). k.told) is)
-    (ap (λ (k : LookerValue). k.known) is) fresh) more)
+    (ap (λ (k : LookerValue). keys_of k.known) is) fresh) more)
 first (Looks (Loses path) ∷ calls) replies s t by fresh (m, rest, split, made, more) =
     let is = made.0.rest in
     rw split (first calls rest m t by
     (still_fresh s.looker m.looker (ap (λ (k : LookerValue). k.begun) is) (ap (λ (k : LookerValue). k.told) is)
-    (ap (λ (k : LookerValue). k.known) is) fresh) more)
+    (ap (λ (k : LookerValue). keys_of k.known) is) fresh) more)
+first (Looks (Writes path) ∷ calls) replies s t by fresh (m, rest, split, made, more) =
+    let is = made.0.is in
+    rw split (first calls rest m t by
+    (still_fresh s.looker m.looker (ap (λ (k : LookerValue). k.begun) is) (ap (λ (k : LookerValue). k.told) is)
+    made.0.paths fresh) more)
 first (Looks Begins ∷ calls) replies s t by fresh (m, rest, split, made, more) =
     let is = made.0 in
     rw split (first calls rest m t by
     (still_fresh s.looker m.looker (ap (λ (k : LookerValue). k.begun) is) (ap (λ (k : LookerValue). k.told) is)
-    (ap (λ (k : LookerValue). k.known) is) fresh) more)
+    (ap (λ (k : LookerValue). keys_of k.known) is) fresh) more)
 first (Looks Ends ∷ calls) replies s t by fresh (m, rest, split, made, more) =
-    let now : [] ≡ keys_of s.looker.known = rw fresh.known refl in
+    let now : [] ≡ keys_of s.looker.known = sym fresh.known in
     rw split (record {
       sorted = nothing_sorted;
       closed = refl;

@@ -18,7 +18,7 @@ use Rattle.poll_listing.specs.Changes.{LeadsTo}
 use Rattle.poll_listing.specs.Listing.{IsListing, ListingValue, entry_at}
 use Rattle.poll_listing.specs.Moves.{is_known}
 use Rattle.poll_listing.specs.Near.{outside}
-use Rattle.listing_looks.specs.Looks.{LookerValue, Says, ended, ended_untold, found_in, has_place, news, said, unsaid}
+use Rattle.listing_looks.specs.Looks.{LookerValue, Says, ended, ended_untold, found_in, has_place, news, said, unsaid, written_in}
 use Rattle.debounce_c.specs.Numbered.Numbers.{said_numbers}
 use Rattle.debounce_c.specs.Desk.Codes.{fault_code}
 use Rattle.debounce_c.specs.Desk.{DeskValue, stepped}
@@ -108,10 +108,11 @@ abbrev pub feed_fault : DeskValue → Option Fault
 feed_fault s =
     if is_some (next_told s) then (if s.core.state.taken == 2 ^ 64 - 1 then Some Full else None) else Some AtEnd
 
--- what a call says in a look; that what was said is forgotten; and that the look ends, and is told or known
+-- what a call says in a look; that a file was written; that what was said is forgotten; and that the look ends, and is told or known
 pub data LookCall : Type 0 where
   Finds : (path : PathValue) → (found : Found) → LookCall
   Loses : (path : PathValue) → LookCall
+  Writes : (path : PathValue) → LookCall
   Begins : LookCall
   Ends : LookCall
   EndsKnown : (known : ListingValue) → LookCall
@@ -129,10 +130,16 @@ pub record IsEndedKnown (l : LookerValue) (known : ListingValue) (m : LookerValu
   pub known : known ≡ said l
   pub law : IsListing (said l)
 
+-- the file at the path was written, and the same paths are known
+pub record IsWrittenAt (l : LookerValue) (path : PathValue) (m : LookerValue) : Type 0 where
+  pub is : m ≡ record l { known = written_in l.known path }
+  pub paths : keys_of m.known ≡ keys_of l.known
+
 -- what the call makes of what is known and said
 abbrev pub MakesLook : LookCall → LookerValue → LookerValue → Type 0
 MakesLook (Finds path found) l m = (has_place (said l) path ≡ true) × Says l (found_in (said l) path found) m
 MakesLook (Loses path) l m = Says l (outside (said l) path) m
+MakesLook (Writes path) l m = IsWrittenAt l path m
 MakesLook Begins l m = m ≡ unsaid l
 MakesLook Ends l m = IsEnded l m
 MakesLook (EndsKnown known) l m = IsEndedKnown l known m

@@ -8,7 +8,7 @@ ghost use Rattle.poll_listing.specs.Listing.{IsListing, entry_at};
 ghost use Rattle.listing_looks.specs.Looks.{ended, ended_untold, has_place, news, said, unsaid};
 ghost use Rattle.debounce_c.specs.Desk.Answers.{Outcome};
 ghost use Rattle.debounce_c.specs.Desk.Faults.{text_fault};
-ghost use Rattle.debounce_c.specs.Desk.Looks.{Ends, EndsKnown, Finds, IsFedNext, IsPlaceFault, LateOutcome, LeavesLook, Loses, TellsStands, end_fault, entry_device, entry_inode, entry_kind_of, entry_number, feed_fault, found_fault, found_of, known_fault, place_fault};
+ghost use Rattle.debounce_c.specs.Desk.Looks.{Ends, EndsKnown, Finds, IsFedNext, IsPlaceFault, LateOutcome, LeavesLook, Loses, TellsStands, Writes, end_fault, entry_device, entry_inode, entry_kind_of, entry_number, feed_fault, found_fault, found_of, known_fault, place_fault};
 ghost use Rattle.debounce_c.specs.declared.desk.fault.Fault.TheVariants.{NoMemory};
 
 use crate::desk::Desk;
@@ -155,6 +155,20 @@ pub fn lose(desk: &mut Desk, alloc: Global, bytes: &[u8]) -> Result<(), Fault>
     }
 }
 
+/// The file at the path was written.
+pub fn touch(desk: &mut Desk, alloc: Global, bytes: &[u8]) -> Result<(), Fault>
+    ensures { Outcome result (text_fault bytes.now) true
+        (λ t. LeavesLook (Writes (parts_of bytes.now)) desk.old t) (λ f. ⊤) desk.old desk.new }
+{
+    if !is_text(bytes) {
+        return Err(Fault::NotText);
+    }
+    match path_of(alloc, bytes) {
+        Ok(path) => desk.touch(&path),
+        Err(fault) => Err(fault),
+    }
+}
+
 /// The look ends, and so many events are to be fed.
 pub fn end(desk: &mut Desk, count: &mut usize) -> Result<(), Fault>
     ensures { Outcome result (end_fault desk.old) true
@@ -262,6 +276,17 @@ impl Desk {
         ensures err { IfErr result (λ f. (f ≡ NoMemory) × (self.new ≡ self.old)) }
     {
         match self.looker.lose(path) {
+            Ok(()) => Ok(()),
+            Err(_) => Err(Fault::NoMemory),
+        }
+    }
+
+    /// The file at the path was written.
+    fn touch(&mut self, path: &PathBuf) -> Result<(), Fault>
+        ensures ok { OnOk result (LeavesLook (Writes path.now) self.old self.new) }
+        ensures err { IfErr result (λ f. (f ≡ NoMemory) × (self.new ≡ self.old)) }
+    {
+        match self.looker.touch(path) {
             Ok(()) => Ok(()),
             Err(_) => Err(Fault::NoMemory),
         }
