@@ -3,3 +3,4 @@ pub mod JournalLemmas
 pub mod OutcomeLemmas
 pub mod TextLemmas
 pub mod LookLemmas
+pub mod LookSteps

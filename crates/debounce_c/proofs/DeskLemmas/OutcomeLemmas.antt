@@ -1,11 +1,10 @@
 -- What comes of a call whose step is known, and which else lacked memory.
-use Rattle.std.proofs.Common.{◌≡◌, Bool, Option, None, Some, true, false, true≢false, inl, inr, refl}
-use Rattle.std.specs.Prelude.{⊤, Result, Ok, Err, OnOk, IfErr, if◌then◌else◌}
+use Rattle.std.proofs.Common.{◌≡◌, Option, None, true, refl}
+use Rattle.std.specs.Prelude.{⊤, Result, Ok, Err, OnOk, IfErr}
 use Rattle.debounce_c.specs.Desk.Answers.{Outcome}
-use Rattle.debounce_c.specs.Desk.Looks.{IsLateFault, IsPlaceFault}
 use Rattle.debounce_c.specs.Desk.{DeskValue}
 use Rattle.debounce_c.specs.declared.desk.fault.Fault.{Fault}
-use Rattle.debounce_c.specs.declared.desk.fault.Fault.TheVariants.{NoFolder, NoMemory}
+use Rattle.debounce_c.specs.declared.desk.fault.Fault.TheVariants.{NoMemory}
 
 -- a call without a fault: two facts that make its step, or want of memory, and all is as it was
 pub stepped : (result : Result (Unit {0}) Fault) (fault : Option Fault) (Step : DeskValue → Type 0) (s t : DeskValue)
@@ -13,11 +12,3 @@ pub stepped : (result : Result (Unit {0}) Fault) (fault : Option Fault) (Step : 
     IfErr result (λ f. (f ≡ NoMemory) × (t ≡ s)) → Outcome result fault true Step (λ f. ⊤) s t
 stepped (Ok done) fault Step s t P Q none step p q err = (none, step p q)
 stepped (Err f) fault Step s t P Q none step p q err = (rw none (err.0, refl), (tt, err.1))
-
--- a path that has no place, or want of memory
-pub late_fault : (there : Bool) (f : Fault) → IsPlaceFault there f →
-    IsLateFault None (if there then None else Some NoFolder) f
-late_fault true f (inl memory) = memory
-late_fault true f (inr (folder, no)) = absurd (true≢false no)
-late_fault false f (inl memory) = inl memory
-late_fault false f (inr (folder, no)) = inr folder
