@@ -1,16 +1,17 @@
 -- A call that answered 0 has made its step, and any other has changed nothing.
 use Rattle.std.proofs.Common.{◌≡◌, ◌∙◌, ℕ, ◌==◌, Bool, true, false, List, [], ◌∷◌, ◌++◌, Option, Some, None, true≢false, refl, sym, ap, subst, inl, inr}
 use Rattle.std.specs.Prelude.{⊤}
+use Rattle.notify_types.specs.Event.{EventValue}
 use Rattle.debounce_model.specs.Command.{ReplyValue}
 use Rattle.debounce_c.specs.Desk.Answers.{Answers, AnswersFor}
-use Rattle.debounce_c.specs.Desk.Calls.{CallValue, Keeps, Looks, Makes, MakesAll, Reads, reply_to}
-use Rattle.debounce_c.specs.Desk.Looks.{Begins, LateAnswersFor}
+use Rattle.debounce_c.specs.Desk.Calls.{CallValue, FeedsNext, Keeps, Looks, Makes, MakesAll, Reads, reply_to}
+use Rattle.debounce_c.specs.Desk.Looks.{Begins, EndsKnown, IsFedNext, LateAnswersFor, LeavesLook, feed_fault, known_fault}
 use Rattle.debounce_c.specs.Desk.Codes.{fault_code}
 use Rattle.debounce_c.specs.Desk.{DeskValue}
 use Rattle.debounce_c.specs.Desk.Tells.{TellsCounts}
 use Rattle.debounce_c.specs.declared.desk.fault.Fault.{Fault}
 use Rattle.debounce_c.specs.declared.desk.fault.Fault.TheVariants.{Empty, NoMemory, Full, NotText, NoKind, Unread, AtEnd, TooShort, TooManyPaths, BadCounts, NoFolder, Unfed, Begun}
-use Rattle.debounce_c.specs.Programs.{ExportValue, CallsWatch, CallsUnwatch, CallsMode, CallsNumber, CallsForget, CallsNumberOf, CallsEvent, CallsError, CallsTick, CallsOutlook, CallsNext, CallsErrors, CallsNextError, CallsJournal, CallsEntry, CallsEntryEvent, CallsEntryError, CallsCounts, CallsLookBegin, CallsFound, CallsGone, CallsChanged, CallsLookEnd, CallsLookKnown, CallsLookFeed, CallsKnown, AreAnswered, History, IsAnswered, call_of, done}
+use Rattle.debounce_c.specs.Programs.{ExportValue, CallsWatch, CallsUnwatch, CallsMode, CallsNumber, CallsForget, CallsNumberOf, CallsEvent, CallsError, CallsTick, CallsOutlook, CallsNext, CallsErrors, CallsNextError, CallsJournal, CallsEntry, CallsEntryEvent, CallsEntryError, CallsCounts, CallsLookBegin, CallsFound, CallsGone, CallsChanged, CallsLookEnd, CallsLookKnown, CallsLookFeed, CallsKnown, AreAnswered, History, IsAnswered, Knows, call_of, done}
 
 -- what a call with this code, on a handle that holds s, has left: its step, or s
 pub record Leaves (call : CallValue) (code : ℕ) (s : DeskValue) (new : Option DeskValue) : Type 0 where
@@ -143,13 +144,17 @@ answered (CallsGone path) code s new h = answered_for _ code _ _ _ _ s new (λ t
 answered (CallsChanged path) code s new h = answered_for _ code _ _ _ _ s new (λ t step. step) h
 answered CallsLookEnd code s new (b, c, h) = answered_for _ code _ _ _ _ s new (λ t step. step.0) h
 answered (CallsLookKnown known) code s new (knows, h) =
-    answered_with _ code _ _ _ _ s new (λ t is held step.
-    let same : t.looker.known ≡ known = rw held at (knows is) in
-    rw (← same) step) h
+    answered_with (Looks (EndsKnown known)) code (known_fault s) true
+    (λ (t : DeskValue). LeavesLook (EndsKnown t.looker.known) s t) (λ f. ⊤) s new
+    (λ (t : DeskValue) is held step.
+    let same : t.looker.known ≡ known = subst (Knows known) held (knows is) in
+    subst (λ k. LeavesLook (EndsKnown k) s t) same step) h
 answered (CallsLookFeed event now) code s new (next, h) =
-    answered_with _ code _ _ _ _ s new (λ t is held (other, step).
-    let same : other ≡ event = of_some (sym step.next ∙ next is) in
-    rw (← same) step) h
+    answered_with (FeedsNext event now) code (feed_fault s) true
+    (λ (t : DeskValue). (e : EventValue) × IsFedNext s e now t) (λ f. ⊤) s new
+    (λ (t : DeskValue) is held step.
+    let same : step.0 ≡ event = of_some (sym step.1.next ∙ next is) in
+    subst (λ e. IsFedNext s e now t) same step.1) h
 answered (CallsKnown path) code s new (b, c, h) =
     answered_for _ code _ _ _ _ s new (λ t. same_core s t) h
 

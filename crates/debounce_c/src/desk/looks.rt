@@ -256,7 +256,6 @@ impl Desk {
     /// This was found at the path, if the folder in which it stands is there.
     fn find(&mut self, path: &PathBuf, found: Found) -> Result<(), Fault>
         ensures ok { OnOk result (LeavesLook (Finds path.now found) self.old self.new) }
-        ensures place { OnOk result (has_place (said self.old.looker) path.now ≡ true) }
         ensures err { IfErr result (λ f. IsPlaceFault (has_place (said self.old.looker) path.now) f
             × (self.new ≡ self.old)) }
     {
