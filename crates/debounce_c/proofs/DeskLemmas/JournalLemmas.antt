@@ -79,7 +79,7 @@ journal_got (FeedsNext event now ∷ calls) replies s t same (m, rest, split, ma
     rw split (one_more _ m.journal _ _ _ (ap (λ (d : DeskValue). d.journal) made.rest) (journal_got calls rest m t same
     more))
 journal_got (Reads ∷ calls) replies s t same (m, rest, split, made, more) =
-    rw split (none_more _ m.journal _ _ made.1.0 (journal_got calls rest m t same more))
+    rw split (none_more _ m.journal _ _ made.1 (journal_got calls rest m t same more))
 
 -- .. and these lead from state to state
 pub entries_lead : (calls : List CallValue) (replies : List ReplyValue) (s t : DeskValue) → MakesAll calls replies s t →

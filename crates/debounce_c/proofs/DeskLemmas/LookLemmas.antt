@@ -1,5 +1,7 @@
 -- Calls that feed events by looks alone: the events are honest from the first paths on, and lead to the known ones.
 use Rattle.std.proofs.Common.{◌≡◌, ◌∙◌, ℕ, zero, suc, ◌+◌, Bool, true, false, not, List, [], ◌∷◌, ◌++◌, drop, length, Option, Some, None, true≢false, refl, sym, ap, subst, arith}
+use borrow.Author.Tests.{ltb-false}
+use Rattle.std.proofs.lemmas.List.{drop_all}
 use Rattle.std.specs.Prelude.{nat_lt, slice_get}
 use Rattle.std.specs.List.{list_all}
 use Rattle.std.specs.List.Sorted.{IsStrictlySortedBy}
@@ -39,10 +41,7 @@ cons-leads paths known event events h l = record { honest = rw h l.honest; playe
 
 -- where all was handed on, nothing is left
 drop-none : (told : List EventValue) (n : ℕ) → nat_lt n (length told) ≡ false → drop n told ≡ []
-drop-none [] zero h = refl
-drop-none [] (suc n) h = refl
-drop-none (x ∷ told) zero h = absurd (true≢false h)
-drop-none (x ∷ told) (suc n) h = drop-none told n h
+drop-none told n h = drop_all n told (ltb-false n (length told) h)
 
 -- the first of what is left
 drop-next : (told : List EventValue) (n : ℕ) (event : EventValue) → slice_get told n ≡ Some event →
@@ -117,7 +116,7 @@ look_on (EndsKnown known) paths l m made on = absurd (true≢false (sym on.begun
 later : (calls : List CallValue) (replies : List ReplyValue) (s t : DeskValue) (paths : Paths) → AreByLooks calls →
     IsOn paths s.looker → MakesAll calls replies s t →
     Leads paths (accepted (commands_of calls) replies ++ unfed t.looker) (keys_of t.looker.known)
-later [] replies s t paths by on (none, is) = rw (none, is) on.leads
+later [] replies s t paths by on (none, is) = rw is on.leads
 later (Feeds event now exists ∷ calls) replies s t paths by on made = cc
 later (Notes error ∷ calls) replies s t paths by on (m, rest, split, made, more) =
     rw split (later calls rest m t paths by
@@ -156,13 +155,13 @@ later (FeedsNext event now ∷ calls) replies s t paths by on (m, rest, split, m
     rw split (cons-leads paths (keys_of t.looker.known) event (accepted (commands_of calls) rest ++ unfed t.looker) two.0
     (later calls rest m t (play_one paths event) by on_now more))
 later (Reads ∷ calls) replies s t paths by on (m, rest, split, made, more) =
-    rw split (later calls rest m t paths by (same_on paths s.looker m.looker made.1.1 on) more)
+    rw split (later calls rest m t paths by (same_on paths s.looker m.looker made.2 on) more)
 
 -- no look has ended
-record IsFresh (l : LookerValue) : Type 0 where
-  begun : l.begun ≡ false
-  told : l.told ≡ []
-  known : keys_of l.known ≡ []
+pub record IsFresh (l : LookerValue) : Type 0 where
+  pub begun : l.begun ≡ false
+  pub told : l.told ≡ []
+  pub known : keys_of l.known ≡ []
 
 -- .. nor with one that says something else
 still_fresh : (l m : LookerValue) → m.begun ≡ l.begun → m.told ≡ l.told → keys_of m.known ≡ keys_of l.known →
@@ -194,7 +193,7 @@ pub first : (calls : List CallValue) (replies : List ReplyValue) (s t : DeskValu
     IsTold (first_paths calls) (accepted (commands_of calls) replies) t.looker
 first [] replies s t by fresh (none, is) =
     let left : unfed s.looker ≡ [] = drop-empty s.looker.told s.looker.handed fresh.told in
-    rw (none, is) (record {
+    rw is (record {
       sorted = nothing_sorted;
       closed = refl;
       leads = rw (left, fresh.known) (record { honest = refl; played = refl });
@@ -269,7 +268,7 @@ first (FeedsNext event now ∷ calls) replies s t by fresh (m, rest, split, made
     let none : slice_get [] s.looker.handed ≡ Some event = rw fresh.told at made.next in
     cc
 first (Reads ∷ calls) replies s t by fresh (m, rest, split, made, more) =
-    rw split (first calls rest m t by (same_fresh s.looker m.looker made.1.1 fresh) more)
+    rw split (first calls rest m t by (same_fresh s.looker m.looker made.2 fresh) more)
 
 -- the first of some events are honest if all are
 are_honest-front : (paths : Paths) (events more : List EventValue) → are_honest paths (events ++ more) ≡ true →

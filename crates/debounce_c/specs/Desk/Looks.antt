@@ -124,10 +124,10 @@ pub record IsEnded (l m : LookerValue) : Type 0 where
   pub leads : LeadsTo (keys_of l.known) (keys_of (said l)) (news l)
 
 -- the first look ended, and what was said is known
-pub record IsEndedKnown (l : LookerValue) (known : ListingValue) (m : LookerValue) : Type 0 where
+pub record IsEndedKnown (l : LookerValue) (listing : ListingValue) (m : LookerValue) : Type 0 where
   pub first : l.begun ≡ false
   pub is : m ≡ ended_untold l
-  pub known : known ≡ said l
+  pub known : listing ≡ said l
   pub law : IsListing (said l)
 
 -- the file at the path was written, and the same paths are known

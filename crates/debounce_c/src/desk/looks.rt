@@ -1,6 +1,7 @@
 //! The calls of a look: what stands at paths, and what is to be fed of what changed.
-ghost use Rattle.std.specs.Prelude.{◌≡◌, length, ⊤, true, IfErr, IfOk, OnOk};
+ghost use Rattle.std.specs.Prelude.{◌≡◌, ◌<◌, ◌+◌, length, nat_lt, ⊤, true, IfErr, IfOk, OnOk};
 ghost use Rattle.std.specs.Map.{keys_of};
+ghost use Rattle.std.specs.Option.{option_copied};
 ghost use Rattle.notify_paths.specs.PathText.{parts_of};
 ghost use Rattle.notify_types.specs.Event.{EventValue};
 ghost use Rattle.poll_listing.specs.Changes.{LeadsTo};
@@ -8,7 +9,7 @@ ghost use Rattle.poll_listing.specs.Listing.{IsListing, entry_at};
 ghost use Rattle.listing_looks.specs.Looks.{ended, ended_untold, has_place, news, said, unsaid};
 ghost use Rattle.debounce_c.specs.Desk.Answers.{Outcome};
 ghost use Rattle.debounce_c.specs.Desk.Faults.{text_fault};
-ghost use Rattle.debounce_c.specs.Desk.Looks.{Ends, EndsKnown, Finds, IsFedNext, IsPlaceFault, LateOutcome, LeavesLook, Loses, TellsStands, Writes, end_fault, entry_device, entry_inode, entry_kind_of, entry_number, feed_fault, found_fault, found_of, known_fault, place_fault};
+ghost use Rattle.debounce_c.specs.Desk.Looks.{Ends, EndsKnown, Finds, IsFedNext, IsPlaceFault, LateOutcome, LeavesLook, Loses, TellsStands, Writes, end_fault, entry_device, entry_inode, entry_kind_of, entry_number, feed_fault, found_fault, found_of, known_fault, next_told, place_fault};
 ghost use Rattle.debounce_c.specs.declared.desk.fault.Fault.TheVariants.{NoMemory};
 
 use crate::desk::Desk;
@@ -16,6 +17,7 @@ use crate::desk::fault::Fault;
 use crate::desk::reading::{is_text, path_of};
 use crate::desk::records::Stands;
 use notify_paths::PathBuf;
+use notify_types::Event;
 use poll_listing::{EntryKind, FileNumber, Found};
 use std::alloc::Global;
 
@@ -175,7 +177,7 @@ pub fn end(desk: &mut Desk, count: &mut usize) -> Result<(), Fault>
         (λ t. LeavesLook Ends desk.old t × (count.new ≡ length t.looker.told))
         (λ f. count.new ≡ count.old) desk.old desk.new }
 {
-    if desk.looker.is_waiting() {
+    if desk.has_unfed() {
         return Err(Fault::Unfed);
     }
     match desk.end_look() {
@@ -192,7 +194,7 @@ pub fn end_known(desk: &mut Desk) -> Result<(), Fault>
     ensures { Outcome result (known_fault desk.old) true
         (λ t. LeavesLook (EndsKnown t.looker.known) desk.old t) (λ f. ⊤) desk.old desk.new }
 {
-    if desk.looker.has_begun() {
+    if desk.has_looked() {
         return Err(Fault::Begun);
     }
     desk.end_known()
@@ -203,7 +205,7 @@ pub fn feed_next(desk: &mut Desk, now: u64) -> Result<(), Fault>
     ensures { Outcome result (feed_fault desk.old) true
         (λ t. (event : EventValue) × IsFedNext desk.old event now t) (λ f. ⊤) desk.old desk.new }
 {
-    let Some(event) = desk.looker.next() else {
+    let Some(event) = desk.next_told() else {
         return Err(Fault::AtEnd);
     };
     if desk.is_full() {
@@ -215,7 +217,7 @@ pub fn feed_next(desk: &mut Desk, now: u64) -> Result<(), Fault>
     let exists = !copy.kind.is_removal();
     match desk.take(copy, now as u128, exists) {
         Ok(()) => {
-            desk.looker.advance();
+            desk.advance_told();
             Ok(())
         }
         Err(fault) => Err(fault),
@@ -238,7 +240,7 @@ pub fn tell_known(
     }
     match path_of(alloc, bytes) {
         Ok(path) => {
-            *stands = stands_of(desk.looker.known_at(&path));
+            *stands = stands_of(desk.known_at(&path));
             Ok(())
         }
         Err(fault) => Err(fault),
@@ -251,6 +253,44 @@ impl Desk {
         ensures { self.new ≡ record self.old { looker = unsaid self.old.looker } }
     {
         self.looker.begin();
+    }
+
+    /// Whether an event of the last look wasn't fed.
+    fn has_unfed(&self) -> bool
+        ensures { result ≡ nat_lt self.now.looker.handed (length self.now.looker.told) }
+    {
+        self.looker.is_waiting()
+    }
+
+    /// Whether a look has ended.
+    fn has_looked(&self) -> bool
+        ensures { result ≡ self.now.looker.begun }
+    {
+        self.looker.has_begun()
+    }
+
+    /// The next event of the last look.
+    fn next_told(&self) -> Option<&Event>
+        ensures { option_copied result ≡ next_told self.now }
+    {
+        self.looker.next()
+    }
+
+    /// The next event was fed.
+    fn advance_told(&mut self)
+        requires { self.old.looker.handed < length self.old.looker.told }
+        ensures { self.new ≡ record self.old {
+          looker = record self.old.looker { handed = self.old.looker.handed + 1 };
+        } }
+    {
+        self.looker.advance();
+    }
+
+    /// What is known at the path.
+    fn known_at(&self, path: &PathBuf) -> Option<Found>
+        ensures { result ≡ entry_at self.now.looker.known path.now }
+    {
+        self.looker.known_at(path)
     }
 
     /// This was found at the path, if the folder in which it stands is there.
