@@ -3,10 +3,9 @@ use Rattle.std.proofs.Common.{◌≡◌, ℕ, Bool, true, false, Option, Some, N
 use Rattle.std.specs.Prelude.{⊤, Result, Ok, Err, OnOk, IfErr, nat_lt, if◌then◌else◌}
 use Rattle.std.specs.Map.{keys_of}
 use Rattle.poll_listing.specs.Changes.{LeadsTo}
-use Rattle.poll_listing.specs.Listing.{IsListing}
-use Rattle.listing_looks.specs.Looks.{ended, ended_untold, news, said}
+use Rattle.listing_looks.specs.Looks.{ended, news, said}
 use Rattle.debounce_c.specs.Desk.Answers.{Outcome}
-use Rattle.debounce_c.specs.Desk.Looks.{Ends, EndsKnown, IsFedNext, IsLateFault, IsPlaceFault, LateOutcome, LeavesLook, end_fault, known_fault}
+use Rattle.debounce_c.specs.Desk.Looks.{Ends, IsLateFault, IsPlaceFault, LateOutcome, LeavesLook, end_fault}
 use Rattle.debounce_c.specs.Desk.{DeskValue}
 use Rattle.debounce_c.specs.declared.desk.fault.Fault.{Fault}
 use Rattle.debounce_c.specs.declared.desk.fault.Fault.TheVariants.{NoFolder, NoMemory}
@@ -41,10 +40,3 @@ pub ended_step : (s t : DeskValue) (many : ℕ) → nat_lt s.looker.handed (leng
 ended_step s t many waits is leads count =
     subst (λ (t : DeskValue). (end_fault s ≡ None) × (LeavesLook Ends s t × (many ≡ length t.looker.told))) (sym is)
     (rw waits refl, ((record { waits = waits; is = refl; leads = leads }, refl), count))
-
--- the first look has ended
-pub known_step : (s t : DeskValue) → s.looker.begun ≡ false → t ≡ record s { looker = ended_untold s.looker } →
-    IsListing (said s.looker) → (known_fault s ≡ None) × LeavesLook (EndsKnown t.looker.known) s t
-known_step s t first is law =
-    subst (λ (t : DeskValue). (known_fault s ≡ None) × LeavesLook (EndsKnown t.looker.known) s t) (sym is)
-    (rw first refl, (record { first = first; is = refl; known = refl; law = law }, refl))
