@@ -103,7 +103,8 @@ IsLookKnown code = Answers code known_fault (λ s. true)
 
 -- the next event of the look was taken
 abbrev pub IsNextFed : ℕ → ℕ → Option DeskValue → Option DeskValue → Type 0
-IsNextFed code now = Answers code feed_fault (λ s. true) (λ s t. (event : EventValue) × IsFedNext s event now t) (λ f. ⊤)
+IsNextFed code now = Answers code feed_fault (λ s. true)
+    (λ s t. (event : EventValue) × IsFedNext s event now t) (λ f. ⊤)
 
 -- what is known at the path was told
 abbrev pub IsKnownTold : ℕ → List ℕ → Stands → Stands → Option DeskValue → Option DeskValue → Type 0

@@ -122,7 +122,8 @@ pub found_said : (known : ListingValue) (lost : List PathValue) (found : Listing
     Ascends known → Ascends found →
     said_of known lost (insert_entry path_cmp found p f) ≡ insert_entry path_cmp (said_of known lost found) p f
 found_said known lost found p f k s =
-    same_entries path_cmp_total same_path (said_of known lost new) (insert_entry path_cmp (said_of known lost found) p f)
+    same_entries path_cmp_total same_path (said_of known lost new)
+    (insert_entry path_cmp (said_of known lost found) p f)
     (said-sorted known lost new k)
     (sorted-insert_entry path_cmp_total (said_of known lost found) p f (said-sorted known lost found k))
     (λ q. said-finds known lost new (sorted-insert_entry path_cmp_total found p f s) q
@@ -167,14 +168,16 @@ put_anew found p f s =
         cond (not (is_below q p)) (entry_at new q) None
         ≡ (if b then Some f else entry_at (found_outside found p) q)
     by q true h = let same : q ≡ p = at-same q p h in
-        rw (same, not_below_itself p) (entry_at-insert found p p f true (subst (λ z. is_at (path_cmp z) p ≡ true) same h))
+        rw (same, not_below_itself p)
+        (entry_at-insert found p p f true (subst (λ z. is_at (path_cmp z) p ≡ true) same h))
     by q false h =
         ap (λ o. cond (not (is_below q p)) o None) (entry_at-insert found p q f false h)
         ∙ (apart (is_prefix p q) (path_eq q p) (entry_at found q) (path_matches_eq q p ∙ h)
         ∙ sym (outside-finds found p q))
 
 -- once this was found, and what lay below it is gone, it stands there, and all else outside the path is said as before
-pub found_anew_said : (known : ListingValue) (lost : List PathValue) (found : ListingValue) (p : PathValue) (f : Found) →
+pub found_anew_said : (known : ListingValue) (lost : List PathValue) (found : ListingValue) (p : PathValue)
+    (f : Found) →
     Ascends known → Ascends found →
     said_of known (lost ++ p ∷ []) (not_below (insert_entry path_cmp found p f) p)
     ≡ insert_entry path_cmp (outside (said_of known lost found) p) p f

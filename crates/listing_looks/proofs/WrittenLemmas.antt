@@ -71,7 +71,8 @@ module _ (l : LookerValue) (law : IsLooker l) (p : PathValue) (v f : Found) (h :
       (entry_at-insert l.known p q f (is_at (path_cmp q) p) refl)
 
   -- where it is hidden, all is said as before
-  hidden : said_at (entry_at l.found p) (is_lost l.lost p) (Some f) ≡ said_at (entry_at l.found p) (is_lost l.lost p) (Some v) →
+  hidden : said_at (entry_at l.found p) (is_lost l.lost p) (Some f)
+      ≡ said_at (entry_at l.found p) (is_lost l.lost p) (Some v) →
       said_of (insert_entry path_cmp l.known p f) l.lost l.found ≡ said l
   hidden same =
       same_entries path_cmp_total same_path (said_of (insert_entry path_cmp l.known p f) l.lost l.found) (said l)

@@ -74,7 +74,8 @@ journal_got (Forgets path ∷ calls) replies s t same (m, rest, split, made, mor
     rw split (none_more _ m.journal _ _ (ap (λ (d : DeskValue). d.journal) made) (journal_got calls rest m t same more))
 journal_got (Keeps on ∷ calls) replies s t same made = cc
 journal_got (Looks call ∷ calls) replies s t same (m, rest, split, made, more) =
-    rw split (none_more _ m.journal _ _ (ap (λ (d : DeskValue). d.journal) made.1) (journal_got calls rest m t same more))
+    rw split
+    (none_more _ m.journal _ _ (ap (λ (d : DeskValue). d.journal) made.1) (journal_got calls rest m t same more))
 journal_got (FeedsNext event now ∷ calls) replies s t same (m, rest, split, made, more) =
     rw split (one_more _ m.journal _ _ _ (ap (λ (d : DeskValue). d.journal) made.rest) (journal_got calls rest m t same
     more))

@@ -152,7 +152,8 @@ later (FeedsNext event now ∷ calls) replies s t paths by on (m, rest, split, m
     (unfed s.looker) next on.leads in
     let on_now : IsOn (play_one paths event) m.looker = subst (IsOn (play_one paths event)) (sym is)
     (record { begun = on.begun; leads = two.1 }) in
-    rw split (cons-leads paths (keys_of t.looker.known) event (accepted (commands_of calls) rest ++ unfed t.looker) two.0
+    rw split
+    (cons-leads paths (keys_of t.looker.known) event (accepted (commands_of calls) rest ++ unfed t.looker) two.0
     (later calls rest m t (play_one paths event) by on_now more))
 later (Reads ∷ calls) replies s t paths by on (m, rest, split, made, more) =
     rw split (later calls rest m t paths by (same_on paths s.looker m.looker made.2 on) more)
@@ -288,6 +289,6 @@ reader_knows calls replies s t timeout opened raw by made = λ outlook is.
     let paths = first_paths calls in
     let events = accepted (commands_of calls) replies in
     let honest : are_honest paths events ≡ true = are_honest-front paths events (unfed t.looker) told.leads.honest in
-    ap (λ ps. play ps (unfed t.looker)) (raw paths outlook told.sorted (record { closed = told.closed; events = honest })
-    is)
+    ap (λ ps. play ps (unfed t.looker))
+    (raw paths outlook told.sorted (record { closed = told.closed; events = honest }) is)
     ∙ (sym (play-append paths events (unfed t.looker)) ∙ told.leads.played)

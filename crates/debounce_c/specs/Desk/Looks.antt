@@ -108,7 +108,8 @@ abbrev pub feed_fault : DeskValue → Option Fault
 feed_fault s =
     if is_some (next_told s) then (if s.core.state.taken == 2 ^ 64 - 1 then Some Full else None) else Some AtEnd
 
--- what a call says in a look; that a file was written; that what was said is forgotten; and that the look ends, and is told or known
+-- what a call says in a look; that a file was written; that what was said is forgotten; and that the look ends, and is
+-- told or known
 pub data LookCall : Type 0 where
   Finds : (path : PathValue) → (found : Found) → LookCall
   Loses : (path : PathValue) → LookCall
@@ -177,7 +178,8 @@ LateOutcome (Ok done) fault late Step s t = (fault ≡ None) × Step t
 LateOutcome (Err f) fault late Step s t = IsLateFault fault late f × (t ≡ s)
 
 -- the code of a call on s, if one of its faults is found after memory is asked for
-abbrev pub LateAnswersFor : ℕ → Option Fault → Option Fault → (DeskValue → Type 0) → DeskValue → Option DeskValue → Type 0
+abbrev pub LateAnswersFor : ℕ → Option Fault → Option Fault → (DeskValue → Type 0) → DeskValue → Option DeskValue
+    → Type 0
 LateAnswersFor code (Some f) late Step s new = (code ≡ fault_code f) × (new ≡ Some s)
 LateAnswersFor code None late Step s new =
     ((t : DeskValue) × (code ≡ 0) × (new ≡ Some t) × Step t)

@@ -49,7 +49,8 @@ returns-clause-ok g c =
     let place : has_place (said l) p ≡ true =
     subst (λ (v : LookerValue). has_place (said v) p ≡ true) (sym c.self.view_is) c.requires.place in
     let other : is_of_other_kind (entry_at (said l) p) f ≡ true =
-    subst (λ (v : LookerValue). is_of_other_kind (entry_at (said v) p) f ≡ true) (sym c.self.view_is) c.requires.other in
+    subst (λ (v : LookerValue). is_of_other_kind (entry_at (said v) p) f ≡ true) (sym c.self.view_is)
+    c.requires.other in
     let gone : c.push_reserved.new.self.items ≡ l.lost ++ p ∷ [] =
     c.push_reserved.ensures.items ∙ (ap (λ ps. ps ++ c.in_ok-top.top ∷ []) c.reserve.ensures.items
     ∙ ap (λ t. l.lost ++ t ∷ []) c.in_ok-top.ensures.ok) in

@@ -41,7 +41,8 @@ returns-clause-ok g c =
     let place : has_place (said l) p ≡ true =
     subst (λ (v : LookerValue). has_place (said v) p ≡ true) (sym c.self.view_is) c.requires.place in
     let other : is_of_other_kind (entry_at (said l) p) f ≡ false =
-    subst (λ (v : LookerValue). is_of_other_kind (entry_at (said v) p) f ≡ false) (sym c.self.view_is) c.requires.other in
+    subst (λ (v : LookerValue). is_of_other_kind (entry_at (said v) p) f ≡ false) (sym c.self.view_is)
+    c.requires.other in
     let here : c.insert.new.self.entries ≡ insert_entry path_cmp l.found p f =
     c.in-Ok.ensures.entries ∙ ap (λ t. insert_entry path_cmp l.found t f) c.in_ok-here.ensures.ok in
     still_says l c.args.self.now c.self.invariant c.self.view_is p f c.insert.new.self.entries place other here

@@ -42,4 +42,5 @@ returns-clause-ok g c =
     let left : c.retain.new.self.entries ≡ found_outside l.found p =
     filter_same_pairs _ (λ e. not (is_prefix p e.0)) _ (λ k v b w f' t. search rules) l.found
     c.retain.new.self.entries c.retain.ensures.filtered in
-    lost_says l c.args.self.now c.self.invariant c.self.view_is p c.push.new.self.items c.retain.new.self.entries gone left
+    lost_says l c.args.self.now c.self.invariant c.self.view_is p c.push.new.self.items c.retain.new.self.entries
+    gone left
