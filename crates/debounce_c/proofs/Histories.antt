@@ -117,9 +117,12 @@ answered (CallsEvent c a first second info source) code s new h =
 answered (CallsError kind has_path text path) code s new h = answered_for _ code _ _ _ _ s new (λ t step. step) h
 answered (CallsTick now) code s new (b, c, h) = answered_for _ code _ _ _ _ s new (λ t step. (c, step)) h
 answered CallsOutlook code s new (b, c, h) =
-    answered_for _ code _ _ _ _ s new (λ (t : DeskValue) step.
-    (ap (λ (d : DeskValue). d.core) step.rest, ap (λ (d : DeskValue). d.journal) step.rest, ap (λ (d : DeskValue).
-    d.looker) step.rest)) h
+    answered_for _ code _ _ _ _ s new (λ (t : DeskValue) step. (
+      ap (λ (d : DeskValue). d.core) step.rest,
+      ap (λ (d : DeskValue). d.journal) step.rest,
+      ap (λ (d : DeskValue).
+          d.looker) step.rest,
+    )) h
 answered CallsNext code s new (b, c, m, n, h) =
     answered_for _ code _ _ _ _ s new (λ t (x, at, told, text, is).
     (ap (λ (d : DeskValue). d.core) is, ap (λ (d : DeskValue). d.journal) is, ap (λ (d : DeskValue). d.looker) is)) h

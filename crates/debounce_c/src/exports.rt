@@ -5,7 +5,9 @@ ghost use Rattle.debounce_c.specs.Desk.Faults.{counts_fault};
 ghost use Rattle.debounce_c.specs.Desk.Said.{no_attributes};
 
 use crate::desk::fault::{Fault, code_of};
-use crate::desk::records::{Attributes, Change, Counts, Number, Stands, Told, ToldEntry, ToldError};
+use crate::desk::records::{
+    Attributes, Change, Counts, Number, Stands, Told, ToldEntry, ToldError,
+};
 use crate::desk::{Desk, calls, looks};
 use crate::handle::Handle;
 use std::alloc::Global;
@@ -302,12 +304,7 @@ pub extern "C" fn ndf_look_feed(h: &mut Handle, alloc: Global, moment: u64) -> u
 
 /// Tells what is known at the path.
 #[unsafe(no_mangle)]
-pub extern "C" fn ndf_known(
-    h: &mut Handle,
-    alloc: Global,
-    path: &[u8],
-    stands: &mut Stands,
-) -> u32
+pub extern "C" fn ndf_known(h: &mut Handle, alloc: Global, path: &[u8], stands: &mut Stands) -> u32
     ensures { IsKnownTold result path.now stands.old stands.new h.old.sealed.desk
         h.new.sealed.desk }
 {

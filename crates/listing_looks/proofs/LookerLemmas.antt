@@ -73,8 +73,7 @@ module _ (l : LookerValue) (law : IsLooker l) (p : PathValue) (lost : List PathV
   lost_looker gone left =
       let is : said (record l { lost = lost; found = found }) ≡ outside (said l) p =
       ap (λ ps. said_of l.known ps found) gone ∙ (ap (said_of l.known (l.lost ++ p ∷ [])) left
-      ∙ lost_said l.known l.lost l.found p law.known.ordered law.found) in
-      (
+      ∙ lost_said l.known l.lost l.found p law.known.ordered law.found) in (
         record {
           known = law.known;
           found = subst Ascends (sym left) (outside-sorted l.found p law.found);
@@ -92,8 +91,7 @@ module _ (l : LookerValue) (law : IsLooker l) (p : PathValue) (lost : List PathV
   anew_looker f place gone here =
       let is : said (record l { lost = lost; found = found }) ≡ insert_entry path_cmp (outside (said l) p) p f =
       ap (λ ps. said_of l.known ps found) gone ∙ (ap (said_of l.known (l.lost ++ p ∷ [])) here
-      ∙ found_anew_said l.known l.lost l.found p f law.known.ordered law.found) in
-      (
+      ∙ found_anew_said l.known l.lost l.found p f law.known.ordered law.found) in (
         record {
           known = law.known;
           found = subst Ascends (sym here)
@@ -112,8 +110,7 @@ pub still_looker : (l : LookerValue) → IsLooker l → (p : PathValue) (f : Fou
     × (said (record l { found = found }) ≡ insert_entry path_cmp (said l) p f)
 still_looker l law p f found place here =
     let is : said (record l { found = found }) ≡ insert_entry path_cmp (said l) p f =
-    ap (said_of l.known l.lost) here ∙ found_said l.known l.lost l.found p f law.known.ordered law.found in
-    (
+    ap (said_of l.known l.lost) here ∙ found_said l.known l.lost l.found p f law.known.ordered law.found in (
       record {
         known = law.known;
         found = subst Ascends (sym here) (sorted-insert_entry path_cmp_total l.found p f law.found);

@@ -185,8 +185,7 @@ impl<A: Allocator + Copy> Looker<A> {
         let Ok(()) = self.lost.push(top) else {
             return Err(Error::out_of_memory(alloc));
         };
-        self.found
-            .retain(|other, _found| !other.starts_with(path));
+        self.found.retain(|other, _found| !other.starts_with(path));
         Ok(())
     }
 

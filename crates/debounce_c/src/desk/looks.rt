@@ -123,12 +123,7 @@ fn inode_of(number: FileNumber) -> u64
 }
 
 /// This stands at the path.
-pub fn find(
-    desk: &mut Desk,
-    alloc: Global,
-    bytes: &[u8],
-    stands: &Stands,
-) -> Result<(), Fault>
+pub fn find(desk: &mut Desk, alloc: Global, bytes: &[u8], stands: &Stands) -> Result<(), Fault>
     ensures { LateOutcome result (found_fault stands.now bytes.now)
         (place_fault bytes.now desk.old)
         (λ t. LeavesLook (Finds (parts_of bytes.now) (found_of stands.now)) desk.old t)
