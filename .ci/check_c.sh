@@ -2,7 +2,7 @@
 # check_c.sh: builds the C library over what the gate left, or takes that of the folder NDF_LIBRARY, and its users in C, C++,
 # Rust and Python, and runs them. What has no compiler here is not run, which is counted.
 . "$(dirname "$0")/checks.sh" || exit 1
-expects 23
+expects 27
 sanitizers='-g -fsanitize=address,undefined -fno-sanitize-recover=all'
 warnings='-Wall -Wextra -Werror'
 
@@ -127,11 +127,11 @@ if has gcc; then
     check 'random looks, and a reader of what is told' sh -c "gcc -std=gnu11 -O1 $warnings $sanitizers -I'$top/c' \
         '$top/c/test/looks.c' libdebounce_c.a -o looks && ./looks 1 100000 && ./looks 2 100000"
     cat said
-    { printf '#include "%s"\n' ndf.h ndf_words.h stdio.h string.h sys/stat.h
+    { printf '#include "%s"\n' ndf.h ndf_words.h errno.h stdio.h string.h sys/stat.h
       echo 'int main(void) { uint64_t now = 0; const char *path = "/w/a";'
       sed -n '/^```c$/,/^```$/p' "$top/docs/C.md" | sed '/^```/d'
       echo '}'; } >page.c
-    check 'the calls on the page' sh -c "gcc -std=c11 $warnings $sanitizers -I'$top/c' page.c libndf.a -o page && ./page"
+    check 'the calls on the page' sh -c "gcc -std=gnu11 $warnings $sanitizers -I'$top/c' page.c libndf.a -o page && ./page"
     check 'what is installed is enough, and names no folder of ours' "$top/c/test/install.sh" .
     # shellcheck disable=SC2086
     check 'watch.c is built' gcc -std=gnu11 -O2 $warnings $sanitizers -I"$top/c" "$top/c/watch.c" libndf.a -o watch
@@ -143,7 +143,7 @@ if has gcc; then
         'Remove(Folder)	tree/notes')" ./watch --timeout 40 --until-eof --renames
     check 'a reader of watch.c has the paths of the folder' follows ./watch --timeout 30 --until-eof
 else
-    not_run 10 'no gcc' 'users in C'
+    not_run 11 'no gcc' 'users in C'
 fi
 if has g++; then
     check 'the class of C++' sh -c "g++ -std=c++17 $warnings $sanitizers -I'$top/c' -c '$top/c/test/wrapper.cpp' -o wrapper.o &&
@@ -164,12 +164,22 @@ if has python3; then
     else
         not_run 1 "mirror isn't built" 'random scripts through the library'
     fi
+    if [ -x watch ]; then
+        check 'after each two operations a reader of watch.c has what stands there' python3 "$top/c/test/pairs.py" \
+            ./watch --timeout 300 --until-eof
+        cat said
+    else
+        not_run 1 'no gcc' 'the pairs of operations of watch.c'
+    fi
+    check 'after each two operations a reader of watch.py has what stands there' python3 "$top/c/test/pairs.py" \
+        python3 "$top/python/examples/watch.py" --timeout 300 --until-eof
+    cat said
     check 'the class of Python' python3 "$top/python/tests/test_ndf.py"
     check 'file numbers as the Rust crate has them' python3 "$top/python/tests/test_numbers.py"
     check 'the records lie in Python as in the library' sh -c "python3 '$top/python/tests/layout.py' >layout.python"
     check 'the records of Python are those of the library' same_layout layout.python
 else
-    not_run 6 'no python3' 'users in Python'
+    not_run 8 'no python3' 'users in Python'
 fi
 if has cargo; then
     export NDF_LIB=$room CARGO_TARGET_DIR=$room/target
@@ -181,6 +191,13 @@ if has cargo; then
     check 'the records of Rust are those of the library' same_layout layout.rust
     check 'a reader of the Rust watch has the paths of the folder' follows target/release/examples/watch --timeout 30 \
         --until-eof
+    if has python3; then
+        check 'after each two operations a reader of the Rust watch has what stands there' python3 "$top/c/test/pairs.py" \
+            target/release/examples/watch --timeout 300 --until-eof
+        cat said
+    else
+        not_run 1 'no python3' 'the pairs of operations of the Rust watch'
+    fi
 else
-    not_run 5 'no cargo' 'users in Rust'
+    not_run 6 'no cargo' 'users in Rust'
 fi

@@ -37,6 +37,8 @@ REMOVE_FILE, REMOVE_FOLDER, OTHER = KIND_OF_WORD["Remove(File)"], KIND_OF_WORD["
 GENERIC, IO, PATH_NOT_FOUND, WATCH_NOT_FOUND = range(4)
 STEPS = "event error watch unwatch errors tick".split()
 
+STANDS = "file folder other".split()
+
 # In a record that nothing was told into yet.
 _NO_KIND = 2**32 - 1
 
@@ -136,6 +138,14 @@ class Stands(ctypes.Structure):
         ("modified", ctypes.c_uint64),
         ("inode", ctypes.c_uint64),
     ]
+
+    @property
+    def is_folder(self) -> bool:
+        return self.kind == STANDS.index("folder")
+
+    @property
+    def number(self) -> tuple[int, int] | None:
+        return (self.device, self.inode) if self.has_number else None
 
 
 class Counts(ctypes.Structure):
@@ -397,6 +407,70 @@ class Debouncer:
         """Keeps an error of a watcher until it is asked for."""
         words, at = text.encode(), _bytes("" if path is None else path)
         self._code(_lib.ndf_error, _number("kind", kind, 32), path is not None, words, len(words), at, len(at))
+
+    def found(
+        self,
+        path: Path,
+        kind: str,
+        length: int = 0,
+        modified: int | None = None,
+        number: tuple[int, int] | None = None,
+    ) -> None:
+        """Says that this stands at a path, in the look that ends next: a file, a folder or another kind, with its device
+        and inode.
+        """
+        device, inode = number or (0, 0)
+        stands = Stands(
+            False,
+            modified is not None,
+            number is not None,
+            STANDS.index(kind),
+            _number("device", device, 32),
+            _number("length", length),
+            _number("modified", modified or 0),
+            _number("inode", inode),
+        )
+        text = _bytes(path)
+        self._code(_lib.ndf_found, text, len(text), stands)
+
+    def gone(self, path: Path) -> None:
+        """Says that nothing stands at a path or below it, but what is found there later in the look."""
+        text = _bytes(path)
+        self._code(_lib.ndf_gone, text, len(text))
+
+    def changed(self, path: Path) -> None:
+        """Says that the file at a path was written, as its length and time may not show."""
+        text = _bytes(path)
+        self._code(_lib.ndf_changed, text, len(text))
+
+    def begin_look(self) -> None:
+        """Forgets what was said since the last look ended."""
+        self._code(_lib.ndf_look_begin)
+
+    def end_look(self, moment: int) -> None:
+        """Ends the look: what was said is known, and how it differs from what was known is fed. After a MemoryError the next
+        call feeds the rest first.
+        """
+        self.feed_look(moment)
+        self._code(_lib.ndf_look_end, ctypes.c_size_t())
+        self.feed_look(moment)
+
+    def end_look_known(self) -> None:
+        """Ends the first look: what was said is known, and nothing is told of it."""
+        self._code(_lib.ndf_look_known)
+
+    def feed_look(self, moment: int) -> None:
+        """Feeds what the last look told and wasn't fed yet: the first event at this moment, and each further one a nanosecond
+        later, which keeps their order.
+        """
+        while self._code(_lib.ndf_look_feed, _number("moment", moment)) != CODES.index("at_end"):
+            moment += 1
+
+    def known(self, path: Path) -> Stands | None:
+        """What is known to stand at a path since the last look ended."""
+        text, stands = _bytes(path), Stands()
+        self._code(_lib.ndf_known, text, len(text), stands)
+        return stands if stands.known else None
 
     def tick(self, now: int) -> list[Event]:
         """Emits what is expired, and returns the batch. If an exception, as that of Ctrl-C, has broken off the reading of

@@ -75,6 +75,33 @@ class Calls(unittest.TestCase):
         self.debouncer.keep_journal()
         self.assertEqual(self.debouncer.journal(), [])
 
+    def test_looks(self):
+        look = self.debouncer
+        look.found("/", "folder")
+        look.found("/a", "file", 1, 5, (1, 2))
+        look.found("/d", "folder", number=(1, 3))
+        look.end_look_known()
+        known = look.known("/a")
+        self.assertEqual((known.length, known.modified, known.number, known.is_folder), (1, 5, (1, 2), False))
+        self.assertIsNone(look.known("/b"))
+        look.gone("/a")
+        look.found("/b", "file", 1, 5, (1, 2))
+        look.found("/d/x", "file")
+        look.end_look(10)
+        words = [(event.word, *event.paths, event.tracker) for event in look.tick(100)]
+        self.assertEqual(words, [("Remove(File)", "/a", 0), ("Create(File)", "/b", 0), ("Create(File)", "/d/x", None)])
+        look.changed("/b")
+        look.found("/b", "file", 1, 5, (1, 2))
+        look.gone("/d")
+        look.begin_look()
+        look.found("/b", "file", 1, 5, (1, 2))
+        look.end_look(200)
+        self.assertEqual([event.word for event in look.tick(300)], ["Modify(Data(Any))"])
+        self.refuses("no_folder", look.found, "/e/x", "file")
+        self.refuses("not_text", look.found, b"/\xff", "file")
+        self.refuses("begun", look.end_look_known)
+        self.assertRaises(ValueError, look.found, "/c", "file", -1)
+
     def test_refusals(self):
         self.refuses("not_text", self.debouncer.watch, b"/\xff")
         self.refuses("no_kind", self.debouncer.feed, 41, moment=0)

@@ -18,7 +18,7 @@ impl RecursiveMode {
 }
 
 /// What a watcher is told at its start. The settings of notify's are there for watchers that have a use for them; the
-/// watcher over inotify reads `joins_renames` alone.
+/// watcher over inotify reads none.
 #[derive(Clone, Copy, Debug, PartialEq, Eq, Hash)]
 pub struct Config {
     poll_interval: Option<Duration>,
@@ -75,14 +75,14 @@ impl Config {
         self.follow_symlinks
     }
 
-    /// The config in which a rename is reported as its two halves, which the debouncer joins: as
-    /// notify-debouncer-full has it, which can leave a reader's paths wrong. Without it a rename is a removal and a
-    /// creation with one tracker. This setting is this crate's own.
+    /// The config in which the debouncer tells each move that it finds in a batch, a removal and a creation of one tracker,
+    /// as `Modify(Name(Both))`: that of a file is the only event; that of a folder stands behind its removal, and what lies
+    /// in it is told as created. This setting is this crate's own.
     pub fn with_joined_renames(self, joins: bool) -> Config {
         Config { joins_renames: joins, ..self }
     }
 
-    /// Whether a rename is reported as its two halves.
+    /// Whether moves are told as such.
     pub fn joined_renames(&self) -> bool {
         self.joins_renames
     }

@@ -2,6 +2,7 @@
 use crate::config::RecursiveMode;
 use crate::error::{Error, ErrorKind, Result};
 use crate::event::{Event, EventAttributes, EventKind, Flag};
+use crate::look::{Stands, StandsKind};
 pub use crate::raw::Counts;
 use crate::raw::{self, Change, Handle, Number, Told, ToldEntry, ToldError};
 use std::path::{Path, PathBuf};
@@ -55,8 +56,25 @@ fn done(code: u32) -> Result<()> {
         raw::NO_MEMORY => ErrorKind::Memory,
         raw::FULL => ErrorKind::Full,
         raw::NOT_TEXT => ErrorKind::NotText,
+        raw::NO_FOLDER => ErrorKind::PathNotFound,
         _ => ErrorKind::Generic(format!("the library answers {code}")),
     }))
+}
+
+impl From<&Stands> for raw::Stands {
+    fn from(stands: &Stands) -> raw::Stands {
+        let (device, inode) = stands.number.unwrap_or((0, 0));
+        raw::Stands {
+            known: false,
+            has_time: stands.modified.is_some(),
+            has_number: stands.number.is_some(),
+            kind: stands.kind as u32,
+            device,
+            length: stands.length,
+            modified: stands.modified.unwrap_or(0),
+            inode,
+        }
+    }
 }
 
 /// The text of a path. One that isn't UTF-8 is handed on as it is, for the library to refuse.
@@ -177,6 +195,62 @@ impl Core {
         let mut count = 0;
         done(unsafe { raw::ndf_outlook(&mut self.handle, &mut count) })?;
         Ok(self.read(count))
+    }
+
+    /// Says that this stands at a path, in the look that ends next. `PathNotFound`: the folder above isn't known.
+    pub fn found(&mut self, path: &Path, stands: &Stands) -> Result<()> {
+        let text = bytes_of(path);
+        let stands = raw::Stands::from(stands);
+        done(unsafe { raw::ndf_found(&mut self.handle, text.as_ptr(), text.len(), &stands) })
+    }
+
+    /// Says that nothing stands at a path or below it, but what is found there later in the look.
+    pub fn gone(&mut self, path: &Path) -> Result<()> {
+        let text = bytes_of(path);
+        done(unsafe { raw::ndf_gone(&mut self.handle, text.as_ptr(), text.len()) })
+    }
+
+    /// Says that the file at a path was written, as its length and time may not show.
+    pub fn changed(&mut self, path: &Path) -> Result<()> {
+        let text = bytes_of(path);
+        done(unsafe { raw::ndf_changed(&mut self.handle, text.as_ptr(), text.len()) })
+    }
+
+    /// Ends the look. What was said is known, and so many events are to be fed.
+    pub fn end_look(&mut self) -> Result<usize> {
+        let mut count = 0;
+        done(unsafe { raw::ndf_look_end(&mut self.handle, &mut count) })?;
+        Ok(count)
+    }
+
+    /// Ends the first look. What was said is known, and nothing is told of it.
+    pub fn end_look_known(&mut self) -> Result<()> {
+        done(unsafe { raw::ndf_look_known(&mut self.handle) })
+    }
+
+    /// Takes the next event of the look that ended last; false if there is none.
+    pub fn feed_look(&mut self, moment: u64) -> Result<bool> {
+        match unsafe { raw::ndf_look_feed(&mut self.handle, moment) } {
+            raw::AT_END => Ok(false),
+            code => done(code).map(|()| true),
+        }
+    }
+
+    /// What is known at a path since the last look ended.
+    pub fn known(&mut self, path: &Path) -> Result<Option<Stands>> {
+        let text = bytes_of(path);
+        let mut stands = raw::Stands::default();
+        done(unsafe { raw::ndf_known(&mut self.handle, text.as_ptr(), text.len(), &mut stands) })?;
+        Ok(stands.known.then(|| Stands {
+            kind: match stands.kind {
+                0 => StandsKind::File,
+                1 => StandsKind::Folder,
+                _ => StandsKind::Other,
+            },
+            length: stands.length,
+            modified: stands.has_time.then_some(stands.modified),
+            number: stands.has_number.then_some((stands.device, stands.inode)),
+        }))
     }
 
     /// Keeps an error until it is asked for. Of its paths the first is kept, of an `Io` that it was one.

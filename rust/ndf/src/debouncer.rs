@@ -5,7 +5,8 @@ use crate::config::{Config, RecursiveMode};
 use crate::core::{Core, Emitted};
 use crate::error::{Error, ErrorKind, Result};
 use crate::event::{Event, EventKind, ModifyKind, RenameMode};
-use crate::watcher::{absolute, Watcher, WatcherKind};
+use crate::moves::join_moves;
+use crate::watcher::{absolute, EventHandler, Watcher, WatcherKind};
 use std::fmt;
 use std::marker::PhantomData;
 use std::mem;
@@ -136,8 +137,9 @@ pub fn new_debouncer_opt<F: DebounceEventHandler, T: Watcher, C: FileIdCache + S
     let core = start("ndf", move || match Core::new(timeout) {
         Ok(core) => {
             let _ = ready.send(Ok(()));
-            let (begin, roots, errors) = (Instant::now(), Vec::new(), Vec::new());
-            Work { core, begin, cache, roots, errors, turns, is_idle }.go(tick.max(Duration::from_millis(1)), &receiver)
+            let (begin, roots, errors, joins_moves) = (Instant::now(), Vec::new(), Vec::new(), config.joined_renames());
+            Work { core, begin, cache, roots, errors, joins_moves, turns, is_idle }
+                .go(tick.max(Duration::from_millis(1)), &receiver)
         }
         Err(error) => {
             let _ = ready.send(Err(error));
@@ -152,7 +154,7 @@ pub fn new_debouncer_opt<F: DebounceEventHandler, T: Watcher, C: FileIdCache + S
         handler: Some(handler),
         cache: PhantomData,
     };
-    debouncer.watcher = Some(T::new(move |event| send(&sender, event), config)?);
+    debouncer.watcher = Some(T::new(Feed(sender), config)?);
     Ok(debouncer)
 }
 
@@ -160,17 +162,34 @@ fn start<R: Send + 'static>(name: &str, work: impl FnOnce() -> R + Send + 'stati
     Ok(thread::Builder::new().name(name.to_string()).spawn(work)?)
 }
 
-/// Hands an event of the watcher on. Whether its path exists is asked at once, if it matters.
-fn send(sender: &SyncSender<Message>, event: Result<Event>) {
-    let message = match event {
+/// Hands the events of the watcher on.
+struct Feed(SyncSender<Message>);
+
+impl EventHandler for Feed {
+    fn handle_event(&mut self, event: Result<Event>) {
+        self.handle_events(vec![event]);
+    }
+
+    /// What one look told is a nanosecond apart, so that both events of a move are in one batch.
+    fn handle_events(&mut self, events: Vec<Result<Event>>) {
+        let mut time = Instant::now();
+        for event in events {
+            let _ = self.0.send(message_of(event, time));
+            time += Duration::from_nanos(1);
+        }
+    }
+}
+
+/// Whether the event's path exists is asked at once, if it matters.
+fn message_of(event: Result<Event>, time: Instant) -> Message {
+    match event {
         Ok(event) => {
             let asks = event.kind == EventKind::Modify(ModifyKind::Name(RenameMode::Any));
             let exists = asks && event.paths.first().is_some_and(|path| path.symlink_metadata().is_ok());
-            Message::Event { event, exists, time: Instant::now() }
+            Message::Event { event, exists, time }
         }
         Err(error) => Message::Error(error),
-    };
-    let _ = sender.send(message);
+    }
 }
 
 /// Calls the handler, until the core's thread has ended.
@@ -271,6 +290,8 @@ struct Work<C> {
     roots: Vec<(PathBuf, RecursiveMode)>,
     /// Errors that the core doesn't keep: of the watcher, of paths that aren't UTF-8, of events that were refused.
     errors: Vec<Error>,
+    /// Whether moves are told as such.
+    joins_moves: bool,
     turns: Sender<Turn>,
     /// Whether the handler has returned.
     is_idle: Arc<AtomicBool>,
@@ -285,7 +306,7 @@ impl<C: FileIdCache> Work<C> {
         }
         self.take_last(receiver);
         let waiting = self.core.outlook().unwrap_or_default();
-        waiting.into_iter().map(|emitted| self.debounced(emitted)).collect()
+        self.debounced(waiting)
     }
 
     /// Takes all that was sent before this moment; whether the debouncer goes on. What is sent during a tick isn't
@@ -386,7 +407,7 @@ impl<C: FileIdCache> Work<C> {
         }
         let now = self.moment(now);
         let batch = match self.core.tick(now) {
-            Ok(batch) => batch.into_iter().map(|emitted| self.debounced(emitted)).collect(),
+            Ok(batch) => self.debounced(batch),
             // All waits on, and a later tick emits it.
             Err(Error { kind: ErrorKind::Memory, .. }) => Vec::new(),
             Err(error) => {
@@ -407,8 +428,20 @@ impl<C: FileIdCache> Work<C> {
         u64::try_from(time.saturating_duration_since(self.begin).as_nanos()).unwrap_or(u64::MAX)
     }
 
-    fn debounced(&self, emitted: Emitted) -> DebouncedEvent {
-        DebouncedEvent::new(emitted.event, self.begin + Duration::from_nanos(emitted.time))
+    fn debounced(&self, batch: Vec<Emitted>) -> Vec<DebouncedEvent> {
+        let time_of = |emitted: &Emitted| self.begin + Duration::from_nanos(emitted.time);
+        let events = batch
+            .into_iter()
+            .map(|emitted| {
+                let time = time_of(&emitted);
+                DebouncedEvent::new(emitted.event, time)
+            })
+            .collect();
+        if self.joins_moves {
+            join_moves(events)
+        } else {
+            events
+        }
     }
 }
 

@@ -137,6 +137,7 @@ pub const FULL: u32 = 3;
 pub const NOT_TEXT: u32 = 4;
 pub const AT_END: u32 = 7;
 pub const TOO_SHORT: u32 = 8;
+pub const NO_FOLDER: u32 = 11;
 
 pub const STEP_EVENT: u32 = 0;
 pub const STEP_ERROR: u32 = 1;

@@ -11,6 +11,11 @@ use std::sync::mpsc::Sender;
 pub trait EventHandler: Send + 'static {
     /// Takes an event, or an error of the watcher.
     fn handle_event(&mut self, event: Result<Event>);
+
+    /// Takes what one look told, in order.
+    fn handle_events(&mut self, events: Vec<Result<Event>>) {
+        events.into_iter().for_each(|event| self.handle_event(event));
+    }
 }
 
 impl<F: FnMut(Result<Event>) + Send + 'static> EventHandler for F {
