@@ -1,9 +1,8 @@
 -- What a looker's calls leave is a looker, and what is said then.
-use Rattle.std.proofs.Common.{◌≡◌, ◌≤◌, ◌∙◌, ℕ, Bool, true, false, not, ◌&&◌, ◌||◌, List, [], ◌∷◌, ◌++◌, filter, length, refl, sym, ap, subst, arith, true≢false}
+use Rattle.std.proofs.Common.{◌≡◌, ◌≤◌, ◌∙◌, Bool, true, false, not, List, [], ◌∷◌, ◌++◌, length, refl, sym, ap, subst, true≢false}
 use Rattle.std.specs.Prelude.{Result, Ok, Err, OnErr, if◌then◌else◌}
 use Rattle.std.specs.BTreeMap.{insert_entry}
 use Rattle.std.specs.List.Sorted.{IsStrictlySortedBy}
-use Rattle.std.specs.Map.{keys_of}
 use Rattle.notify_paths.specs.Path.{PathValue, PartValue, is_below, is_prefix, path_cmp, path_eq}
 use Rattle.notify_paths.specs.PathLaws.{path_cmp_total, path_eq_decides}
 use Rattle.debounce_model.proofs.Entries.{sorted-filter, sorted-insert_entry}

@@ -1,5 +1,5 @@
 -- What is said stands at each path, and what a call that says something makes of it.
-use Rattle.std.proofs.Common.{◌≡◌, ℕ, suc, ◌+◌, ◌-◌, arith, take, length-append, Bool, true, false, not, ◌&&◌, ◌||◌, List, [], ◌∷◌, ◌++◌, cond, filter, length, refl, ap, sym, subst, ◌∙◌, Option, Some, None, true≢false}
+use Rattle.std.proofs.Common.{◌≡◌, suc, ◌+◌, ◌-◌, arith, take, length-append, Bool, true, false, not, ◌&&◌, ◌||◌, List, [], ◌∷◌, ◌++◌, cond, filter, length, refl, ap, sym, subst, ◌∙◌, Option, Some, None, true≢false}
 use Rattle.std.specs.Prelude.{is_some, if◌then◌else◌}
 use Rattle.std.specs.BTreeMap.{is_at, insert_entry}
 use Rattle.std.specs.List.{list_all}
@@ -16,19 +16,17 @@ use Rattle.debounce_model.proofs.Entries.{same_entries, sorted-filter, sorted-in
 use Rattle.poll_listing.specs.declared.entry.Found.{Found}
 use Rattle.poll_listing.specs.Changes.{is_of_kind}
 use Rattle.poll_listing.specs.Listing.{IsListing, ListingValue, entry_at, has_entry, is_nonempty}
-use Rattle.poll_listing.specs.MergedListings.{put_over}
 use Rattle.poll_listing.specs.Near.{outside}
 use Rattle.poll_listing.specs.declared.entry.EntryKind.TheVariants.{File}
 use Rattle.poll_listing.proofs.BehindLemmas.{at-same}
 use Rattle.poll_listing.proofs.HonestLemmas.{and_both}
 use Rattle.poll_listing.proofs.ListingLemmas.{all-push, entry_at-insert, folders_of-push, is_listing-insert}
 use Rattle.poll_listing.proofs.MergeLemmas.{merged, sorted_over}
-use Rattle.poll_listing.proofs.NearLemmas.{outside_listing}
 use Rattle.poll_listing.proofs.ParentLemmas.{each_there}
 use Rattle.poll_listing.proofs.PrefixLemmas.{not_below_itself}
 use Rattle.poll_listing.proofs.UpdateLemmas.{Ascends}
 use Rattle.poll_listing.proofs.WalkLemmas.{has_entry-some}
-use Rattle.listing_looks.specs.Looks.{found_in, has_place, holds, is_lost, is_of_other_kind, may_hold, outside_each, said_of}
+use Rattle.listing_looks.specs.Looks.{has_place, holds, is_lost, outside_each, said_of}
 
 -- what stands outside a path
 pub outside-finds : (es : ListingValue) (p q : PathValue) →

@@ -1,10 +1,8 @@
 -- What becomes of what is known, by what was said.
-use Rattle.std.proofs.Common.{◌≡◌, Bool, true, false, not, ◌&&◌, ◌||◌, List, [], ◌∷◌, cond, refl, ap, sym, subst, ◌∙◌, Option, Some, None, true≢false}
+use Rattle.std.proofs.Common.{◌≡◌, Bool, true, false, ◌&&◌, ◌||◌, List, [], ◌∷◌, cond, refl, ap, sym, subst, ◌∙◌, Option, Some, None}
 use Rattle.std.specs.Prelude.{is_some, if◌then◌else◌}
 use Rattle.std.specs.BTreeMap.{is_at, insert_entry}
 use Rattle.std.specs.List.Sorted.{IsStrictlySortedBy}
-use Rattle.std.specs.Map.{keys_of}
-use Rattle.std.specs.Option.{option_or}
 use Rattle.std.proofs.lemmas.Map.Entries.{lookup-filter-keys}
 use Rattle.notify_paths.specs.Path.{PathValue, is_prefix, path_cmp}
 use Rattle.notify_paths.specs.PathLaws.{path_cmp_total}
@@ -12,11 +10,11 @@ use Rattle.notify_paths.proofs.Prefixes.{same_path}
 use Rattle.debounce_model.proofs.Entries.{lookup-insert_other, lookup-insert_same, same_entries, sorted-insert_entry}
 use Rattle.poll_listing.specs.declared.entry.Found.{Found}
 use Rattle.poll_listing.specs.declared.updates.Update.{Update}
-use Rattle.poll_listing.specs.declared.updates.Update.TheVariants.{Gone, Changed, Added}
+use Rattle.poll_listing.specs.declared.updates.Update.TheVariants.{Gone}
 use Rattle.poll_listing.specs.Listing.{IsListing, ListingValue, entry_at, has_entry}
-use Rattle.poll_listing.specs.Updates.{IsUpdate, UpdatesValue, after, fits_at, found_after, update_at, updated}
+use Rattle.poll_listing.specs.Updates.{IsUpdate, UpdatesValue, after, fits_at, update_at, updated}
 use Rattle.poll_listing.proofs.BehindLemmas.{at-same}
-use Rattle.poll_listing.proofs.PairLemmas.{at_itself, entry_at-above}
+use Rattle.poll_listing.proofs.PairLemmas.{entry_at-above}
 use Rattle.poll_listing.proofs.UpdateLemmas.{Ascends, updated-finds, updated-sorted}
 use Rattle.poll_listing.proofs.WalkLemmas.{has_entry-some}
 use Rattle.listing_looks.specs.Looks.{is_lost, said_of}

@@ -1,5 +1,5 @@
 -- What is known of a file may change where it stands: the paths stay, and what is said is a listing still.
-use Rattle.std.proofs.Common.{◌≡◌, ◌∙◌, Bool, true, false, List, [], ◌∷◌, Option, Some, None, refl, sym, ap, subst, true≢false}
+use Rattle.std.proofs.Common.{◌≡◌, ◌∙◌, Bool, true, false, [], ◌∷◌, Option, Some, None, refl, sym, ap, subst}
 use Rattle.std.specs.Prelude.{is_some, Result, Ok, Err, OnOk, OnErr, if◌then◌else◌}
 use Rattle.std.specs.BTreeMap.{is_at, insert_entry}
 use Rattle.std.specs.List.Sorted.{IsStrictlySortedBy}
@@ -17,7 +17,6 @@ use Rattle.poll_listing.specs.Updates.{IsUpdate, fits_at, update_at}
 use Rattle.poll_listing.proofs.BehindLemmas.{at-same}
 use Rattle.poll_listing.proofs.ListingLemmas.{entry_at-insert, is_listing-insert}
 use Rattle.poll_listing.proofs.ParentLemmas.{each_there}
-use Rattle.poll_listing.proofs.PairLemmas.{at_itself}
 use Rattle.poll_listing.proofs.UpdateLemmas.{Ascends}
 use Rattle.poll_listing.proofs.WalkLemmas.{has_entry-some}
 use Rattle.listing_looks.specs.Looks.{IsLooker, LookerValue, is_lost, said, said_of}

@@ -1,4 +1,4 @@
-use Rattle.std.proofs.Common.{◌≡◌, ◌∙◌, [], ap, subst, sym}
+use Rattle.std.proofs.Common.{◌≡◌, ◌∙◌, ap, subst, sym}
 use Rattle.poll_listing.specs.Updates.{IsUpdate, updated}
 use Rattle.listing_looks.specs.SaidUpdates.{all_found, each_gone, said_updates}
 use Rattle.listing_looks.proofs.SaidUpdateLemmas.{are_update, said_updated}

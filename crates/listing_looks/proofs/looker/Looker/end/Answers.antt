@@ -1,6 +1,6 @@
 use Rattle.std.proofs.Common.{◌∙◌, ap, arith, subst, sym}
 use Rattle.poll_listing.specs.Listing.{IsListing}
-use Rattle.listing_looks.specs.Looks.{IsLooker, LookerValue, said_of}
+use Rattle.listing_looks.specs.Looks.{IsLooker, said_of}
 use Rattle.listing_looks.proofs.LookerLemmas.{on_err, unsaid_looker}
 use Rattle.listing_looks.proofs.looker.Looker.end.Goals as goal
 
