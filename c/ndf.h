@@ -314,7 +314,8 @@ uint32_t ndf_changed(ndf_handle *h, const char *path, size_t len);
 
 /* The look ends: what was said is known, and where nothing was said, what was known. `count` events are to be fed by
  * ndf_look_feed: the removals, the creations and what was written, each in the order of their paths. What is one file
- * at two paths has moved, and its events have one tracker.
+ * or folder at two paths has moved: its removal and its creation have one tracker. With a folder moves what lay in it: the
+ * creations of that have its tracker too, wherever it is found now.
  * NDF_UNFED, exactly if an event of the last look wasn't fed; else NDF_NO_MEMORY: what was said is still said. */
 uint32_t ndf_look_end(ndf_handle *h, size_t *count);
 
