@@ -2,7 +2,7 @@
 # check_c.sh: builds the C library over what the gate left, or takes that of the folder NDF_LIBRARY, and its users in C, C++,
 # Rust and Python, and runs them. What has no compiler here is not run, which is counted.
 . "$(dirname "$0")/checks.sh" || exit 1
-expects 27
+expects 29
 sanitizers='-g -fsanitize=address,undefined -fno-sanitize-recover=all'
 warnings='-Wall -Wextra -Werror'
 
@@ -87,6 +87,33 @@ tells() {
     ends && diff journal - <<<"$lines"
 }
 
+# follows_overflow COMMAND..: inotify's queue runs over in a tree of 17,000 folders. The watch ends all the same, and a reader of
+# what it prints has the paths.
+follows_overflow() {
+    rm -rf tree held && mkdir tree && mkfifo held && : >watching
+    (cd tree && seq 17000 | xargs mkdir)
+    "$@" tree >journal 2>watching <held &
+    journal=$!
+    exec 3<>held
+    within 60 said_or_gone && ! is_gone $journal || return 1
+    kill -STOP $journal
+    (cd tree && seq -f 1/f%.0f 10000 | xargs touch && seq -f 2/f%.0f 10000 | xargs touch && seq 9000 17000 | xargs rmdir)
+    kill -CONT $journal
+    sleep 1
+    ends || return 1
+    find tree -mindepth 1 | LC_ALL=C sort >there
+    played journal | cmp - there
+}
+
+# says_limit COMMAND..: of more folders than the system watches the command says so, and what else it watches it prints.
+says_limit() {
+    rm -rf tree && mkdir tree && (cd tree && seq 50 | xargs mkdir)
+    (sleep 1; touch tree/new) &
+    unshare -Ur sh -c 'echo 20 >/proc/sys/user/max_inotify_watches && exec "$@"' sh "$@" tree >journal 2>watching
+    [ $? = 1 ] && grep -q 'cannot watch tree/[0-9]*: no watch is left' watching && grep -q '31 folders are not watched' watching &&
+        grep -qx 'Create(File)	tree/new' journal || { cat watching; return 1; }
+}
+
 same_layout() {
     cmp layout.records "$1" || { diff layout.records "$1"; return 1; }
 }
@@ -142,8 +169,14 @@ if has gcc; then
         'Create(File)	tree/notes/a\tb.txt' 'Modify(Name(Both))	tree/notes/a\tb.txt	tree/c.txt' \
         'Remove(Folder)	tree/notes')" ./watch --timeout 40 --until-eof --renames
     check 'a reader of watch.c has the paths of the folder' follows ./watch --timeout 30 --until-eof
+    check 'a reader of watch.c has them after an overflow' follows_overflow ./watch --timeout 30 --initial --until-eof
+    if unshare -Ur sh -c 'echo 20 >/proc/sys/user/max_inotify_watches' 2>/dev/null; then
+        check 'watch.c says that no watch is left' says_limit ./watch --timeout 30 --seconds 2
+    else
+        not_run 1 'no namespace of users' 'the limit of watches'
+    fi
 else
-    not_run 11 'no gcc' 'users in C'
+    not_run 13 'no gcc' 'users in C'
 fi
 if has g++; then
     check 'the class of C++' sh -c "g++ -std=c++17 $warnings $sanitizers -I'$top/c' -c '$top/c/test/wrapper.cpp' -o wrapper.o &&
