@@ -6,7 +6,7 @@ cd "$top" || exit 1
 .ci/check_pages.py >"$room/pages"
 sed '$d' "$room/pages"
 read -r passed _ failed _ < <(tail -n 1 "$room/pages" | grep -x '[0-9]* passed, [0-9]* failed' || echo 0 passed, 1 failed)
-expects $((passed + failed + 6))
+expects $((passed + failed + 7))
 
 # check NAME COMMAND..: the command prints nothing. What it prints is what is wrong.
 check() {
@@ -114,6 +114,7 @@ widths() {
 check 'what the scripts in scripts/print leave out' printed
 check 'the help of scripts' helped
 check 'wrong bodies' bodies
+check 'the lists of kinds' scripts/kinds --check
 check 'the ways of an event and a tick' ways
 check 'widths of code and proofs' widths
 check 'the README, its script and the kit' facts
