@@ -3,7 +3,7 @@ use Rattle.std.proofs.Common.{◌≡◌, ◌∙◌, ℕ, ◌==◌, Bool, true, f
 use Rattle.std.specs.Prelude.{⊤}
 use Rattle.notify_types.specs.Event.{EventValue}
 use Rattle.debounce_model.specs.Command.{ReplyValue}
-use Rattle.debounce_c.specs.Desk.Answers.{Answers, AnswersFor}
+use Rattle.debounce_c.specs.Desk.Answers.{AnswersFor}
 use Rattle.debounce_c.specs.Desk.Calls.{CallValue, FeedsNext, Keeps, Looks, Makes, MakesAll, Reads, reply_to}
 use Rattle.debounce_c.specs.Desk.Looks.{Begins, EndsKnown, IsFedNext, LateAnswersFor, LeavesLook, feed_fault, known_fault}
 use Rattle.debounce_c.specs.Desk.Codes.{fault_code}

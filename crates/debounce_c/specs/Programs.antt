@@ -1,9 +1,9 @@
 -- What a C program has done with a handle: each call that it made since `ndf_new`, right or wrong, with the code that
 -- was answered; and what holds of all of it. Assumes nothing: these are definitions.
-use Rattle.std.specs.Prelude.{◌≡◌, ⊤, ℕ, ◌==◌, Bool, false, true, not, List, [], ◌∷◌, ◌++◌, Option, None, Some, if◌then◌else◌}
+use Rattle.std.specs.Prelude.{◌≡◌, ⊤, ℕ, ◌==◌, Bool, false, true, not, List, [], ◌∷◌, Option, None, Some, if◌then◌else◌}
 use Rattle.std.specs.List.{list_all}
 use Rattle.notify_paths.specs.PathText.{parts_of}
-use Rattle.debounce_model.specs.Command.{CommandValue, ReplyValue}
+use Rattle.debounce_model.specs.Command.{ReplyValue}
 use Rattle.debounce_model.specs.Flood.{FloodsNowhere}
 use Rattle.debounce_model.specs.Founded.{IsNoneInvented}
 use Rattle.debounce_model.specs.Kept.{has_rename, is_kept}

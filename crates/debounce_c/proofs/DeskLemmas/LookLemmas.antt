@@ -1,5 +1,5 @@
 -- Calls that feed events by looks alone: the events are honest from the first paths on, and lead to the known ones.
-use Rattle.std.proofs.Common.{◌≡◌, ◌∙◌, ℕ, zero, suc, ◌+◌, Bool, true, false, not, List, [], ◌∷◌, ◌++◌, drop, length, Option, Some, None, true≢false, refl, sym, ap, subst, arith}
+use Rattle.std.proofs.Common.{◌≡◌, ◌∙◌, ℕ, zero, suc, ◌+◌, true, false, not, List, [], ◌∷◌, ◌++◌, drop, length, Some, true≢false, refl, sym, ap, subst, arith}
 use borrow.Author.Tests.{ltb-false}
 use Rattle.std.proofs.lemmas.List.{drop_all}
 use Rattle.std.specs.Prelude.{nat_lt, slice_get}
@@ -10,7 +10,7 @@ use Rattle.notify_paths.specs.Path.{path_cmp}
 use Rattle.notify_types.specs.Event.{EventValue}
 use Rattle.debounce_model.specs.Command.{ReplyValue}
 use Rattle.debounce_model.specs.Honest.{are_honest, is_closed, is_honest_event}
-use Rattle.debounce_model.specs.PathsLaw.{LeavesRawPaths, read_paths}
+use Rattle.debounce_model.specs.PathsLaw.{LeavesRawPaths}
 use Rattle.debounce_model.specs.Play.{Paths, accepted, play, play_one}
 use Rattle.debounce_laws.proofs.PlayAt.{play-append}
 use Rattle.poll_listing.specs.Listing.{IsListing}

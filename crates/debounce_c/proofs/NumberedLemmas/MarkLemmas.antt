@@ -1,11 +1,11 @@
 -- Numbers that are taken out, and then dropped or brought back.
-use Rattle.std.proofs.Common.{◌≡◌, ◌∙◌, Bool, true, false, not, cond, List, [], ◌∷◌, Ordering, Less, Equal, Greater, Result, Ok, Err, OnOk, OnErr, length, arith, refl, sym, ap}
+use Rattle.std.proofs.Common.{◌≡◌, ◌∙◌, Bool, true, false, not, cond, List, [], ◌∷◌, Ordering, Less, Equal, Greater, Result, Ok, Err, OnOk, OnErr, length, arith, refl, ap}
 use Rattle.std.specs.Prelude.{map}
 use Rattle.std.specs.Map.Calls.{RetainsPairs}
 use Rattle.notify_paths.specs.Path.{PathValue, path_cmp, is_prefix}
 use Rattle.debounce_model.specs.declared.file_id.FileId.{FileId}
 use Rattle.debounce_c.specs.declared.numbered.table.Marked.{Marked}
-use Rattle.debounce_c.specs.Numbered.Marks.{IsNoneGone, Marks, gone_at, is_there, marked, numbers_of, restored, settled, with_mark}
+use Rattle.debounce_c.specs.Numbered.Marks.{IsNoneGone, Marks, gone_at, marked, numbers_of, restored, settled, with_mark}
 use Rattle.debounce_c.specs.Numbered.Numbers.{Numbers, with_number, without_numbers}
 
 -- what `retain` leaves, by a closure that keeps each entry and changes it by its key

@@ -1,12 +1,12 @@
 -- What a core with a table of numbers makes of itself, said of the numbers alone: what was taken out is dropped once a
 -- step is made, and there again once it is refused.
-use Rattle.std.proofs.Common.{◌≡◌, ◌∙◌, ℕ, Bool, true, false, [], None, Result, Ok, Err, OnOk, refl, sym, ap, inl}
+use Rattle.std.proofs.Common.{◌≡◌, ◌∙◌, ℕ, Bool, None, Result, Ok, Err, OnOk, refl, sym, ap, inl}
 use Rattle.notify_paths.specs.Errors.{ErrorKindValue, ErrorValue, FullKind, MemoryKind}
 use Rattle.notify_paths.specs.Path.{PathValue}
 use Rattle.notify_types.specs.Event.{EventValue}
 use Rattle.notify_types.specs.declared.event.RecursiveMode.{RecursiveMode}
 use Rattle.debounce_model.specs.declared.file_id.FileId.{FileId}
-use Rattle.debounce_model.specs.Cache.{Roots, CacheCall, Plan, Answer, Make, Ask, Begins, Rules}
+use Rattle.debounce_model.specs.Cache.{Roots, Plan, Answer, Make, Ask, Begins, Rules}
 use Rattle.debounce_model.specs.Calls.{calls_of, root_calls, unroot_calls}
 use Rattle.debounce_model.specs.Roots.{with_root, without_roots}
 use Rattle.debounce_model.specs.State.{Core}

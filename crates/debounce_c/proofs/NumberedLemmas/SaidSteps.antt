@@ -13,8 +13,8 @@ use Rattle.debounce_model.specs.RenameSlot.{first_half}
 use Rattle.debounce_model.specs.Roots.{has_root}
 use Rattle.debounce_model.specs.State.{State}
 use Rattle.debounce_model.specs.Table.{case_of}
-use Rattle.debounce_c.specs.Numbered.Marks.{IsNoneGone, Marks, leaves_marks, marked, numbers_of, restored, settled, table_rules}
-use Rattle.debounce_c.specs.Numbered.Numbers.{Numbers, said_numbers}
+use Rattle.debounce_c.specs.Numbered.Marks.{IsNoneGone, Marks, leaves_marks, numbers_of, restored, settled, table_rules}
+use Rattle.debounce_c.specs.Numbered.Numbers.{said_numbers}
 use Rattle.debounce_c.proofs.NumberedLemmas.MarkLemmas.{restored-marked, settled-marked, settled-none}
 
 -- a plan that is carried out on a table is carried out on its numbers

@@ -1,6 +1,5 @@
 -- What the calls of a look make of a debouncer. Assumes nothing: these are definitions.
-use Rattle.std.specs.Prelude.{◌≡◌, ◌⊎◌, ◌+◌, ◌==◌, ◌-◌, ◌^◌, ⊤, ℕ, Bool, true, false, not, nat_lt, length, slice_get, is_some, unwrap_or, List, Option, None, Some, Result, Ok, Err, if◌then◌else◌}
-use Rattle.std.specs.Option.{option_map}
+use Rattle.std.specs.Prelude.{◌≡◌, ◌⊎◌, ◌+◌, ◌==◌, ◌-◌, ◌^◌, ℕ, Bool, true, false, not, nat_lt, length, slice_get, is_some, unwrap_or, List, Option, None, Some, Result, Ok, Err, if◌then◌else◌}
 use Rattle.std.specs.Map.{keys_of}
 use Rattle.std.specs.Str.{is_utf8}
 use Rattle.notify_paths.specs.Path.{PathValue}

@@ -1,4 +1,4 @@
-use Rattle.std.proofs.Common.{◌≡◌, ◌∙◌, sym, refl, None}
+use Rattle.std.proofs.Common.{◌≡◌, sym, None}
 use Rattle.debounce_c.specs.Desk.Looks.{found_fault}
 use Rattle.debounce_c.proofs.DeskLemmas.LookSteps.{found_outcome}
 use Rattle.debounce_c.proofs.desk.looks.find.Goals as goal

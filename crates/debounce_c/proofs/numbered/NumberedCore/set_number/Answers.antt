@@ -1,4 +1,4 @@
-use Rattle.std.proofs.Common.{ap, ◌∙◌, sym, subst}
+use Rattle.std.proofs.Common.{sym, subst}
 use Rattle.debounce_model.specs.State.{Core}
 use Rattle.debounce_c.specs.Numbered.Marks.{IsNoneGone, Marks}
 use Rattle.debounce_c.proofs.NumberedLemmas.MarkLemmas.{none_gone-inserted}
