@@ -85,7 +85,7 @@ written_at known path None = known
 written_at known path (Some found) =
     if is_same_kind File found.kind then insert_entry path_cmp known path (unmeasured found) else known
 
--- .. if a file does
+-- the listing, in which the length of what is known at the path counts as unknown if that is a file
 abbrev pub written_in : ListingValue → PathValue → ListingValue
 written_in known path = written_at known path (entry_at known path)
 

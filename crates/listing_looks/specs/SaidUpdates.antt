@@ -12,12 +12,12 @@ use Rattle.poll_listing.specs.Updates.{UpdatesValue}
 abbrev pub within : ListingValue → PathValue → ListingValue
 within entries path = filter (λ entry. is_prefix path entry.0) entries
 
--- the updates, and these entries go
+-- the updates by which these entries go, added to what is to be updated already
 abbrev pub all_gone : UpdatesValue → ListingValue → UpdatesValue
 all_gone updates [] = updates
 all_gone updates (entry ∷ entries) = all_gone (insert_entry path_cmp updates entry.0 Gone) entries
 
--- .. what lies at and below these paths goes
+-- the updates by which what lies at and below these paths goes, added to what is to be updated already
 abbrev pub each_gone : UpdatesValue → ListingValue → List PathValue → UpdatesValue
 each_gone updates known [] = updates
 each_gone updates known (top ∷ tops) = each_gone (all_gone updates (within known top)) known tops
@@ -27,7 +27,7 @@ abbrev pub update_to : Option Found → Found → Update
 update_to None found = Added found
 update_to (Some before) found = Changed found
 
--- .. and this was found
+-- the updates by which what was found stands there, added to what is to be updated already
 abbrev pub all_found : UpdatesValue → ListingValue → ListingValue → UpdatesValue
 all_found updates known [] = updates
 all_found updates known (entry ∷ entries) =

@@ -191,7 +191,7 @@ abbrev pub TellsKnown : List CallValue → List ReplyValue → DeskValue → Typ
 TellsKnown calls replies t = (outlook : List Timed) → IsOutlook t.core.state outlook →
     play (read_paths (first_paths calls) replies outlook) (unfed t.looker) ≡ keys_of t.looker.known
 
--- .. if all events were fed by looks
+-- a reader has just the known paths, whatever is called after an opening, if all events were fed by looks
 abbrev pub CallsTellKnown : Type 0
 CallsTellKnown = (timeout : ℕ) (calls : List CallValue) (replies : List ReplyValue) (s t : DeskValue) →
     IsOpened timeout 0 0 s → list_all (λ call. not (feeds_by_hand call)) calls ≡ true → MakesAll calls replies s t →

@@ -44,12 +44,12 @@ entry_number File = 0
 entry_number Folder = 1
 entry_number Other = 2
 
--- the device of a number
+-- the device of a number, or 0
 abbrev pub entry_device : FileNumber → ℕ
 entry_device Unknown = 0
 entry_device (Known device file) = device
 
--- .. and the number on it
+-- the inode of a number, or 0
 abbrev pub entry_inode : FileNumber → ℕ
 entry_inode Unknown = 0
 entry_inode (Known device file) = file
@@ -86,7 +86,7 @@ abbrev pub found_fault : Stands → List ℕ → Option Fault
 found_fault stands path =
     if nat_lt 2 stands.kind then Some NoKind else (if is_utf8 path then None else Some NotText)
 
--- .. and a folder in which it stands
+-- the path of what is found has a folder in which it can stand
 abbrev pub place_fault : List ℕ → DeskValue → Option Fault
 place_fault path s = if has_place (said s.looker) (parts_of path) then None else Some NoFolder
 
@@ -144,7 +144,7 @@ MakesLook Begins l m = m ≡ unsaid l
 MakesLook Ends l m = IsEnded l m
 MakesLook (EndsKnown known) l m = IsEndedKnown l known m
 
--- .. and of the debouncer
+-- the call changes what is known and said so, and nothing else of the debouncer
 abbrev pub LeavesLook : LookCall → DeskValue → DeskValue → Type 0
 LeavesLook call s t = MakesLook call s.looker t.looker × (t ≡ record s { looker = t.looker })
 

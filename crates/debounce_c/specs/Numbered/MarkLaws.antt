@@ -9,7 +9,7 @@ pub table-rescan : (c : Marks) (roots : Roots) (d : Marks) → AreMade table_rul
 table-rescan c [] d h = h
 table-rescan c (r ∷ roots) d (m, is, more) = table-rescan m roots d more ∙ is
 
--- .. and is never refused
+-- adding roots in order is never refused
 pub table-stopped : (c : Marks) (roots : Roots) (d : Marks) → IsStopped table_rules c (adds_of roots) d → ⊥
 table-stopped c [] d h = h
 table-stopped c (r ∷ roots) d (inl h) = h
