@@ -307,6 +307,11 @@ uint32_t ndf_found(ndf_handle *h, const char *path, size_t len, const ndf_stands
  * NDF_NOT_TEXT, exactly if the path isn't UTF-8; else NDF_NO_MEMORY. */
 uint32_t ndf_gone(ndf_handle *h, const char *path, size_t len);
 
+/* What is known at the path and below it stands there still, whatever was said of it in this look before: so nothing goes
+ * that only can't be looked at, as in a folder that can't be opened. Where nothing is known, nothing stands.
+ * NDF_NOT_TEXT, exactly if the path isn't UTF-8; else NDF_NO_FOLDER and NDF_NO_MEMORY as ndf_found. */
+uint32_t ndf_still(ndf_handle *h, const char *path, size_t len);
+
 /* The file at the path was written, as a notice may say: what is found there next is told as a change, though it may
  * have the same length and time. Until then its length is known as 2^64 - 1. If no file is known to stand there, nothing
  * changes. NDF_NOT_TEXT, exactly if the path isn't UTF-8; else NDF_NO_MEMORY. */

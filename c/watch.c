@@ -139,6 +139,9 @@ static ndf_stands stands_of(const struct stat *s) {
     };
 }
 
+/* Whether an error says that nothing stands there. */
+static bool is_gone(int error) { return error == ENOENT || error == ENOTDIR; }
+
 static bool is_one(const ndf_stands *a, const ndf_stands *b) {
     return a->known == b->known && a->kind == b->kind && a->device == b->device && a->inode == b->inode;
 }
@@ -171,7 +174,7 @@ static const char *reason_of(int error) {
 static bool watch(const char *path, const ndf_stands *stands) {
     int number = inotify_add_watch(notes, path, MASK);
     if (number < 0) {
-        if (errno == ENOENT || errno == ENOTDIR) return false;
+        if (is_gone(errno)) return false;
         is_blind = true;
         /* One folder above the limit stands for all. */
         if (errno != ENOSPC || !unwatched) fprintf(stderr, "watch: cannot watch %s: %s\n", path, reason_of(errno));
@@ -215,46 +218,75 @@ static void drop_strangers(void) {
     has_strangers = false;
 }
 
-/* What is in a folder, or NULL. */
-static char **names_in(DIR *folder) {
-    LIST(char *) names = {NULL, 0, 0};
-    for (struct dirent *e; (e = readdir(folder));)
-        if (strcmp(e->d_name, ".") && strcmp(e->d_name, "..")) *ADDED(names) = copied(e->d_name);
-    *ADDED(names) = NULL;
-    return names.items;
+static void free_names(char **names) {
+    for (char **name = names; name && *name; name++) free(*name);
+    free(names);
 }
 
-/* Says that this stands at the path, and if it is a folder, what stands in it. The watch comes first, so that what appears
- * meanwhile is seen by it or by the listing. What isn't found again is gone, unless the folder is closed. */
-static void find(const char *path, const ndf_stands *stands, bool is_known) {
-    DIR *folder = NULL;
-    if (stands->kind == NDF_STANDS_FOLDER) {
-        watch(path, stands);
-        if (!(folder = opendir(path)) && errno != ENOENT && errno != ENOTDIR) is_blind = true;
-    }
-    if (folder && is_known) is_said(ndf_gone(&debouncer, path, strlen(path)));
-    bool is_found = is_said(ndf_found(&debouncer, path, strlen(path), stands));
-    if (!folder) return;
-    char **names = names_in(folder);
+/* What is in a folder, or NULL if it can't be read to its end. */
+static char **names_in(const char *path) {
+    DIR *folder = opendir(path);
+    if (!folder) return NULL;
+    LIST(char *) names = {NULL, 0, 0};
+    for (struct dirent *e; errno = 0, (e = readdir(folder));)
+        if (strcmp(e->d_name, ".") && strcmp(e->d_name, "..")) *ADDED(names) = copied(e->d_name);
+    int error = errno;
+    *ADDED(names) = NULL;
     closedir(folder);
+    if (!error) return names.items;
+    free_names(names.items);
+    errno = error;
+    return NULL;
+}
+
+/* Says that it can't be looked at: what is known at the path and below it stands there still. */
+static void keep(const char *path) { is_said(ndf_still(&debouncer, path, strlen(path))); }
+
+static void find(const char *path, const ndf_stands *stands, bool is_known);
+
+/* Looks at what is in a folder. What can't be looked at stands still, if it is the folder that is known. */
+static void find_in(const char *path, char **names, bool is_same) {
     for (char **name = names; *name; name++) {
         char *below = joined(path, *name);
         struct stat s;
-        if (is_found && lstat(below, &s) == 0) {
+        if (lstat(below, &s) == 0) {
             ndf_stands there = stands_of(&s);
             find(below, &there, false);
+        } else if (!is_gone(errno)) {
+            is_blind = true;
+            if (is_same) keep(below);
         }
         free(below);
-        free(*name);
     }
-    free(names);
+}
+
+/* Says that this stands at the path, and if it is a folder, what stands in it. The watch comes first, so that what appears
+ * meanwhile is seen by it or by the listing. What isn't found again is gone, but not what can't be looked at. */
+static void find(const char *path, const ndf_stands *stands, bool is_known) {
+    if (stands->kind != NDF_STANDS_FOLDER) {
+        is_said(ndf_found(&debouncer, path, strlen(path), stands));
+        return;
+    }
+    ndf_stands before = known_at(path);
+    bool is_same = is_one(&before, stands);
+    watch(path, stands);
+    char **names = names_in(path);
+    bool is_closed = !names && !is_gone(errno);
+    if (is_closed) is_blind = true;
+    if (is_closed && is_same) {
+        keep(path);
+        return;
+    }
+    if (is_known) is_said(ndf_gone(&debouncer, path, strlen(path)));
+    if (is_said(ndf_found(&debouncer, path, strlen(path), stands)) && names) find_in(path, names, is_same);
+    free_names(names);
 }
 
 /* Looks at a place; whether all below it was said too. */
 static bool look_at(struct place *place) {
     struct stat s;
     bool is_there = lstat(place->path, &s) == 0;
-    if (!is_there && errno != ENOENT && errno != ENOTDIR) {
+    if (!is_there && !is_gone(errno)) {
         is_blind = true;
         return false;
     }
@@ -387,7 +419,9 @@ static void look(void) {
             if (look_at(&places.items[i])) whole = places.items[i].path;
     look_at_names();
     size_t count;
-    if (is_said(ndf_look_end(&debouncer, &count)) && feed())
+    /* What couldn't be said would be told as gone: the next turn looks at all. */
+    if (was_refused) ndf_look_begin(&debouncer);
+    else if (is_said(ndf_look_end(&debouncer, &count)) && feed())
         for (size_t i = 0; i < places.count; i++)
             if (places.items[i].is_touched) feed_touched(places.items[i].path);
     if (has_strangers) drop_strangers();
@@ -413,7 +447,7 @@ static void check_root(void) {
     struct stat s;
     ndf_stands known = known_at(root), stands = {.known = false};
     if (lstat(root, &s) == 0) stands = stands_of(&s);
-    else if (errno != ENOENT && errno != ENOTDIR) return;
+    else if (!is_gone(errno)) return;
     if (is_one(&known, &stands)) return;
     fprintf(stderr, "watch: %s %s\n", root, !stands.known ? "is gone" : known.known ? "is another one now" : "is there again");
     size_t count;

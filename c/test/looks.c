@@ -110,6 +110,15 @@ static void lose(void) {
         if (is_at_or_below(j, i)) said[j].there = false, touched[j] = true;
 }
 
+static void keep(void) {
+    int i = (int)below(NODES);
+    struct place *over = &said[nodes[i].above];
+    bool fits = i == 0 || (over->there && over->stands.kind != NDF_STANDS_FILE);
+    if (!answered("ndf_still", ndf_still(&h, nodes[i].path, nodes[i].len), fits ? NDF_DONE : NDF_NO_FOLDER, !fits)) return;
+    for (int j = 0; j < NODES; j++)
+        if (is_at_or_below(j, i)) said[j] = known[j], touched[j] = false;
+}
+
 static void change(void) {
     int i = (int)below(NODES);
     if (!answered("ndf_changed", ndf_changed(&h, nodes[i].path, nodes[i].len), NDF_DONE, false)) return;
@@ -228,7 +237,8 @@ int main(int argc, char **argv) {
         uint64_t which = below(100);
         if (which < 2) change();
         else if (which < 45) find();
-        else if (which < 55) lose();
+        else if (which < 53) lose();
+        else if (which < 57) keep();
         else if (which < 62) end();
         else if (which < 63) end_known();
         else if (which < 84) feed();

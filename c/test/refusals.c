@@ -99,6 +99,10 @@ static void story(bool is_journaled) {
     CALL(ndf_look_end(&h, &many));
     if (many != 1) fail("not the event of a file that was written");
     CALL(ndf_look_feed(&h, 0));
+    CALL(ndf_gone(&h, "/l", 2));
+    CALL(ndf_still(&h, "/l", 2));
+    CALL(ndf_look_end(&h, &many));
+    if (many != 0) fail("an event of what stands still");
     CALL(ndf_found(&h, "/l", 2, &file));
     CALL(ndf_gone(&h, "/l/a", 4));
     CALL(ndf_look_begin(&h));

@@ -123,25 +123,36 @@ class Watcher:
 
     def find(self, path, s, is_known):
         """Says that this stands at the path, and if it is a folder, what stands in it. The watch comes before the listing.
-        What isn't found again is gone, unless the folder is closed.
+        What isn't found again is gone, but not what can't be looked at, if it is the folder that is known.
         """
-        names = []
-        if stat.S_ISDIR(s.st_mode):
-            self.watch(path, s)
+        if not stat.S_ISDIR(s.st_mode):
+            self.found(path, s)
+            return
+        before, names = self.known(path), []
+        is_same = bool(before) and before.is_folder and before.number == number_of(s)
+        self.watch(path, s)
+        try:
+            names = os.listdir(path)
+        except OSError as error:
+            if self.is_closed(error) and is_same:
+                self.debouncer.still(path)
+                return
+        if is_known:
+            self.debouncer.gone(path)
+        for name in names if self.found(path, s) else []:
+            below = os.path.join(path, name)
             try:
-                names = os.listdir(path)
+                there = os.lstat(below)
             except OSError as error:
-                self.is_blind |= error.errno not in GONE
+                if self.is_closed(error) and is_same:
+                    self.debouncer.still(below)
             else:
-                if is_known:
-                    self.debouncer.gone(path)
-        if self.found(path, s):
-            for name in names:
-                below = os.path.join(path, name)
-                try:
-                    self.find(below, os.lstat(below), False)
-                except OSError:
-                    pass
+                self.find(below, there, False)
+
+    def is_closed(self, error):
+        """Whether it is no error that says that nothing stands there."""
+        self.is_blind |= error.errno not in GONE
+        return error.errno not in GONE
 
     def look_at(self, path, reason):
         """Looks at a place: whether all below it was said too, and whether it is as it was known."""

@@ -174,6 +174,7 @@ def _load() -> ctypes.CDLL:
         "ndf_look_begin": [],
         "ndf_found": [*text, ctypes.POINTER(Stands)],
         "ndf_gone": text,
+        "ndf_still": text,
         "ndf_changed": text,
         "ndf_look_end": [count],
         "ndf_look_known": [],
@@ -437,6 +438,13 @@ class Debouncer:
         """Says that nothing stands at a path or below it, but what is found there later in the look."""
         text = _bytes(path)
         self._code(_lib.ndf_gone, text, len(text))
+
+    def still(self, path: Path) -> None:
+        """Says that what is known at a path and below it stands there still, whatever was said of it in the look: it can't be
+        looked at.
+        """
+        text = _bytes(path)
+        self._code(_lib.ndf_still, text, len(text))
 
     def changed(self, path: Path) -> None:
         """Says that the file at a path was written, as its length and time may not show."""

@@ -11,7 +11,7 @@ use Rattle.debounce_c.specs.Desk.{DeskValue}
 use Rattle.debounce_c.specs.Desk.Tells.{TellsCounts}
 use Rattle.debounce_c.specs.declared.desk.fault.Fault.{Fault}
 use Rattle.debounce_c.specs.declared.desk.fault.Fault.TheVariants.{Empty, NoMemory, Full, NotText, NoKind, Unread, AtEnd, TooShort, TooManyPaths, BadCounts, NoFolder, Unfed, Begun}
-use Rattle.debounce_c.specs.Programs.{ExportValue, CallsWatch, CallsUnwatch, CallsMode, CallsNumber, CallsForget, CallsNumberOf, CallsEvent, CallsError, CallsTick, CallsOutlook, CallsNext, CallsErrors, CallsNextError, CallsJournal, CallsEntry, CallsEntryEvent, CallsEntryError, CallsCounts, CallsLookBegin, CallsFound, CallsGone, CallsChanged, CallsLookEnd, CallsLookKnown, CallsLookFeed, CallsKnown, AreAnswered, History, IsAnswered, Knows, call_of, done}
+use Rattle.debounce_c.specs.Programs.{ExportValue, CallsWatch, CallsUnwatch, CallsMode, CallsNumber, CallsForget, CallsNumberOf, CallsEvent, CallsError, CallsTick, CallsOutlook, CallsNext, CallsErrors, CallsNextError, CallsJournal, CallsEntry, CallsEntryEvent, CallsEntryError, CallsCounts, CallsLookBegin, CallsFound, CallsGone, CallsStill, CallsChanged, CallsLookEnd, CallsLookKnown, CallsLookFeed, CallsKnown, AreAnswered, History, IsAnswered, Knows, call_of, done}
 
 -- what a call with this code, on a handle that holds s, has left: its step, or s
 pub record Leaves (call : CallValue) (code : ℕ) (s : DeskValue) (new : Option DeskValue) : Type 0 where
@@ -144,6 +144,7 @@ answered CallsLookBegin code s new h =
     answered_for (Looks Begins) code None false (Makes (Looks Begins) s) (λ f. ⊤) s new (λ t step. step) h
 answered (CallsFound path stands) code s new h = answered_late _ code _ _ s new h
 answered (CallsGone path) code s new h = answered_for _ code _ _ _ _ s new (λ t step. step) h
+answered (CallsStill path) code s new h = answered_late _ code _ _ s new h
 answered (CallsChanged path) code s new h = answered_for _ code _ _ _ _ s new (λ t step. step) h
 answered CallsLookEnd code s new (b, c, h) = answered_for _ code _ _ _ _ s new (λ t step. step.0) h
 answered (CallsLookKnown known) code s new (knows, h) =

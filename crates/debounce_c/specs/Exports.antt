@@ -12,7 +12,7 @@ use Rattle.debounce_c.specs.Numbered.Numbers.{number_at, said_numbers}
 use Rattle.debounce_c.specs.Desk.Answers.{Answers}
 use Rattle.debounce_c.specs.Desk.Calls.{Forgets, Keeps, Looks, Makes, Notes, Says, Unwatches, Watches}
 use Rattle.debounce_c.specs.Desk.Codes.{fault_code}
-use Rattle.debounce_c.specs.Desk.Looks.{Begins, Ends, EndsKnown, Finds, IsFedNext, LateAnswers, LeavesLook, Loses, TellsStands, Writes, at_path, end_fault, feed_fault, found_fault, found_of, known_fault, place_fault}
+use Rattle.debounce_c.specs.Desk.Looks.{Begins, Ends, EndsKnown, Finds, IsFedNext, LateAnswers, LeavesLook, Loses, Stays, TellsStands, Writes, at_path, end_fault, feed_fault, found_fault, found_of, known_fault, place_fault}
 use Rattle.debounce_c.specs.Desk.{DeskValue, IsAsked, IsForeseen, IsOpened, IsTicked, entry_at, stepped}
 use Rattle.debounce_c.specs.Desk.Faults.{batch_fault, entry_fault, error_fault, errors_fault, errors_need, event_fault, event_needs, next_error_fault, next_fault, no_fault, text_fault, tick_needs}
 use Rattle.debounce_c.specs.Desk.Said.{error_of, event_of, id_of, mode_of}
@@ -86,6 +86,10 @@ IsFound code path stands = LateAnswers code (found_fault stands path) (place_fau
 -- nothing stands at the path, nor below it
 abbrev pub IsLost : ℕ → List ℕ → Option DeskValue → Option DeskValue → Type 0
 IsLost code path = Answers code (λ s. text_fault path) (λ s. true) (Makes (Looks (Loses (parts_of path)))) (λ f. ⊤)
+
+-- what is known at the path and below it stands there still
+abbrev pub IsKept : ℕ → List ℕ → Option DeskValue → Option DeskValue → Type 0
+IsKept code path = LateAnswers code (text_fault path) (place_fault path) (Makes (Looks (Stays (parts_of path))))
 
 -- the file at the path was written
 abbrev pub IsChanged : ℕ → List ℕ → Option DeskValue → Option DeskValue → Type 0

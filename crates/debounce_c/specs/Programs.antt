@@ -13,7 +13,7 @@ use Rattle.debounce_model.specs.State.{State}
 use Rattle.notify_types.specs.Event.{EventValue}
 use Rattle.poll_listing.specs.Listing.{ListingValue}
 use Rattle.debounce_c.specs.Desk.Calls.{CallValue, Asks, Feeds, FeedsNext, Forgets, IsWrittenDown, Keeps, Looks, MakesAll, Notes, Reads, Says, TellsKnown, Ticks, Unwatches, Watches, changes_journal, commands_of, feeds_by_hand}
-use Rattle.debounce_c.specs.Desk.Looks.{Begins, Ends, EndsKnown, Finds, Loses, Writes, found_of, next_told}
+use Rattle.debounce_c.specs.Desk.Looks.{Begins, Ends, EndsKnown, Finds, Loses, Stays, Writes, found_of, next_told}
 use Rattle.debounce_c.specs.Desk.{DeskValue, IsOpened}
 use Rattle.debounce_c.specs.Desk.Said.{error_of, event_of, id_of, mode_of}
 use Rattle.debounce_c.specs.declared.desk.records.Attributes.{Attributes}
@@ -24,7 +24,7 @@ use Rattle.debounce_c.specs.declared.desk.records.Stands.{Stands}
 use Rattle.debounce_c.specs.declared.desk.records.Told.{Told}
 use Rattle.debounce_c.specs.declared.desk.records.ToldEntry.{ToldEntry}
 use Rattle.debounce_c.specs.declared.desk.records.ToldError.{ToldError}
-use Rattle.debounce_c.specs.Exports.{AreCountsTold, IsChanged, IsEntryErrorTold, IsEntryEventTold, IsEntryTold, IsErrorTold, IsErrorsAnswered, IsFed, IsForgotten, IsFound, IsJournalKept, IsKnownTold, IsLookBegun, IsLookEnded, IsLookKnown, IsLost, IsModeTold, IsNextFed, IsNoted, IsNumbered, IsNumberTold, IsOutlookAnswered, IsTickAnswered, IsTold, IsUnwatched, IsWatched}
+use Rattle.debounce_c.specs.Exports.{AreCountsTold, IsChanged, IsEntryErrorTold, IsEntryEventTold, IsEntryTold, IsErrorTold, IsErrorsAnswered, IsFed, IsForgotten, IsFound, IsJournalKept, IsKept, IsKnownTold, IsLookBegun, IsLookEnded, IsLookKnown, IsLost, IsModeTold, IsNextFed, IsNoted, IsNumbered, IsNumberTold, IsOutlookAnswered, IsTickAnswered, IsTold, IsUnwatched, IsWatched}
 
 -- a call of an export but ndf_new.. and ndf_free, with what it was given; of ndf_look_known also what is known then,
 -- and of ndf_look_feed the event that was the next, if it answered 0
@@ -50,6 +50,7 @@ pub data ExportValue : Type 0 where
   CallsLookBegin : ExportValue
   CallsFound : (path : List ℕ) → (stands : Stands) → ExportValue
   CallsGone : (path : List ℕ) → ExportValue
+  CallsStill : (path : List ℕ) → ExportValue
   CallsChanged : (path : List ℕ) → ExportValue
   CallsLookEnd : ExportValue
   CallsLookKnown : (known : ListingValue) → ExportValue
@@ -92,6 +93,7 @@ IsAnswered CallsCounts code old new = (b c : Counts) × AreCountsTold code b c o
 IsAnswered CallsLookBegin code old new = IsLookBegun code old new
 IsAnswered (CallsFound path stands) code old new = IsFound code path stands old new
 IsAnswered (CallsGone path) code old new = IsLost code path old new
+IsAnswered (CallsStill path) code old new = IsKept code path old new
 IsAnswered (CallsChanged path) code old new = IsChanged code path old new
 IsAnswered CallsLookEnd code old new = (b c : ℕ) × IsLookEnded code b c old new
 IsAnswered (CallsLookKnown known) code old new = (code ≡ 0 → Knows known new) × IsLookKnown code old new
@@ -122,6 +124,7 @@ call_of CallsCounts = Reads
 call_of CallsLookBegin = Looks Begins
 call_of (CallsFound path stands) = Looks (Finds (parts_of path) (found_of stands))
 call_of (CallsGone path) = Looks (Loses (parts_of path))
+call_of (CallsStill path) = Looks (Stays (parts_of path))
 call_of (CallsChanged path) = Looks (Writes (parts_of path))
 call_of CallsLookEnd = Looks Ends
 call_of (CallsLookKnown known) = Looks (EndsKnown known)

@@ -1,6 +1,6 @@
 //! The functions that C calls.
 ghost use Rattle.std.specs.Prelude.{◌≡◌, [], None, Some};
-ghost use Rattle.debounce_c.specs.Exports.{AreCountsTold, IsChanged, IsEntryErrorTold, IsEntryEventTold, IsEntryTold, IsErrorTold, IsErrorsAnswered, IsFed, IsForgotten, IsFound, IsJournalKept, IsKnownTold, IsLookBegun, IsLookEnded, IsLookKnown, IsLost, IsMade, IsModeTold, IsNextFed, IsNoted, IsNumberTold, IsNumbered, IsOutlookAnswered, IsTickAnswered, IsTold, IsUnwatched, IsWatched};
+ghost use Rattle.debounce_c.specs.Exports.{AreCountsTold, IsChanged, IsEntryErrorTold, IsEntryEventTold, IsEntryTold, IsErrorTold, IsErrorsAnswered, IsFed, IsForgotten, IsFound, IsJournalKept, IsKept, IsKnownTold, IsLookBegun, IsLookEnded, IsLookKnown, IsLost, IsMade, IsModeTold, IsNextFed, IsNoted, IsNumberTold, IsNumbered, IsOutlookAnswered, IsTickAnswered, IsTold, IsUnwatched, IsWatched};
 ghost use Rattle.debounce_c.specs.Desk.Faults.{counts_fault};
 ghost use Rattle.debounce_c.specs.Desk.Said.{no_attributes};
 
@@ -246,6 +246,19 @@ pub extern "C" fn ndf_gone(h: &mut Handle, alloc: Global, path: &[u8]) -> u32
         return Fault::Empty.code();
     };
     let code = code_of(looks::lose(&mut desk, alloc, path));
+    h.put(desk);
+    code
+}
+
+/// What is known at the path and below it stands there still, whatever was said of it in the look.
+#[unsafe(no_mangle)]
+pub extern "C" fn ndf_still(h: &mut Handle, alloc: Global, path: &[u8]) -> u32
+    ensures { IsKept result path.now h.old.sealed.desk h.new.sealed.desk }
+{
+    let Some(mut desk) = h.take(alloc) else {
+        return Fault::Empty.code();
+    };
+    let code = code_of(looks::keep(&mut desk, alloc, path));
     h.put(desk);
     code
 }

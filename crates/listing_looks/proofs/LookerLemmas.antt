@@ -64,14 +64,14 @@ unsaid_looker l known handed lost found = record {
   handed = handed;
 }
 
-module _ (l : LookerValue) (law : IsLooker l) (p : PathValue) (lost : List PathValue) (found : ListingValue) where
+module _ (l : LookerValue) (law : IsLooker l) (p : PathValue) (lost : List (PathValue × Bool)) (found : ListingValue) where
   -- nothing stands at a path
-  pub lost_looker : lost ≡ l.lost ++ p ∷ [] → found ≡ found_outside l.found p →
+  pub lost_looker : lost ≡ l.lost ++ (p, true) ∷ [] → found ≡ found_outside l.found p →
       IsLooker (record l { lost = lost; found = found })
       × (said (record l { lost = lost; found = found }) ≡ outside (said l) p)
   lost_looker gone left =
       let is : said (record l { lost = lost; found = found }) ≡ outside (said l) p =
-      ap (λ ps. said_of l.known ps found) gone ∙ (ap (said_of l.known (l.lost ++ p ∷ [])) left
+      ap (λ ps. said_of l.known ps found) gone ∙ (ap (said_of l.known (l.lost ++ (p, true) ∷ [])) left
       ∙ lost_said l.known l.lost l.found p law.known.ordered law.found) in (
         record {
           known = law.known;
@@ -83,13 +83,13 @@ module _ (l : LookerValue) (law : IsLooker l) (p : PathValue) (lost : List PathV
       )
 
   -- this was found at a place, and nothing below it
-  pub anew_looker : (f : Found) → has_place (said l) p ≡ true → lost ≡ l.lost ++ p ∷ [] →
+  pub anew_looker : (f : Found) → has_place (said l) p ≡ true → lost ≡ l.lost ++ (p, true) ∷ [] →
       found ≡ not_below (insert_entry path_cmp l.found p f) p →
       IsLooker (record l { lost = lost; found = found })
       × (said (record l { lost = lost; found = found }) ≡ insert_entry path_cmp (outside (said l) p) p f)
   anew_looker f place gone here =
       let is : said (record l { lost = lost; found = found }) ≡ insert_entry path_cmp (outside (said l) p) p f =
-      ap (λ ps. said_of l.known ps found) gone ∙ (ap (said_of l.known (l.lost ++ p ∷ [])) here
+      ap (λ ps. said_of l.known ps found) gone ∙ (ap (said_of l.known (l.lost ++ (p, true) ∷ [])) here
       ∙ found_anew_said l.known l.lost l.found p f law.known.ordered law.found) in (
         record {
           known = law.known;
@@ -120,17 +120,17 @@ still_looker l law p f found place here =
     )
 
 -- where nothing stands at a path, that is what is said
-pub lost_says : (l old : LookerValue) → IsLooker l → l ≡ old → (p : PathValue) (lost : List PathValue)
-    (found : ListingValue) → lost ≡ l.lost ++ p ∷ [] → found ≡ found_outside l.found p →
+pub lost_says : (l old : LookerValue) → IsLooker l → l ≡ old → (p : PathValue) (lost : List (PathValue × Bool))
+    (found : ListingValue) → lost ≡ l.lost ++ (p, true) ∷ [] → found ≡ found_outside l.found p →
     Says old (outside (said old) p) (record l { lost = lost; found = found })
 lost_says l old law is p lost found gone left =
     subst (λ v. Says v (outside (said v) p) (record l { lost = lost; found = found })) is
     (record { said = (lost_looker l law p lost found gone left).1; rest = refl })
 
 -- where this was found, and nothing below it, that is what is said
-pub anew_says : (l old : LookerValue) → IsLooker l → l ≡ old → (p : PathValue) (lost : List PathValue)
+pub anew_says : (l old : LookerValue) → IsLooker l → l ≡ old → (p : PathValue) (lost : List (PathValue × Bool))
     (found : ListingValue) (f : Found) → has_place (said l) p ≡ true →
-    is_of_other_kind (entry_at (said l) p) f ≡ true → lost ≡ l.lost ++ p ∷ [] →
+    is_of_other_kind (entry_at (said l) p) f ≡ true → lost ≡ l.lost ++ (p, true) ∷ [] →
     found ≡ not_below (insert_entry path_cmp l.found p f) p →
     Says old (found_in (said old) p f) (record l { lost = lost; found = found })
 anew_says l old law is p lost found f place other gone here =

@@ -26,7 +26,7 @@ use Rattle.poll_listing.proofs.ParentLemmas.{each_there}
 use Rattle.poll_listing.proofs.PrefixLemmas.{not_below_itself}
 use Rattle.poll_listing.proofs.UpdateLemmas.{Ascends}
 use Rattle.poll_listing.proofs.WalkLemmas.{has_entry-some}
-use Rattle.listing_looks.specs.Looks.{has_place, holds, is_lost, outside_each, said_of}
+use Rattle.listing_looks.specs.Looks.{has_place, holds, is_lost, is_lost_after, outside_each, said_of}
 
 -- what stands outside a path
 pub outside-finds : (es : ListingValue) (p q : PathValue) →
@@ -40,8 +40,8 @@ outside-finds es p q =
     by true = refl
     by false = refl
 
--- .. and outside some
-outside_each-finds : (es : ListingValue) (tops : List PathValue) (q : PathValue) →
+-- .. and what isn't lost
+outside_each-finds : (es : ListingValue) (tops : List (PathValue × Bool)) (q : PathValue) →
     entry_at (outside_each es tops) q ≡ (if is_lost tops q then None else entry_at es q)
 outside_each-finds es tops q =
     lookup-filter-keys (is_at (path_cmp q)) (λ k. not (is_lost tops k)) (not (is_lost tops q))
@@ -57,31 +57,23 @@ abbrev pub said_at : Option Found → Bool → Option Found → Option Found
 said_at found lost known = option_or found (if lost then None else known)
 
 -- what was found stands there, or else nothing where that was said, or else what is known
-pub said-finds : (known : ListingValue) (lost : List PathValue) (found : ListingValue) → Ascends found →
+pub said-finds : (known : ListingValue) (lost : List (PathValue × Bool)) (found : ListingValue) → Ascends found →
     (q : PathValue) →
     entry_at (said_of known lost found) q ≡ said_at (entry_at found q) (is_lost lost q) (entry_at known q)
 said-finds known lost found s q =
     merged (outside_each known lost) found s q ∙ ap (option_or (entry_at found q)) (outside_each-finds known lost q)
 
 -- what is said is in order
-pub said-sorted : (known : ListingValue) (lost : List PathValue) (found : ListingValue) → Ascends known →
+pub said-sorted : (known : ListingValue) (lost : List (PathValue × Bool)) (found : ListingValue) → Ascends known →
     Ascends (said_of known lost found)
 said-sorted known lost found s =
     sorted_over (outside_each known lost) found (sorted-filter path_cmp_total (λ e. not (is_lost lost e.0)) known s)
 
--- one path more below which nothing stands
-lost-push : (tops : List PathValue) (p q : PathValue) → is_lost (tops ++ p ∷ []) q ≡ (is_lost tops q || is_prefix p q)
-lost-push [] p q = by (is_prefix p q)
-  where
-    by : (b : Bool) → (b || false) ≡ b
-    by true = refl
-    by false = refl
-lost-push (t ∷ tops) p q = by (is_prefix t q) (lost-push tops p q)
-  where
-    by : (b : Bool) → is_lost (tops ++ p ∷ []) q ≡ (is_lost tops q || is_prefix p q) →
-        (b || is_lost (tops ++ p ∷ []) q) ≡ ((b || is_lost tops q) || is_prefix p q)
-    by true more = refl
-    by false more = more
+-- one path more that is lost, or isn't
+pub lost-push : (before : Bool) (tops : List (PathValue × Bool)) (p : PathValue) (lost : Bool) (q : PathValue) →
+    is_lost_after before (tops ++ (p, lost) ∷ []) q ≡ (if is_prefix p q then lost else is_lost_after before tops q)
+lost-push before [] p lost q = refl
+lost-push before (t ∷ tops) p lost q = lost-push (if is_prefix t.0 q then t.1 else before) tops p lost q
 
 -- what was found outside a path
 abbrev pub found_outside : ListingValue → PathValue → ListingValue
@@ -92,31 +84,29 @@ pub outside-sorted : (es : ListingValue) (p : PathValue) → Ascends es → Asce
 outside-sorted es p s = sorted-filter path_cmp_total (λ e. not (is_prefix p e.0)) es s
 
 -- where nothing stands at and below the path, all else is said as before
-pub lost_said : (known : ListingValue) (lost : List PathValue) (found : ListingValue) (p : PathValue) →
+pub lost_said : (known : ListingValue) (lost : List (PathValue × Bool)) (found : ListingValue) (p : PathValue) →
     Ascends known → Ascends found →
-    said_of known (lost ++ p ∷ []) (found_outside found p) ≡ outside (said_of known lost found) p
+    said_of known (lost ++ (p, true) ∷ []) (found_outside found p) ≡ outside (said_of known lost found) p
 lost_said known lost found p k s =
-    same_entries path_cmp_total same_path (said_of known (lost ++ p ∷ []) (found_outside found p))
+    same_entries path_cmp_total same_path (said_of known (lost ++ (p, true) ∷ []) (found_outside found p))
     (outside (said_of known lost found) p)
-    (said-sorted known (lost ++ p ∷ []) (found_outside found p) k)
+    (said-sorted known (lost ++ (p, true) ∷ []) (found_outside found p) k)
     (sorted-filter path_cmp_total (λ e. not (is_prefix p e.0)) (said_of known lost found)
     (said-sorted known lost found k))
-    (λ q. said-finds known (lost ++ p ∷ []) (found_outside found p) (outside-sorted found p s) q
-    ∙ (ap (λ o. said_at o (is_lost (lost ++ p ∷ []) q) (entry_at known q)) (outside-finds found p q)
-    ∙ (ap (λ b. said_at (if is_prefix p q then None else entry_at found q) b (entry_at known q)) (lost-push lost p q)
+    (λ q. said-finds known (lost ++ (p, true) ∷ []) (found_outside found p) (outside-sorted found p s) q
+    ∙ (ap (λ o. said_at o (is_lost (lost ++ (p, true) ∷ []) q) (entry_at known q)) (outside-finds found p q)
+    ∙ (ap (λ b. said_at (if is_prefix p q then None else entry_at found q) b (entry_at known q)) (lost-push false lost p true q)
     ∙ (by (is_prefix p q) (is_lost lost q) (entry_at found q) (entry_at known q)
     ∙ (ap (λ o. if is_prefix p q then None else o) (sym (said-finds known lost found s q))
     ∙ sym (outside-finds (said_of known lost found) p q))))))
   where
     by : (b l : Bool) (f o : Option Found) →
-        said_at (if b then None else f) (l || b) o ≡ (if b then None else said_at f l o)
-    by true true f o = refl
-    by true false f o = refl
-    by false true f o = refl
-    by false false f o = refl
+        said_at (if b then None else f) (if b then true else l) o ≡ (if b then None else said_at f l o)
+    by true l f o = refl
+    by false l f o = refl
 
 -- what was found stands at its path, and all else is said as before
-pub found_said : (known : ListingValue) (lost : List PathValue) (found : ListingValue) (p : PathValue) (f : Found) →
+pub found_said : (known : ListingValue) (lost : List (PathValue × Bool)) (found : ListingValue) (p : PathValue) (f : Found) →
     Ascends known → Ascends found →
     said_of known lost (insert_entry path_cmp found p f) ≡ insert_entry path_cmp (said_of known lost found) p f
 found_said known lost found p f k s =
@@ -174,14 +164,14 @@ put_anew found p f s =
         ∙ sym (outside-finds found p q))
 
 -- once this was found, and what lay below it is gone, it stands there, and all else outside the path is said as before
-pub found_anew_said : (known : ListingValue) (lost : List PathValue) (found : ListingValue) (p : PathValue)
+pub found_anew_said : (known : ListingValue) (lost : List (PathValue × Bool)) (found : ListingValue) (p : PathValue)
     (f : Found) →
     Ascends known → Ascends found →
-    said_of known (lost ++ p ∷ []) (not_below (insert_entry path_cmp found p f) p)
+    said_of known (lost ++ (p, true) ∷ []) (not_below (insert_entry path_cmp found p f) p)
     ≡ insert_entry path_cmp (outside (said_of known lost found) p) p f
 found_anew_said known lost found p f k s =
-    ap (said_of known (lost ++ p ∷ [])) (put_anew found p f s)
-    ∙ (found_said known (lost ++ p ∷ []) (found_outside found p) p f k (outside-sorted found p s)
+    ap (said_of known (lost ++ (p, true) ∷ [])) (put_anew found p f s)
+    ∙ (found_said known (lost ++ (p, true) ∷ []) (found_outside found p) p f k (outside-sorted found p s)
     ∙ ap (λ es. insert_entry path_cmp es p f) (lost_said known lost found p k s))
 
 -- the parts in front of the last one

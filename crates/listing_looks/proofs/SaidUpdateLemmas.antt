@@ -1,5 +1,5 @@
 -- What becomes of what is known, by what was said.
-use Rattle.std.proofs.Common.{◌≡◌, Bool, true, false, ◌&&◌, ◌||◌, List, [], ◌∷◌, cond, refl, ap, sym, subst, ◌∙◌, Option, Some, None}
+use Rattle.std.proofs.Common.{◌≡◌, Bool, true, false, ◌&&◌, ◌||◌, List, [], ◌∷◌, cond, not, refl, ap, sym, subst, ◌∙◌, Option, Some, None}
 use Rattle.std.specs.Prelude.{is_some, if◌then◌else◌}
 use Rattle.std.specs.BTreeMap.{is_at, insert_entry}
 use Rattle.std.specs.List.Sorted.{IsStrictlySortedBy}
@@ -7,7 +7,7 @@ use Rattle.std.proofs.lemmas.Map.Entries.{lookup-filter-keys}
 use Rattle.notify_paths.specs.Path.{PathValue, is_prefix, path_cmp}
 use Rattle.notify_paths.specs.PathLaws.{path_cmp_total}
 use Rattle.notify_paths.proofs.Prefixes.{same_path}
-use Rattle.debounce_model.proofs.Entries.{lookup-insert_other, lookup-insert_same, same_entries, sorted-insert_entry}
+use Rattle.debounce_model.proofs.Entries.{lookup-insert_other, lookup-insert_same, same_entries, sorted-filter, sorted-insert_entry}
 use Rattle.poll_listing.specs.declared.entry.Found.{Found}
 use Rattle.poll_listing.specs.declared.updates.Update.{Update}
 use Rattle.poll_listing.specs.declared.updates.Update.TheVariants.{Gone}
@@ -17,8 +17,8 @@ use Rattle.poll_listing.proofs.BehindLemmas.{at-same}
 use Rattle.poll_listing.proofs.PairLemmas.{entry_at-above}
 use Rattle.poll_listing.proofs.UpdateLemmas.{Ascends, updated-finds, updated-sorted}
 use Rattle.poll_listing.proofs.WalkLemmas.{has_entry-some}
-use Rattle.listing_looks.specs.Looks.{is_lost, said_of}
-use Rattle.listing_looks.specs.SaidUpdates.{all_found, all_gone, each_gone, said_updates, update_to, within}
+use Rattle.listing_looks.specs.Looks.{is_lost, is_lost_after, said_of, within}
+use Rattle.listing_looks.specs.SaidUpdates.{all_found, all_gone, each_gone, said_updates, untold, update_to}
 use Rattle.listing_looks.proofs.SaidLemmas.{said-finds, said-sorted, said_at}
 
 -- what is told last of a path is found, and elsewhere what was told
@@ -63,36 +63,75 @@ within_has es p q =
     by true = refl
     by false = refl
 
--- what lies at and below some paths goes
-each_gone-finds : (known : ListingValue) (tops : List PathValue) (us : UpdatesValue) (q : PathValue) →
-    update_at (each_gone us known tops) q
-    ≡ (if is_lost tops q && has_entry known q then Some Gone else update_at us q)
-each_gone-finds known [] us q = refl
-each_gone-finds known (t ∷ tops) us q =
-    each_gone-finds known tops (all_gone us (within known t)) q
-    ∙ (ap (λ o. if is_lost tops q && has_entry known q then Some Gone else o)
-    (all_gone-finds (within known t) us q
-    ∙ ap (λ b. if b then Some Gone else update_at us q) (within_has known t q))
-    ∙ by (is_prefix t q) (is_lost tops q) (has_entry known q))
+-- .. and nothing of it is told if nothing becomes of it
+untold-finds : (us : UpdatesValue) (p q : PathValue) →
+    update_at (untold us p) q ≡ (if is_prefix p q then None else update_at us q)
+untold-finds us p q =
+    lookup-filter-keys (is_at (path_cmp q)) (λ k. not (is_prefix p k)) (not (is_prefix p q))
+    (λ k h. ap (λ z. not (is_prefix p z)) (sym (at-same q k h))) us
+    ∙ by (is_prefix p q)
   where
-    by : (p l h : Bool) →
-        (if l && h then Some Gone else (if p && h then Some Gone else update_at us q))
-        ≡ (if (p || l) && h then Some Gone else update_at us q)
-    by true true true = refl
-    by true true false = refl
-    by true false true = refl
-    by true false false = refl
-    by false true true = refl
-    by false true false = refl
-    by false false true = refl
-    by false false false = refl
+    by : (b : Bool) → cond (not b) (update_at us q) None ≡ (if b then None else update_at us q)
+    by true = refl
+    by false = refl
+
+-- what is told of a path that was known, if it is lost
+abbrev gone_if : Bool → Bool → Option Update
+gone_if lost known = if lost && known then Some Gone else None
+
+-- the updates, after one more path at and below which all goes or stays
+abbrev one_gone : UpdatesValue → ListingValue → PathValue × Bool → UpdatesValue
+one_gone us known top = if top.1 then all_gone us (within known top.0) else untold us top.0
+
+-- what lies at and below a path goes or stays
+one_gone-finds : (known : ListingValue) (top : PathValue × Bool) (us : UpdatesValue) (q : PathValue) (b : Bool) →
+    update_at us q ≡ gone_if b (has_entry known q) →
+    update_at (one_gone us known top) q ≡ gone_if (if is_prefix top.0 q then top.1 else b) (has_entry known q)
+one_gone-finds known (p, true) us q b before =
+    all_gone-finds (within known p) us q
+    ∙ (ap (λ h. if h then Some Gone else update_at us q) (within_has known p q)
+    ∙ (ap (λ o. if is_prefix p q && has_entry known q then Some Gone else o) before
+    ∙ by (is_prefix p q) (has_entry known q)))
+  where
+    by : (i h : Bool) → (if i && h then Some Gone else gone_if b h) ≡ gone_if (if i then true else b) h
+    by true true = refl
+    by true false = none b
+      where
+        none : (l : Bool) → gone_if l false ≡ None
+        none true = refl
+        none false = refl
+    by false h = refl
+one_gone-finds known (p, false) us q b before =
+    untold-finds us p q
+    ∙ (ap (λ o. if is_prefix p q then None else o) before
+    ∙ by (is_prefix p q))
+  where
+    by : (i : Bool) → (if i then None else gone_if b (has_entry known q))
+        ≡ gone_if (if i then false else b) (has_entry known q)
+    by true = refl
+    by false = refl
+
+-- .. and each in turn
+each_gone-finds : (known : ListingValue) (tops : List (PathValue × Bool)) (us : UpdatesValue) (q : PathValue)
+    (b : Bool) → update_at us q ≡ gone_if b (has_entry known q) →
+    update_at (each_gone us known tops) q ≡ gone_if (is_lost_after b tops q) (has_entry known q)
+each_gone-finds known [] us q b before = before
+each_gone-finds known (t ∷ tops) us q b before =
+    each_gone-finds known tops (one_gone us known t) q (if is_prefix t.0 q then t.1 else b)
+    (one_gone-finds known t us q b before)
 
 -- .. and leaves the updates in order
-each_gone-sorted : (known : ListingValue) (tops : List PathValue) (us : UpdatesValue) → Ascends us →
+one_gone-sorted : (known : ListingValue) (top : PathValue × Bool) (us : UpdatesValue) → Ascends us →
+    Ascends (one_gone us known top)
+one_gone-sorted known (p, true) us s = all_gone-sorted (within known p) us s
+one_gone-sorted known (p, false) us s = sorted-filter path_cmp_total (λ u. not (is_prefix p u.0)) us s
+
+-- .. each in turn too
+each_gone-sorted : (known : ListingValue) (tops : List (PathValue × Bool)) (us : UpdatesValue) → Ascends us →
     Ascends (each_gone us known tops)
 each_gone-sorted known [] us s = s
 each_gone-sorted known (t ∷ tops) us s =
-    each_gone-sorted known tops (all_gone us (within known t)) (all_gone-sorted (within known t) us s)
+    each_gone-sorted known tops (one_gone us known t) (one_gone-sorted known t us s)
 
 -- what becomes of a path where this is known, if this was found, and else this
 abbrev found_or : Option Found → Option Found → Option Update → Option Update
@@ -133,7 +172,7 @@ nothing_sorted : Ascends {X = Update} []
 unfolding IsStrictlySortedBy
 nothing_sorted = tt
 
-module _ (known : ListingValue) (lost : List PathValue) (found : ListingValue) (law : IsListing known)
+module _ (known : ListingValue) (lost : List (PathValue × Bool)) (found : ListingValue) (law : IsListing known)
     (s : Ascends found) where
   -- the updates are in order
   ordered : Ascends (said_updates known lost found)
@@ -144,7 +183,7 @@ module _ (known : ListingValue) (lost : List PathValue) (found : ListingValue) (
       ≡ found_or (entry_at known q) (entry_at found q)
       (if is_lost lost q && is_some (entry_at known q) then Some Gone else None)
   finds q = all_found-finds known found (each_gone [] known lost) s q
-      ∙ (ap (found_or (entry_at known q) (entry_at found q)) (each_gone-finds known lost [] q)
+      ∙ (ap (found_or (entry_at known q) (entry_at found q)) (each_gone-finds known lost [] q false refl)
       ∙ ap (λ h. found_or (entry_at known q) (entry_at found q) (if is_lost lost q && h then Some Gone else None))
       (has_entry-some known q))
 

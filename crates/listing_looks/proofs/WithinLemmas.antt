@@ -18,7 +18,7 @@ use Rattle.poll_listing.specs.Listing.{ListingValue}
 use Rattle.poll_listing.proofs.PairLemmas.{AreAbove, turned}
 use Rattle.poll_listing.proofs.PrefixLemmas.{no_prefix_behind}
 use Rattle.poll_listing.proofs.UpdateLemmas.{Ascends}
-use Rattle.listing_looks.specs.SaidUpdates.{within}
+use Rattle.listing_looks.specs.Looks.{within}
 
 -- the entries from the path on
 abbrev pub from_path : PathValue → ListingValue → ListingValue

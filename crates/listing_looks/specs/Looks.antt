@@ -1,7 +1,6 @@
 -- What a caller says in a look, and what a looker knows once it has ended. Assumes nothing: these are definitions.
-use Rattle.std.specs.Prelude.{◌≡◌, ◌≤◌, ◌-◌, ◌^◌, ℕ, Bool, true, false, not, ◌&&◌, List, [], length, filter, Option, None, Some, is_some, if◌then◌else◌}
+use Rattle.std.specs.Prelude.{◌≡◌, ◌≤◌, ◌-◌, ◌^◌, ℕ, Bool, true, false, not, ◌&&◌, List, [], ◌∷◌, length, filter, Option, None, Some, is_some, if◌then◌else◌}
 use Rattle.std.specs.BTreeMap.{insert_entry}
-use Rattle.std.specs.List.{list_any}
 use Rattle.std.specs.List.Sorted.{IsStrictlySortedBy}
 use Rattle.std.specs.Map.{keys_of}
 use Rattle.notify_paths.specs.Path.{PathValue, is_prefix, path_cmp}
@@ -15,24 +14,29 @@ use Rattle.poll_listing.specs.Near.{outside}
 use Rattle.poll_listing.specs.declared.entry.EntryKind.TheVariants.{File}
 use Rattle.poll_listing.specs.declared.entry.Found.{Found}
 
--- the path lies at or below one of these
-abbrev pub is_lost : List PathValue → PathValue → Bool
-is_lost tops path = list_any (λ top. is_prefix top path) tops
+-- whether a path is lost that was or wasn't so before: as the last of these says that lies at or above it
+abbrev pub is_lost_after : Bool → List (PathValue × Bool) → PathValue → Bool
+is_lost_after before [] path = before
+is_lost_after before (top ∷ tops) path = is_lost_after (if is_prefix top.0 path then top.1 else before) tops path
 
--- the entries that lie at or below none of the paths
-abbrev pub outside_each : ListingValue → List PathValue → ListingValue
+-- the last of these that lies at or above the path is lost
+abbrev pub is_lost : List (PathValue × Bool) → PathValue → Bool
+is_lost tops path = is_lost_after false tops path
+
+-- the entries that aren't lost
+abbrev pub outside_each : ListingValue → List (PathValue × Bool) → ListingValue
 outside_each listing tops = filter (λ e. not (is_lost tops e.0)) listing
 
--- the listing that is said: at and below the lost paths nothing stands, and what was found stands at its paths
-abbrev pub said_of : ListingValue → List PathValue → ListingValue → ListingValue
+-- the listing that is said: what is known and isn't lost, and what was found stands at its paths
+abbrev pub said_of : ListingValue → List (PathValue × Bool) → ListingValue → ListingValue
 said_of known lost found = put_over (outside_each known lost) found
 
--- what was known when the last look ended; what was said since then: at and below these paths nothing stands, but what
--- was found; the first tracker that no event has had, if one is left; the events of the last look, of which so many
--- were handed on; and whether a look has ended
+-- what was known when the last look ended; what was said since then: whether at and below these paths nothing stands,
+-- or what is known, and what was found; the first tracker that no event has had, if one is left; the events of the last
+-- look, of which so many were handed on; and whether a look has ended
 pub record LookerValue : Type 0 where
   pub known : ListingValue
-  pub lost : List PathValue
+  pub lost : List (PathValue × Bool)
   pub found : ListingValue
   pub trackers : Option ℕ
   pub told : List EventValue
@@ -69,6 +73,14 @@ is_of_other_kind (Some before) found = not (is_of_kind before.kind (Some found))
 abbrev pub found_in : ListingValue → PathValue → Found → ListingValue
 found_in listing path found = insert_entry path_cmp
     (if is_of_other_kind (entry_at listing path) found then outside listing path else listing) path found
+
+-- the entries at and below the path
+abbrev pub within : ListingValue → PathValue → ListingValue
+within entries path = filter (λ entry. is_prefix path entry.0) entries
+
+-- the listing once at and below the path there stands what is known there, and nothing else
+abbrev pub kept_in : ListingValue → PathValue → ListingValue → ListingValue
+kept_in listing path known = put_over (outside listing path) (within known path)
 
 -- only what was said in the look has changed: it says this listing now
 pub record Says (old : LookerValue) (listing : ListingValue) (new : LookerValue) : Type 0 where

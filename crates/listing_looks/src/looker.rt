@@ -9,7 +9,7 @@ ghost use Rattle.poll_listing.specs.Changes.{LeadsTo};
 ghost use Rattle.poll_listing.specs.Listing.{IsListing, entry_at};
 ghost use Rattle.poll_listing.specs.Near.{outside};
 ghost use Rattle.poll_listing.specs.declared.entry.Found.{Found};
-ghost use Rattle.listing_looks.specs.Looks.{IsLooker, Says, ended, ended_untold, found_in, has_place, is_of_other_kind, may_hold, new_looker, news, said, unmeasured, unsaid, written_in};
+ghost use Rattle.listing_looks.specs.Looks.{IsLooker, Says, ended, ended_untold, found_in, has_place, is_of_other_kind, kept_in, may_hold, new_looker, news, said, unmeasured, unsaid, written_in};
 
 use crate::said::{is_lost, said_updates};
 use notify_paths::{Error, PathBuf};
@@ -26,9 +26,9 @@ use std::marker::Model;
 #[derive(Drop)]
 pub struct Looker<A: Allocator = Global> {
     known: Listing<A>,
-    /// At and below these paths nothing stands,
-    lost: Vec<PathBuf<A>, A>,
-    /// but what was found.
+    /// Whether at and below these paths nothing stands, or what is known. The last one at or above a path counts,
+    lost: Vec<(PathBuf<A>, bool), A>,
+    /// but what was found stands.
     found: BTreeMap<PathBuf<A>, Found, A>,
     trackers: Option<u64>,
     told: Vec<Event<A>, A>,
@@ -152,7 +152,7 @@ impl<A: Allocator + Copy> Looker<A> {
             return Err(Error::out_of_memory(alloc));
         };
         self.found.retain(|other, _found| !other.is_below(path));
-        self.lost.push_reserved(top);
+        self.lost.push_reserved((top, true));
         Ok(())
     }
 
@@ -182,7 +182,25 @@ impl<A: Allocator + Copy> Looker<A> {
     {
         let alloc = *self.lost.allocator();
         let top = path.try_clone()?;
-        let Ok(()) = self.lost.push(top) else {
+        let Ok(()) = self.lost.push((top, true)) else {
+            return Err(Error::out_of_memory(alloc));
+        };
+        self.found.retain(|other, _found| !other.starts_with(path));
+        Ok(())
+    }
+
+    /// At the path and below it stands what was known when the last look ended, whatever was said of it in this one: it
+    /// can't be looked at. Where nothing was known, nothing stands.
+    pub fn keep(&mut self, path: &PathBuf<A>) -> Result<(), Error<A>>
+        requires { has_place (said self.old) path.now ≡ true }
+        ensures ok { OnOk result
+            (Says self.old (kept_in (said self.old) path.now self.old.known) self.new) }
+        ensures unchanged { OnErr result (self.new ≡ self.old) }
+        ensures err { IfErr result (λ e. e ≡ out_of_memory) }
+    {
+        let alloc = *self.lost.allocator();
+        let top = path.try_clone()?;
+        let Ok(()) = self.lost.push((top, false)) else {
             return Err(Error::out_of_memory(alloc));
         };
         self.found.retain(|other, _found| !other.starts_with(path));

@@ -8,8 +8,8 @@ ghost use Rattle.notify_paths.specs.Path.{path_cmp};
 ghost use Rattle.poll_listing.specs.Listing.{IsListing};
 ghost use Rattle.poll_listing.specs.Pairs.{with_head};
 ghost use Rattle.poll_listing.specs.Updates.{IsUpdate, updated};
-ghost use Rattle.listing_looks.specs.Looks.{is_lost, said_of};
-ghost use Rattle.listing_looks.specs.SaidUpdates.{all_found, all_gone, each_gone, said_updates, update_to, within};
+ghost use Rattle.listing_looks.specs.Looks.{is_lost, said_of, within};
+ghost use Rattle.listing_looks.specs.SaidUpdates.{all_found, all_gone, each_gone, said_updates, untold, update_to};
 
 use notify_paths::PathBuf;
 use poll_listing::{Found, Listing, Update, Updates};
@@ -17,16 +17,17 @@ use std::alloc::{AllocError, Allocator};
 use std::collections::BTreeMap;
 use std::collections::btree_map::Range;
 
-/// Whether the path lies at or below one of these.
-pub(crate) fn is_lost<A: Allocator>(tops: &[PathBuf<A>], path: &PathBuf<A>) -> bool
+/// Whether the last of these that lies at or above the path is lost.
+pub(crate) fn is_lost<A: Allocator>(tops: &[(PathBuf<A>, bool)], path: &PathBuf<A>) -> bool
     ensures { result ≡ is_lost tops.now path.now }
 {
-    for top in tops {
+    let mut gone = false;
+    for (top, lost) in tops {
         if path.starts_with(top) {
-            return true;
+            gone = *lost;
         }
     }
-    false
+    gone
 }
 
 /// Takes the next of the entries, which lie at the path or behind it, if it lies at the path or below it.
@@ -66,17 +67,28 @@ fn tell_gone<A: Allocator + Copy>(
     Ok(())
 }
 
-/// What is known at these paths and below them goes.
+/// Nothing becomes of what is known at the path and below it.
+fn tell_nothing<A: Allocator>(updates: &mut Updates<A>, top: &PathBuf<A>)
+    ensures { updates.new.entries ≡ untold updates.old.entries top.now }
+{
+    updates.retain(|path, _update| !path.starts_with(top));
+}
+
+/// What is known at these paths and below them goes, or stays.
 fn tell_each_gone<A: Allocator + Copy>(
     updates: &mut Updates<A>,
     known: &Listing<A>,
-    tops: &[PathBuf<A>],
+    tops: &[(PathBuf<A>, bool)],
 ) -> Result<(), AllocError>
     ensures { OnOk result (updates.new.entries
         ≡ each_gone updates.old.entries known.now tops.now) }
 {
-    for top in tops {
-        tell_gone(updates, known, top)?;
+    for (top, lost) in tops {
+        if *lost {
+            tell_gone(updates, known, top)?;
+        } else {
+            tell_nothing(updates, top);
+        }
     }
     Ok(())
 }
@@ -111,7 +123,7 @@ fn update_to(before: Option<Found>, found: Found) -> Update
 pub(crate) fn said_updates<A: Allocator + Copy>(
     alloc: A,
     known: &Listing<A>,
-    lost: &[PathBuf<A>],
+    lost: &[(PathBuf<A>, bool)],
     found: &BTreeMap<PathBuf<A>, Found, A>,
 ) -> Result<Updates<A>, AllocError>
     requires known { IsListing known.now }

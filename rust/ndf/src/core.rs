@@ -210,6 +210,13 @@ impl Core {
         done(unsafe { raw::ndf_gone(&mut self.handle, text.as_ptr(), text.len()) })
     }
 
+    /// Says that what is known at a path and below it stands there still, whatever was said of it in the look: it can't be
+    /// looked at. `PathNotFound`: the folder above isn't known.
+    pub fn still(&mut self, path: &Path) -> Result<()> {
+        let text = bytes_of(path);
+        done(unsafe { raw::ndf_still(&mut self.handle, text.as_ptr(), text.len()) })
+    }
+
     /// Says that the file at a path was written, as its length and time may not show.
     pub fn changed(&mut self, path: &Path) -> Result<()> {
         let text = bytes_of(path);

@@ -349,39 +349,70 @@ impl Looks {
         })
     }
 
-    /// Says that a folder that is watched stands at the path, and what stands in it. What isn't found again is gone,
-    /// unless the folder is closed.
+    /// Says that a folder that is watched stands at the path, and what stands in it. What isn't found again is gone, but
+    /// not what can't be looked at, if it is the folder that is known.
     fn find(&mut self, path: &Path, stands: &Stands, is_known: bool, folders: &mut dyn Folders) -> Result<()> {
-        let listing = fs::read_dir(path);
-        if listing.is_ok() && is_known {
+        let is_same = self.is_known_as(path, stands)?;
+        let names = match fs::read_dir(path).and_then(Iterator::collect::<io::Result<Vec<_>>>) {
+            Ok(names) => names,
+            Err(error) if self.is_closed(&error) && is_same => return self.keep(path),
+            Err(_) => Vec::new(),
+        };
+        if is_known {
             self.say(path, |core| core.gone(path))?;
         }
         if !self.say(path, |core| core.found(path, stands))? {
             return Ok(());
         }
-        for entry in listing.into_iter().flatten().flatten() {
+        for entry in names {
             let below = entry.path();
-            let Ok(Some(stands)) = self.standing(&below) else {
-                continue;
-            };
-            if stands.is_folder() && self.lists(&below) {
-                self.watch(&below, &stands, folders);
-                self.find(&below, &stands, false, folders)?;
-            } else {
-                self.say(&below, |core| core.found(&below, &stands))?;
+            match self.standing(&below) {
+                Ok(Some(stands)) if stands.is_folder() && self.lists(&below) => {
+                    self.watch(&below, &stands, folders);
+                    self.find(&below, &stands, false, folders)?;
+                }
+                Ok(Some(stands)) => drop(self.say(&below, |core| core.found(&below, &stands))?),
+                Err(error) if self.is_closed(&error) && is_same => self.keep(&below)?,
+                Ok(None) | Err(_) => {}
             }
         }
         Ok(())
+    }
+
+    /// Whether what is known at the path is this, though it may have been written.
+    fn is_known_as(&mut self, path: &Path, stands: &Stands) -> Result<bool> {
+        match self.core.known(path) {
+            Err(error) if matches!(error.kind, ErrorKind::NotText) => Ok(false),
+            known => Ok(known?.is_some_and(|known| known.is_same(stands))),
+        }
+    }
+
+    /// Whether it is no error that says that nothing stands there.
+    fn is_closed(&mut self, error: &io::Error) -> bool {
+        self.is_blind |= !is_gone(error);
+        !is_gone(error)
+    }
+
+    /// Says that what is known at the path and below it stands there still.
+    fn keep(&mut self, path: &Path) -> Result<()> {
+        self.say(path, |core| core.still(path)).map(drop)
     }
 
     /// A root can lie where no other one reaches.
     fn look_at_roots_below(&mut self, top: &Path, folders: &mut dyn Folders) -> Result<()> {
         let roots: Vec<PathBuf> = self.roots().filter(|root| *root != top && root.starts_with(top)).cloned().collect();
         for root in roots {
-            if let Ok(Some(stands)) = self.standing(&root) {
-                self.find_folders_above(&root)?;
-                self.watch(&root, &stands, folders);
-                self.find(&root, &stands, false, folders)?;
+            match self.standing(&root) {
+                Ok(Some(stands)) => {
+                    self.find_folders_above(&root)?;
+                    self.watch(&root, &stands, folders);
+                    self.find(&root, &stands, false, folders)?;
+                }
+                Ok(None) => {}
+                Err(_) => {
+                    self.find_folders_above(&root)?;
+                    self.keep(&root)?;
+                }
             }
         }
         Ok(())
@@ -390,8 +421,10 @@ impl Looks {
     fn find_folders_above(&mut self, path: &Path) -> Result<()> {
         let above: Vec<&Path> = path.ancestors().skip(1).collect();
         for folder in above.into_iter().rev().filter(|folder| !folder.as_os_str().is_empty()) {
-            if let Ok(Some(stands)) = self.standing(folder) {
-                self.say(folder, |core| core.found(folder, &stands))?;
+            match self.standing(folder) {
+                Ok(Some(stands)) => drop(self.say(folder, |core| core.found(folder, &stands))?),
+                Ok(None) => {}
+                Err(_) => self.keep(folder)?,
             }
         }
         Ok(())

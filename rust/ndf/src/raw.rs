@@ -203,6 +203,7 @@ extern "C" {
     pub fn ndf_look_begin(h: *mut Handle) -> u32;
     pub fn ndf_found(h: *mut Handle, path: *const u8, len: usize, stands: *const Stands) -> u32;
     pub fn ndf_gone(h: *mut Handle, path: *const u8, len: usize) -> u32;
+    pub fn ndf_still(h: *mut Handle, path: *const u8, len: usize) -> u32;
     pub fn ndf_changed(h: *mut Handle, path: *const u8, len: usize) -> u32;
     pub fn ndf_look_end(h: *mut Handle, count: *mut usize) -> u32;
     pub fn ndf_look_known(h: *mut Handle) -> u32;

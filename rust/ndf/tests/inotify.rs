@@ -3,7 +3,7 @@
 #![cfg(target_os = "linux")]
 mod common;
 
-use common::{not_run, within, Room, Told};
+use common::{is_nobody, not_run, within, Room, Told};
 use ndf::{
     new_debouncer, Config, Debouncer, ErrorKind, Event, EventKind, INotifyWatcher, RecommendedWatcher, RecursiveMode,
     Result, Watcher,
@@ -11,7 +11,6 @@ use ndf::{
 use std::fs::{self, DirBuilder, File, Permissions};
 use std::io::{ErrorKind as IoErrorKind, Write};
 use std::os::unix::fs::{symlink, DirBuilderExt, PermissionsExt};
-use std::os::unix::process::CommandExt;
 use std::path::Path;
 use std::process::Command;
 use std::sync::{mpsc, Arc, Mutex};
@@ -88,28 +87,6 @@ fn folders_above_the_limit_are_an_error() {
     make("first/below");
     let is_said = |told: &Told| told.errors.iter().any(|error| matches!(error.kind, ErrorKind::MaxFilesWatch));
     assert!(told.until(|told| is_said(told) && told.events.iter().any(|event| event.need_rescan())));
-}
-
-/// Runs the test as a user who may not read what is closed, in a folder that this user has.
-fn is_nobody(name: &str, room: &Room) -> bool {
-    let closed = room.join("closed");
-    DirBuilder::new().mode(0o0).create(&closed).unwrap();
-    let is_closed = fs::read_dir(&closed).is_err();
-    fs::remove_dir(&closed).unwrap();
-    if is_closed {
-        return true;
-    }
-    // A copy that this process wrote could be busy, by a test beside this one that starts a program meanwhile.
-    let program = room.join("program");
-    let copied = Command::new("cp").arg(std::env::current_exe().unwrap()).arg(&program).status().unwrap();
-    assert!(copied.success());
-    let mut command = Command::new(&program);
-    command.args(["--exact", name, "--nocapture"]).current_dir("/").uid(65534).gid(65534);
-    match command.output() {
-        Err(error) => not_run(name, &error.to_string()),
-        Ok(output) => assert!(output.status.success(), "{}", String::from_utf8_lossy(&output.stdout)),
-    }
-    false
 }
 
 #[test]

@@ -53,6 +53,44 @@ fn whoever_names_places_is_told_what_changed_there() {
     assert!(events.recv().is_err());
 }
 
+#[cfg(unix)]
+#[test]
+fn what_cannot_be_looked_at_stands_still() {
+    use std::os::unix::fs::PermissionsExt;
+    let room = Room::new();
+    if !common::is_nobody("what_cannot_be_looked_at_stands_still", &room) {
+        return;
+    }
+    let close = |path: &str, mode| fs::set_permissions(room.join(path), fs::Permissions::from_mode(mode)).unwrap();
+    for folder in ["d/closed/in", "d/listed/in", "d/other"] {
+        fs::create_dir_all(room.join(folder)).unwrap();
+        fs::write(room.join(folder).join("a"), "").unwrap();
+    }
+    let (sender, events) = mpsc::channel();
+    let looker = Looker::new(sender).unwrap();
+    looker.watch(&room.0, RecursiveMode::Recursive).unwrap();
+    close("d/closed", 0o0);
+    close("d/listed", 0o444);
+    // Another folder stands there, and it is closed too.
+    fs::rename(room.join("d/other"), room.join("d/moved")).unwrap();
+    fs::create_dir(room.join("d/other")).unwrap();
+    close("d/other", 0o0);
+    looker.report_all();
+    let moved = [
+        (FILE_WENT, "d/other/a".into()),
+        (FOLDER_CAME, "d/moved".into()),
+        (FILE_CAME, "d/moved/a".into()),
+        (WRITTEN, "d/other".into()),
+    ];
+    assert_eq!(next(&events, &room, 4), moved);
+    close("d/closed", 0o755);
+    close("d/listed", 0o755);
+    fs::remove_file(room.join("d/closed/in/a")).unwrap();
+    fs::remove_file(room.join("d/listed/in/a")).unwrap();
+    looker.report_all();
+    assert_eq!(next(&events, &room, 2), [(FILE_WENT, "d/closed/in/a".into()), (FILE_WENT, "d/listed/in/a".into())]);
+}
+
 #[cfg(target_os = "linux")]
 #[test]
 fn moves_are_told_as_such() {

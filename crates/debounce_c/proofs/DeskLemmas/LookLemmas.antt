@@ -17,7 +17,7 @@ use Rattle.poll_listing.specs.Listing.{IsListing}
 use Rattle.poll_listing.proofs.HonestLemmas.{and_both}
 use Rattle.listing_looks.specs.Looks.{LookerValue}
 use Rattle.debounce_c.specs.Desk.Calls.{CallValue, Asks, Feeds, FeedsNext, Forgets, Keeps, Looks, MakesAll, Notes, Reads, Says, TellsKnown, Ticks, Unwatches, Watches, commands_of, feeds_by_hand, first_paths, unfed}
-use Rattle.debounce_c.specs.Desk.Looks.{Begins, Ends, EndsKnown, Finds, IsEnded, LookCall, Loses, MakesLook, Writes}
+use Rattle.debounce_c.specs.Desk.Looks.{Begins, Ends, EndsKnown, Finds, IsEnded, LookCall, Loses, MakesLook, Stays, Writes}
 use Rattle.debounce_c.specs.Desk.{DeskValue, IsOpened}
 
 -- from these paths on the events are honest, and they lead to those
@@ -97,6 +97,10 @@ look_on (Finds path found) paths l m made on =
     (ap (λ (k : LookerValue). k.handed) is) (ap (λ (k : LookerValue). keys_of k.known) is) on
 look_on (Loses path) paths l m made on =
     let is = made.rest in
+    still_on paths l m (ap (λ (k : LookerValue). k.begun) is) (ap (λ (k : LookerValue). k.told) is)
+    (ap (λ (k : LookerValue). k.handed) is) (ap (λ (k : LookerValue). keys_of k.known) is) on
+look_on (Stays path) paths l m made on =
+    let is = made.1.rest in
     still_on paths l m (ap (λ (k : LookerValue). k.begun) is) (ap (λ (k : LookerValue). k.told) is)
     (ap (λ (k : LookerValue). k.handed) is) (ap (λ (k : LookerValue). keys_of k.known) is) on
 look_on (Writes path) paths l m made on =
@@ -231,6 +235,11 @@ first (Looks (Finds path found) ∷ calls) replies s t by fresh (m, rest, split,
     (ap (λ (k : LookerValue). keys_of k.known) is) fresh) more)
 first (Looks (Loses path) ∷ calls) replies s t by fresh (m, rest, split, made, more) =
     let is = made.0.rest in
+    rw split (first calls rest m t by
+    (still_fresh s.looker m.looker (ap (λ (k : LookerValue). k.begun) is) (ap (λ (k : LookerValue). k.told) is)
+    (ap (λ (k : LookerValue). keys_of k.known) is) fresh) more)
+first (Looks (Stays path) ∷ calls) replies s t by fresh (m, rest, split, made, more) =
+    let is = made.0.1.rest in
     rw split (first calls rest m t by
     (still_fresh s.looker m.looker (ap (λ (k : LookerValue). k.begun) is) (ap (λ (k : LookerValue). k.told) is)
     (ap (λ (k : LookerValue). keys_of k.known) is) fresh) more)

@@ -17,7 +17,7 @@ use Rattle.poll_listing.specs.Changes.{LeadsTo}
 use Rattle.poll_listing.specs.Listing.{IsListing, ListingValue, entry_at}
 use Rattle.poll_listing.specs.Moves.{is_known}
 use Rattle.poll_listing.specs.Near.{outside}
-use Rattle.listing_looks.specs.Looks.{LookerValue, Says, ended, ended_untold, found_in, has_place, news, said, unsaid, written_in}
+use Rattle.listing_looks.specs.Looks.{LookerValue, Says, ended, ended_untold, found_in, has_place, kept_in, news, said, unsaid, written_in}
 use Rattle.debounce_c.specs.Numbered.Numbers.{said_numbers}
 use Rattle.debounce_c.specs.Desk.Codes.{fault_code}
 use Rattle.debounce_c.specs.Desk.{DeskValue, stepped}
@@ -107,11 +107,12 @@ abbrev pub feed_fault : DeskValue → Option Fault
 feed_fault s =
     if is_some (next_told s) then (if s.core.state.taken == 2 ^ 64 - 1 then Some Full else None) else Some AtEnd
 
--- what a call says in a look; that a file was written; that what was said is forgotten; and that the look ends, and is
--- told or known
+-- what a call says in a look: what was found, what is gone, and where what is known stands still; that a file was
+-- written; that what was said is forgotten; and that the look ends, and is told or known
 pub data LookCall : Type 0 where
   Finds : (path : PathValue) → (found : Found) → LookCall
   Loses : (path : PathValue) → LookCall
+  Stays : (path : PathValue) → LookCall
   Writes : (path : PathValue) → LookCall
   Begins : LookCall
   Ends : LookCall
@@ -139,6 +140,7 @@ pub record IsWrittenAt (l : LookerValue) (path : PathValue) (m : LookerValue) : 
 abbrev pub MakesLook : LookCall → LookerValue → LookerValue → Type 0
 MakesLook (Finds path found) l m = (has_place (said l) path ≡ true) × Says l (found_in (said l) path found) m
 MakesLook (Loses path) l m = Says l (outside (said l) path) m
+MakesLook (Stays path) l m = (has_place (said l) path ≡ true) × Says l (kept_in (said l) path l.known) m
 MakesLook (Writes path) l m = IsWrittenAt l path m
 MakesLook Begins l m = m ≡ unsaid l
 MakesLook Ends l m = IsEnded l m

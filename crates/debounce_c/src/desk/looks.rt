@@ -9,7 +9,7 @@ ghost use Rattle.poll_listing.specs.Listing.{IsListing, entry_at};
 ghost use Rattle.listing_looks.specs.Looks.{ended, ended_untold, has_place, news, said, unsaid};
 ghost use Rattle.debounce_c.specs.Desk.Answers.{Outcome};
 ghost use Rattle.debounce_c.specs.Desk.Faults.{text_fault};
-ghost use Rattle.debounce_c.specs.Desk.Looks.{Ends, EndsKnown, Finds, IsFedNext, IsPlaceFault, LateOutcome, LeavesLook, Loses, TellsStands, Writes, end_fault, entry_device, entry_inode, entry_kind_of, entry_number, feed_fault, found_fault, found_of, known_fault, next_told, place_fault};
+ghost use Rattle.debounce_c.specs.Desk.Looks.{Ends, EndsKnown, Finds, IsFedNext, IsPlaceFault, LateOutcome, LeavesLook, Loses, Stays, TellsStands, Writes, end_fault, entry_device, entry_inode, entry_kind_of, entry_number, feed_fault, found_fault, found_of, known_fault, next_told, place_fault};
 ghost use Rattle.debounce_c.specs.declared.desk.fault.Fault.TheVariants.{NoMemory};
 
 use crate::desk::Desk;
@@ -148,6 +148,20 @@ pub fn lose(desk: &mut Desk, alloc: Global, bytes: &[u8]) -> Result<(), Fault>
     }
     match path_of(alloc, bytes) {
         Ok(path) => desk.lose(&path),
+        Err(fault) => Err(fault),
+    }
+}
+
+/// What is known at the path and below it stands there still.
+pub fn keep(desk: &mut Desk, alloc: Global, bytes: &[u8]) -> Result<(), Fault>
+    ensures { LateOutcome result (text_fault bytes.now) (place_fault bytes.now desk.old)
+        (λ t. LeavesLook (Stays (parts_of bytes.now)) desk.old t) desk.old desk.new }
+{
+    if !is_text(bytes) {
+        return Err(Fault::NotText);
+    }
+    match path_of(alloc, bytes) {
+        Ok(path) => desk.keep(&path),
         Err(fault) => Err(fault),
     }
 }
@@ -311,6 +325,22 @@ impl Desk {
     {
         match self.looker.lose(path) {
             Ok(()) => Ok(()),
+            Err(_) => Err(Fault::NoMemory),
+        }
+    }
+
+    /// What is known at the path and below it stands there still, if the folder in which it stands is there.
+    fn keep(&mut self, path: &PathBuf) -> Result<(), Fault>
+        ensures ok { OnOk result (LeavesLook (Stays path.now) self.old self.new) }
+        ensures err { IfErr result (λ f. IsPlaceFault (has_place (said self.old.looker) path.now) f
+            × (self.new ≡ self.old)) }
+    {
+        match self.looker.has_place(path) {
+            Ok(true) => match self.looker.keep(path) {
+                Ok(()) => Ok(()),
+                Err(_) => Err(Fault::NoMemory),
+            },
+            Ok(false) => Err(Fault::NoFolder),
             Err(_) => Err(Fault::NoMemory),
         }
     }

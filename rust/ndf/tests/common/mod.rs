@@ -3,7 +3,11 @@
 use ndf::{DebounceEventResult, DebouncedEvent, ErrorKind, EventKind};
 use std::fs;
 use std::io::{self, Write};
+#[cfg(unix)]
+use std::os::unix::{fs::DirBuilderExt, process::CommandExt};
 use std::path::{Path, PathBuf};
+#[cfg(unix)]
+use std::process::Command;
 use std::sync::atomic::{AtomicUsize, Ordering};
 use std::sync::mpsc::{self, Receiver};
 use std::thread;
@@ -99,4 +103,27 @@ impl Told {
 /// Says that a test can't be run here, and why: on the standard error itself, which the harness doesn't hold back.
 pub fn not_run(name: &str, why: &str) {
     let _ = writeln!(io::stderr(), "not run: {name}: {why}");
+}
+
+/// Runs the test as a user who may not read what is closed, in a folder that this user has.
+#[cfg(unix)]
+pub fn is_nobody(name: &str, room: &Room) -> bool {
+    let closed = room.join("closed");
+    fs::DirBuilder::new().mode(0o0).create(&closed).unwrap();
+    let is_closed = fs::read_dir(&closed).is_err();
+    fs::remove_dir(&closed).unwrap();
+    if is_closed {
+        return true;
+    }
+    // A copy that this process wrote could be busy, by a test beside this one that starts a program meanwhile.
+    let program = room.join("program");
+    let copied = Command::new("cp").arg(std::env::current_exe().unwrap()).arg(&program).status().unwrap();
+    assert!(copied.success());
+    let mut command = Command::new(&program);
+    command.args(["--exact", name, "--nocapture"]).current_dir("/").uid(65534).gid(65534);
+    match command.output() {
+        Err(error) => not_run(name, &error.to_string()),
+        Ok(output) => assert!(output.status.success(), "{}", String::from_utf8_lossy(&output.stdout)),
+    }
+    false
 }

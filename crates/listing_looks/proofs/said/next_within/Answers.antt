@@ -4,7 +4,7 @@ use Rattle.std.specs.Ordering.{is_lt}
 use Rattle.notify_paths.specs.Path.{PathValue}
 use Rattle.poll_listing.specs.declared.entry.Found.{Found}
 use Rattle.poll_listing.proofs.UpdateLemmas.{Ascends}
-use Rattle.listing_looks.specs.SaidUpdates.{within}
+use Rattle.listing_looks.specs.Looks.{within}
 use Rattle.listing_looks.proofs.WithinLemmas.{none_within, taken-sorted, within-skip}
 use Rattle.listing_looks.proofs.said.next_within.Goals as goal
 

@@ -1,6 +1,6 @@
 use Rattle.std.proofs.Common.{◌≡◌, length}
 use Rattle.poll_listing.proofs.UpdateLemmas.{Ascends}
-use Rattle.listing_looks.specs.SaidUpdates.{within}
+use Rattle.listing_looks.specs.Looks.{within}
 use Rattle.listing_looks.proofs.said.next_within.Given as goal
 
 abbrev pub decreases-loop-path : goal.decreases-loop-path

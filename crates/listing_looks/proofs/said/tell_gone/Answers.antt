@@ -1,6 +1,7 @@
 use Rattle.std.proofs.Common.{◌∙◌, ap, subst, sym}
 use Rattle.poll_listing.proofs.UpdateLemmas.{Ascends}
-use Rattle.listing_looks.specs.SaidUpdates.{all_gone, within}
+use Rattle.listing_looks.specs.Looks.{within}
+use Rattle.listing_looks.specs.SaidUpdates.{all_gone}
 use Rattle.listing_looks.proofs.WithinLemmas.{from_path-sorted, within-from}
 use Rattle.listing_looks.proofs.said.tell_gone.Goals as goal
 

@@ -1,6 +1,7 @@
 use Rattle.std.proofs.Common.{◌≡◌, length}
 use Rattle.poll_listing.proofs.UpdateLemmas.{Ascends}
-use Rattle.listing_looks.specs.SaidUpdates.{all_gone, within}
+use Rattle.listing_looks.specs.Looks.{within}
+use Rattle.listing_looks.specs.SaidUpdates.{all_gone}
 use Rattle.listing_looks.proofs.said.tell_gone.Given as goal
 
 abbrev pub decreases-loop-path : goal.decreases-loop-path

@@ -23,9 +23,9 @@ invariant_of-self-2 g c =
     let f = c.args.found in
     let place : has_place (said l) p ≡ true =
     subst (λ (v : LookerValue). has_place (said v) p ≡ true) (sym c.self.view_is) c.requires.place in
-    let gone : c.push_reserved.new.self.items ≡ l.lost ++ p ∷ [] =
-    c.push_reserved.ensures.items ∙ (ap (λ ps. ps ++ c.in_ok-top.top ∷ []) c.reserve.ensures.items
-    ∙ ap (λ t. l.lost ++ t ∷ []) c.in_ok-top.ensures.ok) in
+    let gone : c.push_reserved.new.self.items ≡ l.lost ++ (p, true) ∷ [] =
+    c.push_reserved.ensures.items ∙ (ap (λ ps. ps ++ (c.in_ok-top.top, true) ∷ []) c.reserve.ensures.items
+    ∙ ap (λ t. l.lost ++ (t, true) ∷ []) c.in_ok-top.ensures.ok) in
     let put : c.insert.new.self.entries ≡ insert_entry path_cmp l.found p f =
     c.in-Ok-insert.ensures.entries ∙ ap (λ t. insert_entry path_cmp l.found t f) c.in_ok-here.ensures.ok in
     let here : c.retain.new.self.entries ≡ not_below (insert_entry path_cmp l.found p f) p =
@@ -51,9 +51,9 @@ returns-clause-ok g c =
     let other : is_of_other_kind (entry_at (said l) p) f ≡ true =
     subst (λ (v : LookerValue). is_of_other_kind (entry_at (said v) p) f ≡ true) (sym c.self.view_is)
     c.requires.other in
-    let gone : c.push_reserved.new.self.items ≡ l.lost ++ p ∷ [] =
-    c.push_reserved.ensures.items ∙ (ap (λ ps. ps ++ c.in_ok-top.top ∷ []) c.reserve.ensures.items
-    ∙ ap (λ t. l.lost ++ t ∷ []) c.in_ok-top.ensures.ok) in
+    let gone : c.push_reserved.new.self.items ≡ l.lost ++ (p, true) ∷ [] =
+    c.push_reserved.ensures.items ∙ (ap (λ ps. ps ++ (c.in_ok-top.top, true) ∷ []) c.reserve.ensures.items
+    ∙ ap (λ t. l.lost ++ (t, true) ∷ []) c.in_ok-top.ensures.ok) in
     let put : c.insert.new.self.entries ≡ insert_entry path_cmp l.found p f =
     c.in-Ok-insert.ensures.entries ∙ ap (λ t. insert_entry path_cmp l.found t f) c.in_ok-here.ensures.ok in
     let here : c.retain.new.self.entries ≡ not_below (insert_entry path_cmp l.found p f) p =

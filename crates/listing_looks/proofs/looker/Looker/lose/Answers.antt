@@ -1,4 +1,4 @@
-use Rattle.std.proofs.Common.{rules, ◌≡◌, ◌∙◌, ◌++◌, ◌∷◌, [], not, ap}
+use Rattle.std.proofs.Common.{rules, ◌≡◌, ◌∙◌, ◌++◌, ◌∷◌, [], true, not, ap}
 use Rattle.std.proofs.lemmas.Map.Made.{filter_same_pairs}
 use Rattle.notify_paths.specs.Path.{is_prefix}
 use Rattle.listing_looks.specs.Looks.{LookerValue}
@@ -18,8 +18,8 @@ invariant_of-self-2 g c =
       begun = c.self.inside.begun;
     } in
     let p = c.args.path.now in
-    let gone : c.push.new.self.items ≡ l.lost ++ p ∷ [] =
-    c.in-Ok.ensures.items ∙ ap (λ t. l.lost ++ t ∷ []) c.in_ok-top.ensures.ok in
+    let gone : c.push.new.self.items ≡ l.lost ++ (p, true) ∷ [] =
+    c.in-Ok.ensures.items ∙ ap (λ t. l.lost ++ (t, true) ∷ []) c.in_ok-top.ensures.ok in
     let left : c.retain.new.self.entries ≡ found_outside l.found p =
     filter_same_pairs _ (λ e. not (is_prefix p e.0)) _ (λ k v b w f' t. search rules) l.found
     c.retain.new.self.entries c.retain.ensures.filtered in
@@ -37,8 +37,8 @@ returns-clause-ok g c =
       begun = c.self.inside.begun;
     } in
     let p = c.args.path.now in
-    let gone : c.push.new.self.items ≡ l.lost ++ p ∷ [] =
-    c.in-Ok.ensures.items ∙ ap (λ t. l.lost ++ t ∷ []) c.in_ok-top.ensures.ok in
+    let gone : c.push.new.self.items ≡ l.lost ++ (p, true) ∷ [] =
+    c.in-Ok.ensures.items ∙ ap (λ t. l.lost ++ (t, true) ∷ []) c.in_ok-top.ensures.ok in
     let left : c.retain.new.self.entries ≡ found_outside l.found p =
     filter_same_pairs _ (λ e. not (is_prefix p e.0)) _ (λ k v b w f' t. search rules) l.found
     c.retain.new.self.entries c.retain.ensures.filtered in
