@@ -2,7 +2,7 @@
 # check_c.sh: builds the C library over what the gate left, or takes that of the folder NDF_LIBRARY, and its users in C, C++,
 # Rust and Python, and runs them. What has no compiler here is not run, which is counted.
 . "$(dirname "$0")/checks.sh" || exit 1
-expects 29
+expects 31
 sanitizers='-g -fsanitize=address,undefined -fno-sanitize-recover=all'
 warnings='-Wall -Wextra -Werror'
 
@@ -99,19 +99,60 @@ follows_overflow() {
     kill -STOP $journal
     (cd tree && seq -f 1/f%.0f 10000 | xargs touch && seq -f 2/f%.0f 10000 | xargs touch && seq 9000 17000 | xargs rmdir)
     kill -CONT $journal
-    sleep 1
+    within 120 says_another && sleep 1
     ends || return 1
     find tree -mindepth 1 | LC_ALL=C sort >there
     played journal | cmp - there
 }
 
+# says_another: a further file is made, and the journal names one that was made so. What is made while the queue is full isn't told.
+says_another() {
+    : >"$(mktemp tree/further.XXXXXX)"
+    grep -q 'tree/further' journal
+}
+
 # says_limit COMMAND..: of more folders than the system watches the command says so, and what else it watches it prints.
 says_limit() {
-    rm -rf tree && mkdir tree && (cd tree && seq 50 | xargs mkdir)
-    (sleep 1; touch tree/new) &
+    rm -rf tree && mkdir tree && (cd tree && seq 50 | xargs mkdir) && : >watching
+    (within 30 grep -q 'watching tree' watching && touch tree/new) &
     unshare -Ur sh -c 'echo 20 >/proc/sys/user/max_inotify_watches && exec "$@"' sh "$@" tree >journal 2>watching
     [ $? = 1 ] && grep -q 'cannot watch tree/[0-9]*: no watch is left' watching && grep -q '31 folders are not watched' watching &&
         grep -qx 'Create(File)	tree/new' journal || { cat watching; return 1; }
+}
+
+# says_all PATH..: the journal names each of them.
+says_all() {
+    local path
+    for path in "$@"; do grep -q "$path\$" journal || return 1; done
+}
+
+# keeps COMMAND..: for who may not open it, what is in a closed folder, or in one whose names alone can be read, isn't removed
+# when the folder above is listed again; and once they are open, both are watched as before.
+keeps() {
+    local status
+    if watches "$@" && mkdir -p tree/d/closed tree/d/listed && : >tree/d/closed/a && : >tree/d/listed/a &&
+        within 30 says_all closed/a listed/a; then
+        kill -STOP $journal
+        chmod 0 tree/d/closed && chmod 444 tree/d/listed && mv tree/d tree/e && mv tree/e tree/d
+        kill -CONT $journal
+        sleep 0.3
+        chmod 755 tree/d/closed tree/d/listed
+        sleep 0.3
+        : >tree/d/closed/b && : >tree/d/listed/b
+        within 30 says_all closed/b listed/b
+    fi
+    ends >ended
+    status=$?
+    grep '^[CR]' journal | LC_ALL=C sort >said_there
+    { [ $status = 0 ] || grep -q '^watch: 1 folders are not watched' ended; } && diff said_there - <<'EOF'
+Create(File)	tree/d/closed/a
+Create(File)	tree/d/closed/b
+Create(File)	tree/d/listed/a
+Create(File)	tree/d/listed/b
+Create(Folder)	tree/d
+Create(Folder)	tree/d/closed
+Create(Folder)	tree/d/listed
+EOF
 }
 
 same_layout() {
@@ -142,6 +183,11 @@ awk '
 # The handle is a bool and an address.
 printf 'Handle 16\nHandle.full 0 1\nHandle.at 8 8\n' | cat - layout.records >layout.all && mv layout.all layout.records
 
+# Root opens what is closed, unless it may not.
+bound=
+[ "$(id -u)" != 0 ] || bound='setpriv --bounding-set=-dac_override,-dac_read_search'
+has ${bound:-true} || bound=none
+
 if has gcc; then
     check 'the records lie in C as in the library' sh -c "gcc -I'$top/c' '$top/c/test/layout.c' -o layout && ./layout >layout.c"
     check 'the records of C are those of the library' same_layout layout.c
@@ -171,12 +217,17 @@ if has gcc; then
     check 'a reader of watch.c has the paths of the folder' follows ./watch --timeout 30 --until-eof
     check 'a reader of watch.c has them after an overflow' follows_overflow ./watch --timeout 30 --initial --until-eof
     if unshare -Ur sh -c 'echo 20 >/proc/sys/user/max_inotify_watches' 2>/dev/null; then
-        check 'watch.c says that no watch is left' says_limit ./watch --timeout 30 --seconds 2
+        check 'watch.c says that no watch is left' says_limit ./watch --timeout 30 --seconds 4
     else
         not_run 1 'no namespace of users' 'the limit of watches'
     fi
+    if [ "$bound" != none ]; then
+        check 'what watch.c may not open stays' keeps $bound ./watch --timeout 40 --until-eof
+    else
+        not_run 1 'no setpriv' 'what watch.c may not open'
+    fi
 else
-    not_run 13 'no gcc' 'users in C'
+    not_run 14 'no gcc' 'users in C'
 fi
 if has g++; then
     check 'the class of C++' sh -c "g++ -std=c++17 $warnings $sanitizers -I'$top/c' -c '$top/c/test/wrapper.cpp' -o wrapper.o &&
@@ -207,12 +258,17 @@ if has python3; then
     check 'after each two operations a reader of watch.py has what stands there' python3 "$top/c/test/pairs.py" \
         python3 "$top/python/examples/watch.py" --timeout 300 --until-eof
     cat said
+    if [ "$bound" != none ]; then
+        check 'what watch.py may not open stays' keeps $bound python3 "$top/python/examples/watch.py" --timeout 40 --until-eof
+    else
+        not_run 1 'no setpriv' 'what watch.py may not open'
+    fi
     check 'the class of Python' python3 "$top/python/tests/test_ndf.py"
     check 'file numbers as the Rust crate has them' python3 "$top/python/tests/test_numbers.py"
     check 'the records lie in Python as in the library' sh -c "python3 '$top/python/tests/layout.py' >layout.python"
     check 'the records of Python are those of the library' same_layout layout.python
 else
-    not_run 8 'no python3' 'users in Python'
+    not_run 9 'no python3' 'users in Python'
 fi
 if has cargo; then
     export NDF_LIB=$room CARGO_TARGET_DIR=$room/target

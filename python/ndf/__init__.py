@@ -440,8 +440,8 @@ class Debouncer:
         self._code(_lib.ndf_gone, text, len(text))
 
     def still(self, path: Path) -> None:
-        """Says that what is known at a path and below it stands there still, whatever was said of it in the look: it can't be
-        looked at.
+        """Says that what is known at a path and below it stands there still, whatever was said of it in the look: it
+        can't be looked at.
         """
         text = _bytes(path)
         self._code(_lib.ndf_still, text, len(text))

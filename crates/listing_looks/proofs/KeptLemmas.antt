@@ -1,5 +1,5 @@
 -- What is known at a path and below it stands there still, whatever was said of it.
-use Rattle.std.proofs.Common.{◌≡◌, ◌∙◌, Bool, true, false, not, ◌&&◌, [], ◌∷◌, ◌++◌, cond, refl, ap, sym, subst, Option, Some, None, true≢false}
+use Rattle.std.proofs.Common.{◌≡◌, ◌∙◌, Bool, true, false, [], ◌∷◌, ◌++◌, cond, refl, ap, sym, subst, Option, Some, None, true≢false}
 use Rattle.std.specs.Prelude.{List, is_some, if◌then◌else◌}
 use Rattle.std.specs.BTreeMap.{is_at}
 use Rattle.std.specs.List.{list_all}
@@ -9,12 +9,11 @@ use Rattle.std.proofs.lemmas.Map.Entries.{lookup-filter-keys}
 use Rattle.notify_paths.specs.Path.{PathValue, PartValue, is_prefix, part_eq, path_cmp}
 use Rattle.notify_paths.specs.PathLaws.{part_eq_decides, path_cmp_total}
 use Rattle.notify_paths.proofs.Prefixes.{same_path}
-use Rattle.debounce_model.specs.Honest.{folders_of, has_folders}
+use Rattle.debounce_model.specs.Honest.{has_folders}
 use Rattle.debounce_model.specs.Play.{has_path}
 use Rattle.debounce_model.proofs.Entries.{same_entries, sorted-filter}
 use Rattle.poll_listing.specs.declared.entry.Found.{Found}
 use Rattle.poll_listing.specs.Listing.{IsListing, ListingValue, entry_at, has_entry, is_nonempty}
-use Rattle.poll_listing.specs.MergedListings.{put_over}
 use Rattle.poll_listing.specs.Near.{outside}
 use Rattle.poll_listing.proofs.BehindLemmas.{at-same, prefix-append}
 use Rattle.poll_listing.proofs.HonestLemmas.{each-there}

@@ -1,5 +1,5 @@
 -- What is said stands at each path, and what a call that says something makes of it.
-use Rattle.std.proofs.Common.{◌≡◌, suc, ◌+◌, ◌-◌, arith, take, length-append, Bool, true, false, not, ◌&&◌, ◌||◌, List, [], ◌∷◌, ◌++◌, cond, filter, length, refl, ap, sym, subst, ◌∙◌, Option, Some, None, true≢false}
+use Rattle.std.proofs.Common.{◌≡◌, suc, ◌+◌, ◌-◌, arith, take, length-append, Bool, true, false, not, ◌&&◌, List, [], ◌∷◌, ◌++◌, cond, filter, length, refl, ap, sym, subst, ◌∙◌, Option, Some, None, true≢false}
 use Rattle.std.specs.Prelude.{is_some, if◌then◌else◌}
 use Rattle.std.specs.BTreeMap.{is_at, insert_entry}
 use Rattle.std.specs.List.{list_all}
