@@ -64,7 +64,8 @@ unsaid_looker l known handed lost found = record {
   handed = handed;
 }
 
-module _ (l : LookerValue) (law : IsLooker l) (p : PathValue) (lost : List (PathValue × Bool)) (found : ListingValue) where
+module _ (l : LookerValue) (law : IsLooker l) (p : PathValue) (lost : List (PathValue × Bool))
+    (found : ListingValue) where
   -- nothing stands at a path
   pub lost_looker : lost ≡ l.lost ++ (p, true) ∷ [] → found ≡ found_outside l.found p →
       IsLooker (record l { lost = lost; found = found })

@@ -95,7 +95,8 @@ lost_said known lost found p k s =
     (said-sorted known lost found k))
     (λ q. said-finds known (lost ++ (p, true) ∷ []) (found_outside found p) (outside-sorted found p s) q
     ∙ (ap (λ o. said_at o (is_lost (lost ++ (p, true) ∷ []) q) (entry_at known q)) (outside-finds found p q)
-    ∙ (ap (λ b. said_at (if is_prefix p q then None else entry_at found q) b (entry_at known q)) (lost-push false lost p true q)
+    ∙ (ap (λ b. said_at (if is_prefix p q then None else entry_at found q) b (entry_at known q))
+    (lost-push false lost p true q)
     ∙ (by (is_prefix p q) (is_lost lost q) (entry_at found q) (entry_at known q)
     ∙ (ap (λ o. if is_prefix p q then None else o) (sym (said-finds known lost found s q))
     ∙ sym (outside-finds (said_of known lost found) p q))))))
@@ -106,8 +107,8 @@ lost_said known lost found p k s =
     by false l f o = refl
 
 -- what was found stands at its path, and all else is said as before
-pub found_said : (known : ListingValue) (lost : List (PathValue × Bool)) (found : ListingValue) (p : PathValue) (f : Found) →
-    Ascends known → Ascends found →
+pub found_said : (known : ListingValue) (lost : List (PathValue × Bool)) (found : ListingValue) (p : PathValue)
+    (f : Found) → Ascends known → Ascends found →
     said_of known lost (insert_entry path_cmp found p f) ≡ insert_entry path_cmp (said_of known lost found) p f
 found_said known lost found p f k s =
     same_entries path_cmp_total same_path (said_of known lost new)

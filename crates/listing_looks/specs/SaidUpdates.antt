@@ -18,7 +18,8 @@ all_gone updates (entry ∷ entries) = all_gone (insert_entry path_cmp updates e
 abbrev pub untold : UpdatesValue → PathValue → UpdatesValue
 untold updates path = filter (λ update. not (is_prefix path update.0)) updates
 
--- the updates by which what lies at and below these paths goes, or isn't updated, added to what is to be updated already
+-- the updates by which what lies at and below these paths goes, or isn't updated, added to what is to be updated
+-- already
 abbrev pub each_gone : UpdatesValue → ListingValue → List (PathValue × Bool) → UpdatesValue
 each_gone updates known [] = updates
 each_gone updates known (top ∷ tops) =
