@@ -5,11 +5,13 @@ ghost use Rattle.debounce_model.specs.Memory.{skips_it};
 ghost use Rattle.debounce_model.specs.Queues.{push};
 ghost use Rattle.debounce_queues.specs.Fronts.{IsIndexed};
 
+use crate::front::Front;
 use crate::index::IndexedMap;
 use crate::queue::Queue;
 use debounce_model::first_path;
 use notify_types::DebouncedEvent;
 use std::alloc::{AllocError, Allocator};
+use std::collections::btree_map::Entry;
 
 impl<A: Allocator + Copy> IndexedMap<A> {
     /// Puts the event after the others of its first path, unless their queue skips it; a path that has no
@@ -24,12 +26,27 @@ impl<A: Allocator + Copy> IndexedMap<A> {
         ensures indexed { IsIndexed self.new.fronts self.new.map.entries }
     {
         let path = first_path(&event);
-        if let Some(queue) = self.map.get_mut(path) {
-            return queue.append(event);
-        }
         let time = event.time();
-        let key = path.clone()?;
-        let queue = Queue::single(self.alloc, event)?;
-        self.put_first(key, time, queue)
+        let Ok(key) = path.clone() else {
+            return match self.map.get_mut(path) {
+                Some(queue) => queue.append(event),
+                None => Err(AllocError),
+            };
+        };
+        let alloc = self.alloc;
+        match self.map.entry(key) {
+            Err(_) => Err(AllocError),
+            Ok(Entry::Occupied(place)) => place.into_mut().append(event),
+            Ok(Entry::Vacant(place)) => {
+                let queue = Queue::single(alloc, event)?;
+                self.spare.reserve(place.key())?;
+                self.fronts.insert(Front {
+                    time,
+                    path: place.key().clone()?,
+                })?;
+                let _queue = place.insert(queue);
+                Ok(())
+            }
+        }
     }
 }
