@@ -1,5 +1,6 @@
 -- One more event from the back of the reversed list.
-use Rattle.std.proofs.Common.{◌≡◌, ◌∙◌, ◌+◌, ◌++◌, ap, arith, length, length-append, drop}
+use Rattle.std.proofs.Common.{◌≡◌, ◌∙◌, ◌+◌, ◌++◌, ap, append-nil, arith, length, length-append, drop, sym, take}
+use Rattle.std.proofs.lemmas.List.{take-append-drop}
 use Rattle.std.specs.Prelude.{reverse}
 use Rattle.debounce_model.specs.Due.{last_of_kind}
 use Rattle.debounce_queues.specs.Due.{unless_later}
@@ -51,3 +52,17 @@ loop-event-preserved g c =
       kept = c.pop_above.ensures.kept ∙ i.kept;
       bound = c.pop_above.ensures.bound i.bound;
     }
+
+pub returns-clause-moved : goal.returns-clause-moved
+returns-clause-moved g c =
+    let l = c.loop-event in
+    sym (append-nil l.out.items)
+    ∙ sym (ap (λ xs. l.out.items ++ last_of_kind (reverse xs)) c.in_default.ensures.none) ∙ l.invariant.moved
+
+pub returns-clause-left : goal.returns-clause-left
+returns-clause-left g c =
+    let l = c.loop-event in
+    let n = c.args.left in
+    c.in_default.ensures.same ∙ sym (take-append-drop n l.events.items)
+    ∙ ap (λ xs. take n l.events.items ++ xs) c.in_default.ensures.none ∙ append-nil (take n l.events.items)
+    ∙ l.invariant.kept
