@@ -17,15 +17,15 @@ const FOLDER_REMOVAL: EventKind = EventKind::Remove(RemoveKind::Folder);
 /// How many folders or modified files a workload has.
 pub const FOLDERS: u64 = 1000;
 
-fn event_at(alloc: Global, kind: EventKind, text: &str) -> Result<Event> {
-    let path = PathBuf::parse(alloc, text)?;
+fn event_at(alloc: Global, kind: EventKind, text: String) -> Result<Event> {
+    let path = PathBuf::from_string(text)?;
     Ok(Event::new(alloc, kind).add_path(path)?)
 }
 
 /// A creation of the file i in its folder.
 fn creation(alloc: Global, i: u64) -> Result<Event> {
     let text = format!(in alloc; "/d{}/f{i}", i % FOLDERS)?;
-    event_at(alloc, CREATION, text.as_str())
+    event_at(alloc, CREATION, text)
 }
 
 /// Returns creations of the files 0 to n - 1.
@@ -39,7 +39,7 @@ pub fn creations(alloc: Global, n: u64) -> Result<Vec<Event>> {
 
 fn modification(alloc: Global, i: u64) -> Result<Event> {
     let text = format!(in alloc; "/m{}", i % FOLDERS)?;
-    event_at(alloc, MODIFICATION, text.as_str())
+    event_at(alloc, MODIFICATION, text)
 }
 
 /// Returns n modifications of a thousand files in turn.
@@ -54,11 +54,7 @@ pub fn modifications(alloc: Global, n: u64) -> Result<Vec<Event>> {
 /// One half of the rename of file i.
 fn half(alloc: Global, mode: RenameMode, letter: char, i: u64) -> Result<Event> {
     let text = format!(in alloc; "/d{}/{letter}{i}", i % FOLDERS)?;
-    let event = event_at(
-        alloc,
-        EventKind::Modify(ModifyKind::Name(mode)),
-        text.as_str(),
-    )?;
+    let event = event_at(alloc, EventKind::Modify(ModifyKind::Name(mode)), text)?;
     Ok(event.set_tracker(i))
 }
 
@@ -74,7 +70,7 @@ pub fn renames(alloc: Global, n: u64) -> Result<Vec<Event>> {
 
 fn folder_removal(alloc: Global, i: u64) -> Result<Event> {
     let text = format!(in alloc; "/d{i}")?;
-    event_at(alloc, FOLDER_REMOVAL, text.as_str())
+    event_at(alloc, FOLDER_REMOVAL, text)
 }
 
 /// Returns a removal of each folder.
@@ -107,7 +103,7 @@ impl Scattered {
 
 fn scattered_event(alloc: Global, path: u64, time: u64) -> Result<DebouncedEvent> {
     let text = format!(in alloc; "/s{path}")?;
-    let event = event_at(alloc, MODIFICATION, text.as_str())?;
+    let event = event_at(alloc, MODIFICATION, text)?;
     Ok(DebouncedEvent::new(event, u128::from(time)))
 }
 

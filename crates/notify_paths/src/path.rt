@@ -17,7 +17,9 @@ ghost use Rattle.notify_paths.specs.PathView.{parts_left, folders_left, path_fee
 use crate::error::Error;
 use crate::order::cmp_texts;
 use crate::part::{FoldersAbove, Parts, part_of_component};
-use crate::text::{begins_with, is_proper_name, joined_text, make_room, normal_text, text_past};
+use crate::text::{
+    begins_with, is_proper_name, joined_text, make_room, normal_text, own_text, text_past,
+};
 use std::alloc::{AllocError, Allocator, Global};
 use std::cmp::Ordering;
 use std::hash::{Hash, Hasher};
@@ -64,6 +66,19 @@ impl<A: Allocator + Copy> PathBuf<A> {
         Ok(PathBuf {
             text: normal_text(alloc, text)?,
         })
+    }
+
+    /// Returns the path that the text is, as `parse` does. A text that its parts are written as is taken over,
+    /// which needs no memory; only the root's is written anew.
+    pub fn from_string(text: String<A>) -> Result<PathBuf<A>, Error<A>>
+        ensures ok { IfOk result (λ path. path ≡ parts_of (string_bytes text)) }
+        ensures err { IfErr result (λ e. e ≡ out_of_memory) }
+    {
+        let alloc = *text.allocator();
+        match own_text(text) {
+            Ok(text) => Ok(PathBuf { text }),
+            Err(_) => Err(Error::out_of_memory(alloc)),
+        }
     }
 
     /// Returns a copy of the path's text: its parts joined by `/`, after one `/` if it has a root.

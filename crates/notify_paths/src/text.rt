@@ -172,6 +172,17 @@ pub(crate) fn normal_text<A: Allocator>(alloc: A, path: &str) -> Result<String<A
     }
 }
 
+/// The one text that the parts of this text are written as. Most texts are that already, and are
+/// taken over.
+pub(crate) fn own_text<A: Allocator + Copy>(path: String<A>) -> Result<String<A>, AllocError>
+    ensures { IfOk result (λ text. string_bytes text ≡ text_of (parts_of (string_bytes path))) }
+{
+    if names_follow(path.as_bytes()) {
+        return Ok(path);
+    }
+    written_text(*path.allocator(), path.as_str())
+}
+
 /// Whether the text is a slash.
 pub(crate) fn is_root(text: &[u8]) -> bool
     ensures { result ≡ is_root text.now }
