@@ -7,7 +7,7 @@ ghost use Rattle.notify_paths.specs.PathText.{parts_of, IsNormal};
 ghost use Rattle.notify_paths.specs.PathView.{component_part};
 ghost use Rattle.notify_paths.specs.TextSteps.{common_bytes, order_text, is_dots, text_rank, word_in};
 
-use crate::first_words::{order_by_short_words, order_by_words};
+use crate::first_words::order_by_words;
 use crate::text::byte_or_slash;
 use std::cmp::Ordering;
 use std::path::{Component, Path};
@@ -168,9 +168,6 @@ fn cmp_closely(a: &str, b: &str) -> Ordering
     requires b { IsNormal b.now }
     ensures { result ≡ path_cmp (parts_of a.now) (parts_of b.now) }
 {
-    if let Some(order) = order_by_short_words(a.as_bytes(), b.as_bytes()) {
-        return order;
-    }
     match order_of_texts(a.as_bytes(), b.as_bytes()) {
         Some(order) => order,
         None => cmp_components(a, b),
