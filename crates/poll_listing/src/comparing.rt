@@ -139,21 +139,8 @@ fn compare_entries<A: Allocator + Copy>(
     parts.into_events()
 }
 
-/// Returns what the updates change of the listing, as [`compare`] does with the listing after them. No entry
-/// before the first update is looked at, and if nothing goes, none behind the last.
-pub fn compare_updates<A: Allocator + Copy>(
-    alloc: A,
-    old: &Listing<A>,
-    updates: &Updates<A>,
-) -> Result<Vec<Event<A>, A>, Error<A>>
-    requires { IsUpdate old.now updates.now.entries }
-    ensures ok { IfOk result (λ events. events.items
-        ≡ changes old.now (updated old.now updates.now.entries)) }
-    ensures err { IfErr result (λ e. e ≡ out_of_memory) }
-{
-    update_events(alloc, &old.entries, updates).map_err(|_| Error::out_of_memory(alloc))
-}
-
+/// What the updates change of the listing, as [`compare`] says it of the listing after them. No entry before the
+/// first update is looked at, and if nothing goes, none behind the last.
 pub(crate) fn update_events<A: Allocator + Copy>(
     alloc: A,
     old: &BTreeMap<PathBuf<A>, Found, A>,

@@ -22,7 +22,7 @@ mod near;
 mod pairs;
 mod updates;
 
-pub use comparing::{compare, compare_updates};
+pub use comparing::compare;
 pub use entry::{EntryKind, FileNumber, Found};
 pub use listing::Listing;
 pub use moves::{compare_moves, trackers_after};

@@ -19,7 +19,8 @@ use notify_types::Event;
 use std::alloc::{AllocError, Allocator};
 use std::marker::Model;
 
-/// Returns what the updates change of the listing, as [`compare_updates`](crate::comparing::compare_updates) does.
+/// Returns what the updates change of the listing, as [`compare`](crate::comparing::compare) does with the listing
+/// after them. No entry before the first update is looked at, and if nothing goes, none behind the last.
 /// If a tracker is given, the removal of what moved and the event of its new path have one tracker, and so has
 /// the creation of what came along with a folder: it, and how many events stand before the removal. Without it
 /// no event has one, nor has any that would be more than 64 bits.
