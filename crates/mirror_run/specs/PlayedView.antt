@@ -1,6 +1,5 @@
 -- What runs and what they print are, over the commands and replies of the code.
 use Rattle.std.specs.Prelude.{ℕ, List, ◌++◌, Option, Some}
-use Rattle.std.specs.Option.{option_map}
 use Rattle.std.specs.String.{string_bytes}
 use Rattle.std.specs.declared.string.String.{String}
 use Rattle.debounce_model.specs.CommandView.{command_value, reply_value, command_values, reply_values}
@@ -17,6 +16,14 @@ use Rattle.mirror_run.specs.declared.transcript.Report.{Report}
 use Rattle.mirror_run.specs.Output.{Prints, Begins}
 use Rattle.mirror_run.specs.Printed.{words_field, tracker_words, info_words, rescan_words, replies_lines, reply_lines, batch_lines}
 use Rattle.mirror_run.specs.Transcript.{PlayedValue, IsRunFrom, IsRunOf, transcript, ending_lines}
+
+-- the options without a tracker
+abbrev pub untracked_field : Option (List ℕ) → Option Flag → List ℕ
+untracked_field info flag = words_field (info_words info ++ rescan_words flag)
+
+-- the options with this tracker
+abbrev pub tracked_field : ℕ → Option (List ℕ) → Option Flag → List ℕ
+tracked_field tracker info flag = words_field (tracker_words (Some tracker) ++ (info_words info ++ rescan_words flag))
 
 module _ {Z : Type 0} where
   -- a run of the code as a value
@@ -36,16 +43,6 @@ module _ {Z : Type 0} where
   -- a run of the commands, from one debouncer to another
   abbrev pub IsCarriedOut : {C : Type 0} → Core C → Paths → List (Command Z) → Core C → PlayedValue → Type 0
   IsCarriedOut s start commands t p = IsRunFrom s start (command_values commands) t p
-
-  -- the options without a tracker
-  abbrev pub untracked_field : Option (String Z) → Option Flag → List ℕ
-  untracked_field info flag = words_field (info_words (option_map string_bytes info) ++ rescan_words flag)
-
-  -- the options with this tracker
-  abbrev pub tracked_field : ℕ → Option (String Z) → Option Flag → List ℕ
-  tracked_field tracker info flag =
-      words_field (tracker_words (Some tracker)
-      ++ (info_words (option_map string_bytes info) ++ rescan_words flag))
 
   -- what the replies print
   abbrev pub printed_replies : List (Command Z) → List (Reply Z) → List ℕ

@@ -1,5 +1,6 @@
 //! What a run prints, line by line, into one `String`.
 ghost use Rattle.std.specs.Prelude.{◌≡◌, ◌++◌, ◌∷◌, OnOk};
+ghost use Rattle.std.specs.Option.{option_copied};
 ghost use Rattle.std.specs.String.{string_bytes};
 ghost use Rattle.notify_paths.specs.ErrorView.{kind_value};
 ghost use Rattle.mirror_run.specs.Printed.{path_field, path_fields, options_field, event_line, batch_line, error_word, errors_line, error_line, refused_line, counts_line, paths_line, event_lines, error_lines, errors_lines, answer_line};
@@ -46,20 +47,20 @@ pub fn push_options<A: Allocator, B: Allocator>(
     ensures { OnOk result (string_bytes text.new ≡ string_bytes text.old
         ++ options_field attrs.now) }
 {
-    match attrs.tracker {
-        None => push_untracked(text, &attrs.info, attrs.flag),
-        Some(tracker) => push_tracked(text, tracker, &attrs.info, attrs.flag),
+    match attrs.tracker() {
+        None => push_untracked(text, attrs.info(), attrs.flag()),
+        Some(tracker) => push_tracked(text, tracker, attrs.info(), attrs.flag()),
     }
 }
 
 /// Appends the options of an event without a tracker.
-fn push_untracked<A: Allocator, B: Allocator>(
+fn push_untracked<A: Allocator>(
     text: &mut String<A>,
-    info: &Option<String<B>>,
+    info: Option<&str>,
     flag: Option<Flag>,
 ) -> Result<(), AllocError>
     ensures { OnOk result (string_bytes text.new ≡ string_bytes text.old
-        ++ untracked_field info.now flag) }
+        ++ untracked_field (option_copied info.entry) flag) }
 {
     match (info, flag) {
         (None, None) => text.push('-'),
@@ -70,14 +71,14 @@ fn push_untracked<A: Allocator, B: Allocator>(
 }
 
 /// Appends the options of an event with this tracker.
-fn push_tracked<A: Allocator, B: Allocator>(
+fn push_tracked<A: Allocator>(
     text: &mut String<A>,
     tracker: u64,
-    info: &Option<String<B>>,
+    info: Option<&str>,
     flag: Option<Flag>,
 ) -> Result<(), AllocError>
     ensures { OnOk result (string_bytes text.new ≡ string_bytes text.old
-        ++ tracked_field tracker info.now flag) }
+        ++ tracked_field tracker (option_copied info.entry) flag) }
 {
     match (info, flag) {
         (None, None) => write!(text, "tracker={tracker}"),

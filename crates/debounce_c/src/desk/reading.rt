@@ -1,5 +1,5 @@
 //! What C says of an event and of an error, as the core takes it.
-ghost use Rattle.std.specs.Prelude.{◌≡◌, ◌==◌, ◌++◌, ◌||◌, true, nat_lt, IfOk, IfErr, string_bytes};
+ghost use Rattle.std.specs.Prelude.{◌≡◌, ◌==◌, ◌++◌, ◌||◌, true, is_some, nat_lt, IfOk, IfErr, string_bytes};
 ghost use Rattle.std.specs.Option.{option_map};
 ghost use Rattle.std.specs.Str.{is_utf8};
 ghost use Rattle.notify_paths.specs.ErrorView.{kind_value};
@@ -121,6 +121,21 @@ fn text_if(alloc: Global, meant: bool, bytes: &[u8]) -> Result<Option<String>, F
     }
 }
 
+/// The text in a box, if there is one.
+fn boxed_if(alloc: Global, text: Option<String>) -> Result<Option<Box<String>>, Fault>
+    ensures ok { IfOk result (λ boxed. option_map (λ b. string_bytes b.value) boxed
+        ≡ option_map string_bytes text) }
+    ensures err { IfErr result (λ f. (f ≡ NoMemory) × (is_some text ≡ true)) }
+{
+    let Some(text) = text else {
+        return Ok(None);
+    };
+    match Box::new(alloc, text) {
+        Ok(boxed) => Ok(Some(boxed)),
+        Err(_) => Err(Fault::NoMemory),
+    }
+}
+
 /// The attributes that C means.
 fn attributes_of(
     alloc: Global,
@@ -150,25 +165,17 @@ fn attributes_of(
         Ok(source) => source,
         Err(fault) => return Err(fault),
     };
-    Ok(EventAttributes {
-        tracker: if change.tracked {
-            Some(change.tracker)
-        } else {
-            None
-        },
-        flag: if change.rescan {
-            Some(Flag::Rescan)
-        } else {
-            None
-        },
+    let source = match boxed_if(alloc, source) {
+        Ok(source) => source,
+        Err(fault) => return Err(fault),
+    };
+    Ok(EventAttributes::from_parts(
+        change.tracked.then_some(change.tracker),
+        change.rescan.then_some(Flag::Rescan),
         info,
         source,
-        process_id: if attributes.has_process {
-            Some(attributes.process)
-        } else {
-            None
-        },
-    })
+        attributes.has_process.then_some(attributes.process),
+    ))
 }
 
 /// The paths that C means.

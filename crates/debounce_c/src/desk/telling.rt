@@ -1,6 +1,6 @@
 //! What C is told of an event and of an error.
 ghost use Rattle.std.specs.Prelude.{◌≡◌, ◌≤◌, [], ◌∷◌, length, not, nat_lt, true, false, unwrap_or, string_bytes};
-ghost use Rattle.std.specs.Option.{option_map};
+ghost use Rattle.std.specs.Option.{option_copied};
 ghost use Rattle.notify_paths.specs.ErrorView.{kind_value};
 ghost use Rattle.debounce_c.specs.Desk.Tells.{Tells, TellsError, TellsNumber, error_texts, kind_text, text_at, texts_of, timed, total, word, written};
 
@@ -47,8 +47,8 @@ pub fn tell(event: &Event, time: Moment, told: &mut Told, buf: &mut [u8]) -> boo
     let paths = event.paths.as_slice();
     let first = text_at(paths, 0);
     let second = text_at(paths, 1);
-    let info = or_nothing(&event.attrs.info);
-    let source = or_nothing(&event.attrs.source);
+    let info = or_nothing(event.attrs.info());
+    let source = or_nothing(event.attrs.source());
     *told = told_of(event, time, first, second, info, source);
     put(
         first.as_bytes(),
@@ -70,13 +70,13 @@ fn told_of(event: &Event, time: Moment, first: &str, second: &str, info: &str, s
     let attrs = &event.attrs;
     Told {
         kind: number_of(event.kind),
-        process: attrs.process_id.unwrap_or(0),
-        rescan: attrs.flag.is_some(),
-        tracked: attrs.tracker.is_some(),
-        has_info: attrs.info.is_some(),
-        has_source: attrs.source.is_some(),
-        has_process: attrs.process_id.is_some(),
-        tracker: attrs.tracker.unwrap_or(0),
+        process: attrs.process_id().unwrap_or(0),
+        rescan: attrs.flag().is_some(),
+        tracked: attrs.tracker().is_some(),
+        has_info: attrs.info().is_some(),
+        has_source: attrs.source().is_some(),
+        has_process: attrs.process_id().is_some(),
+        tracker: attrs.tracker().unwrap_or(0),
         time: word(time),
         paths: event.paths.len(),
         first: first.len(),
@@ -115,11 +115,11 @@ fn text_at(paths: &[PathBuf], i: usize) -> &str
 }
 
 /// The text, or no text.
-fn or_nothing(text: &Option<String>) -> &str
-    ensures { result.now ≡ unwrap_or (option_map string_bytes text.now) [] }
+fn or_nothing(text: Option<&str>) -> &str
+    ensures { result.now ≡ unwrap_or (option_copied text.entry) [] }
 {
     match text {
-        Some(text) => text.as_str(),
+        Some(text) => text,
         None => "",
     }
 }

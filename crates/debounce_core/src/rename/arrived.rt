@@ -74,14 +74,9 @@ fn rename_event<A: Allocator + Copy>(
 fn override_attributes<A: Allocator + Copy>(alloc: A) -> Result<EventAttributes<A>, AllocError>
     ensures { IfOk result (λ attrs. attrs ≡ override_attributes) }
 {
-    let info = Some(String::from_str(alloc, "override")?);
-    Ok(EventAttributes {
-        tracker: None,
-        flag: None,
-        info,
-        source: None,
-        process_id: None,
-    })
+    let mut attrs = EventAttributes::default();
+    attrs.set_info(String::from_str(alloc, "override")?);
+    Ok(attrs)
 }
 
 /// The removal of what was at the target.

@@ -69,10 +69,10 @@ impl<A: Allocator> Options<A> {
         ensures err { IfErr result (λ e. tracked self.old digits.now ≡ None) }
     {
         let tracker = read_u64(digits)?;
-        if self.attrs.tracker.is_some() {
+        if self.attrs.tracker().is_some() {
             return Err(LineFault::NotCommand);
         }
-        self.attrs.tracker = Some(tracker);
+        self.attrs.set_tracker(tracker);
         Ok(())
     }
 
@@ -82,10 +82,10 @@ impl<A: Allocator> Options<A> {
         ensures err { IfErr result (λ e. e ≡ NotCommand →
             with_info (options_value self.old) info.now ≡ None) }
     {
-        if info.is_empty() || self.attrs.info.is_some() {
+        if info.is_empty() || self.attrs.info().is_some() {
             return Err(LineFault::NotCommand);
         }
-        self.attrs.info = Some(String::from_str(alloc, info)?);
+        self.attrs.set_info(String::from_str(alloc, info)?);
         Ok(())
     }
 
@@ -94,10 +94,10 @@ impl<A: Allocator> Options<A> {
             ≡ Some (options_value self.new)) }
         ensures err { IfErr result (λ e. with_rescan (options_value self.old) ≡ None) }
     {
-        if self.attrs.flag.is_some() {
+        if self.attrs.flag().is_some() {
             return Err(LineFault::NotCommand);
         }
-        self.attrs.flag = Some(Flag::Rescan);
+        self.attrs.set_flag(Flag::Rescan);
         Ok(())
     }
 

@@ -48,14 +48,14 @@ fn value_of(
 {
     json!(in alloc; {
         "at": text_value(alloc, at)?,
-        "flag": flag_value(alloc, event.event.attrs.flag)?,
-        "info": info_value(alloc, &event.event.attrs.info)?,
+        "flag": flag_value(alloc, event.event.attrs.flag())?,
+        "info": text_value(alloc, event.event.info())?,
         "kind": event.event.kind.word(),
         "moved_from": path_value(alloc, from)?,
         "paths": paths_value(alloc, event.event.paths.as_slice())?,
         "seq": seq,
         "time": time_in_json(event.time),
-        "tracker": tracker_value(event.event.attrs.tracker)
+        "tracker": tracker_value(event.event.tracker())
     })
 }
 
@@ -96,15 +96,6 @@ fn text_value(alloc: Global, text: Option<&str>) -> Result<Value, AllocError>
     match text {
         None => Ok(Value::Null),
         Some(text) => Value::try_from_str(alloc, text),
-    }
-}
-
-fn info_value(alloc: Global, info: &Option<String>) -> Result<Value, AllocError>
-    ensures { IfOk result (λ value. view value ≡ text_or_null (option_map string_bytes info.now)) }
-{
-    match info {
-        None => Ok(Value::Null),
-        Some(info) => Value::try_from_str(alloc, info.as_str()),
     }
 }
 
