@@ -12,7 +12,7 @@ module _ {S : Type 0} (r : ScanRules S) where
   map-rescan c [] d h = h
   map-rescan c (root ∷ roots) d (m, is, more) = (m, is, map-rescan m roots d more)
 
-  -- .. and up to a root that was refused
+  -- adding roots in order, up to one that was refused, said of the numbers
   pub map-stopped : (c : FileIdMapValue S) (roots : Roots) (d : FileIdMapValue S)
       → IsStopped (map_rules r) c (adds_of roots) d → AreAddedBefore r c roots d
   map-stopped c [] d h = h

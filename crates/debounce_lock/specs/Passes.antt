@@ -17,6 +17,6 @@ module _ {T E : Type 0} where
   abbrev pub IsPassOf : TableId → Pass T E → Type 0
   IsPassOf table p = (p.table_id ≡ table) × (p.me.1 ≡ [])
 
-  -- .. and has the value: the slot is its own, and empty
+  -- it is a pass of the lock over this table, and has the value: the slot is its own, and empty
   abbrev pub IsHolderOf : TableId → Pass T E → Type 0
   IsHolderOf table p = (p.table_id ≡ table) × (p.me.1 ≡ (0, None) ∷ [])

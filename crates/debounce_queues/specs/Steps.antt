@@ -32,7 +32,7 @@ abbrev pub emitted_of : Due → Option (List Timed) → List Timed
 emitted_of due None = []
 emitted_of due (Some events) = last_of_kind (expired_beginning (is_due due) events)
 
--- .. of the queues of these paths
+-- what is emitted of the queues at these paths, one after the other
 abbrev pub emitted_at : Due → Queues → List PathValue → List Timed
 emitted_at due queues paths = flat_map (λ p. emitted_of due (queue_at queues p)) paths
 
@@ -61,7 +61,7 @@ pairs_of queues = flat_map (λ e. pair_of (front_time e.1) e.0) queues
 abbrev pub put_pairs_at : Queues → PathValue → List Timed → List (ℕ × PathValue)
 put_pairs_at queues path events = front_pair queues path ++ pair_of (front_time events) path
 
--- .. at the paths of these queues
+-- the pairs at the paths of these queues, before they are put there and after
 abbrev pub put_pairs : Queues → Queues → List (ℕ × PathValue)
 put_pairs queues es = flat_map (λ e. put_pairs_at queues e.0 e.1) es
 
@@ -168,11 +168,11 @@ trimmed_by due queues path (Some events) =
     let rest = rest_after (is_due due) events in
     if waits rest then with_queue queues path rest else without_queue queues path
 
--- .. with what it has
+-- the queues, with that of the path trimmed, or gone if nothing is left of it
 abbrev pub trimmed_at : Due → Queues → PathValue → Queues
 trimmed_at due queues path = trimmed_by due queues path (queue_at queues path)
 
--- .. one after the other, at these paths
+-- the queues, with those at these paths trimmed, one after the other
 abbrev pub taken_at : Due → Queues → List PathValue → Queues
 taken_at due queues [] = queues
 taken_at due queues (path ∷ paths) = taken_at due (trimmed_at due queues path) paths

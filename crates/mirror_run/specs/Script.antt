@@ -285,7 +285,7 @@ said Commands s (StartLine path) = None
 said Commands s (CommandLine command) =
     Some (record { stage = Commands; script = record s { commands = s.commands ++ command ∷ [] } })
 
--- .. if the line says anything
+-- a reading to which a line says something, if it says anything
 abbrev pub said_if : ReadingValue → Option LineValue → Option ReadingValue
 said_if r None = None
 said_if r (Some line) = said r.stage r.script line

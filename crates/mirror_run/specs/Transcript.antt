@@ -80,7 +80,7 @@ pub record IsRunOf (script : ScriptValue) (p : PlayedValue) : Type 0 where
 abbrev pub IsPrinted : Report → (PlayedValue → Type 0) → Option (List ℕ) → Option (List ℕ) → Type 0
 IsPrinted report IsRun old new = (p : PlayedValue) × IsRun p × Appends old new (transcript report p)
 
--- .. or by a beginning of it
+-- what was written grew by a beginning of the transcript of a run
 abbrev pub IsBegun : Report → (PlayedValue → Type 0) → Option (List ℕ) → Option (List ℕ) → Type 0
 IsBegun report IsRun old new = (p : PlayedValue) × IsRun p × Begins old [] new (transcript report p)
 

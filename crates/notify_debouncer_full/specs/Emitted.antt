@@ -28,12 +28,12 @@ reported_by (BatchReply batch) = once Ok batch
 reported_by (ErrorsReply errors) = once Err errors
 reported_by reply = []
 
--- .. by what happened
+-- what is reported by what happened
 abbrev pub reports_at : HappenedValue → List Report
 reports_at (Accepted entry) = reported_by entry.reply
 reports_at h = []
 
--- .. by all that happened, in order
+-- what is reported by a history, in order
 abbrev pub reports_of : History → List Report
 reports_of [] = []
 reports_of (h ∷ hs) = reports_at h ++ reports_of hs
@@ -43,7 +43,7 @@ abbrev pub batch_of : Report → List Timed
 batch_of (Ok batch) = batch
 batch_of (Err errors) = []
 
--- .. of all these reports, in order
+-- the events of all these reports, in order
 abbrev pub events_in : List Report → List Timed
 events_in [] = []
 events_in (report ∷ reports) = batch_of report ++ events_in reports
@@ -89,7 +89,8 @@ module _ {A : Type 0} where
       IsEnded no_numbers (λ (rest : List (Outcome A) × ℕ) emitted. IsGiven given rest.0 rest.1 emitted)
       (left, unsent) seen parts book count
 
-  -- .. and the feed of its watcher has come back, with what was found last, which is told of the same history
+  -- it is as at the end of such a debouncer, and the feed of its watcher has come back, with what was found last, which
+  -- is told of the same history
   abbrev pub FinishesReports : {C Last : Type 0} → (Known → Config → Known → Last → Type 0) → Option (Known × Config)
       → Option Last → History → List EntryValue → List (Outcome A) → List (Outcome A) → ℕ → Kept C → ℕ → Type 0
   FinishesReports ends made last seen parts given left unsent book count =

@@ -9,23 +9,23 @@ use Rattle.notify_paths.specs.PathText.{slash_if}
 use Rattle.std.specs.declared.cmp.Ordering.{Ordering}
 use Rattle.std.specs.declared.cmp.Ordering.TheVariants.{Less, Equal, Greater}
 
--- the eight bytes from i on
+-- the eight bytes of the text from this place on
 abbrev pub eight_bytes : List ℕ → ℕ → List ℕ
 eight_bytes text i =
     slice_index text i ∷ slice_index text (i + 1) ∷ slice_index text (i + 2) ∷ slice_index text (i + 3)
     ∷ slice_index text (i + 4) ∷ slice_index text (i + 5) ∷ slice_index text (i + 6) ∷ slice_index text
     (i + 7) ∷ []
 
--- .. as a number
+-- the eight bytes of the text from this place on, as a number, the lowest byte first
 abbrev pub word_in : List ℕ → ℕ → ℕ
 word_in text i = from_le_bytes w64 (eight_bytes text i)
 
--- the four bytes from i on
+-- the four bytes of the text from this place on
 abbrev pub four_bytes : List ℕ → ℕ → List ℕ
 four_bytes text i = slice_index text i ∷ slice_index text (i + 1) ∷ slice_index text (i + 2) ∷ slice_index text
     (i + 3) ∷ []
 
--- .. as a number
+-- the four bytes of the text from this place on, as a number, the lowest byte first
 abbrev pub half_in : List ℕ → ℕ → ℕ
 half_in text i = from_le_bytes w32 (four_bytes text i)
 

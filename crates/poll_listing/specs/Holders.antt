@@ -30,7 +30,7 @@ seen_with Nothing found = Once found
 seen_with (Once first) found = Often
 seen_with Often found = Often
 
--- .. if it has the number
+-- what was seen of a number, and then what was found here, if it has the number
 abbrev pub seen_after : ℕ → Seen → Option Found → Seen
 seen_after number seen None = seen
 seen_after number seen (Some found) = if is_number number (number_of found.number) then seen_with seen found else seen

@@ -85,7 +85,7 @@ folders_found told event path folders None = folders
 folders_found told event path folders (Some found) =
     if is_creation event.kind then folders_created told path folders (own_place told found) else folders
 
--- .. after the event
+-- the folders that moved and that later events can tell of, after the event
 abbrev pub folders_after : ToldValue → List MoverValue → EventValue → Option PathValue → List MoverValue
 folders_after told folders event None = folders
 folders_after told folders event (Some path) = folders_found told event path folders (found_told told event path)

@@ -25,14 +25,14 @@ abbrev pub IsKept : ClosedValue → ListingValue → ListingValue → ListingVal
 IsKept closed last found new = (path : PathValue) →
     entry_at new path ≡ (if is_kept closed last path then entry_at last path else entry_at found path)
 
--- .. of a round over these roots, which found what the folders show
+-- the new listing of a round over these roots: the last one where that is kept, and elsewhere what the folders show
 abbrev pub RoundKeeps : Option ListingValue → List (PathValue × RecursiveMode) → ClosedValue → ListingValue →
     ListingValue → Type 0
 RoundKeeps told roots closed last new =
     (found : ListingValue) × IfSome told (λ tree. IsTree tree → found ≡ shown tree roots)
     × IsKept closed last found new
 
--- .. of a look at these paths
+-- the new listing of a look at these paths: the last one where that is kept, and elsewhere what the folders show
 abbrev pub LookKeeps : Option ListingValue → List (PathValue × RecursiveMode) → List PathValue → ClosedValue →
     ListingValue → ListingValue → Type 0
 LookKeeps told roots paths closed last new =

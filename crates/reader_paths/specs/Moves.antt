@@ -67,7 +67,7 @@ abbrev pub source_at : MoveValue → PathValue → Option PathValue
 source_at move path =
     if not (length move.to == 0) && is_prefix move.to path then Some (relocated move.to move.from path) else None
 
--- .. at the first of these paths
+-- where what stands at the first of these paths was before the move
 abbrev pub source_first : List PathValue → MoveValue → Option PathValue
 source_first paths move = option_and_then (source_at move) (slice_get paths 0)
 

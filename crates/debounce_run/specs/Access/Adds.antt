@@ -16,7 +16,7 @@ use Rattle.debounce_run.specs.Access.Stands.{Known}
 abbrev pub Adds : History → HappenedValue → History → Type 0
 Adds before h after = (mid : History) × Begins before mid × (after ≡ mid ++ h ∷ [])
 
--- .. of which none was fed or missed
+-- this happened, after other things perhaps, of which none was fed or missed
 abbrev pub GainsOne : History → HappenedValue → History → Type 0
 GainsOne before h after = Adds before h after × (picked is_fed after ≡ picked is_fed before ++ h ∷ [])
 
@@ -41,7 +41,7 @@ GainsItem before item after = (h : HappenedValue) × ItemMakes item h × GainsOn
 abbrev pub Reads : Known → ℕ → Known → Type 0
 Reads old now new = new.moments ≡ old.moments ++ now ∷ []
 
--- .. or not at all
+-- the clock was read once, or not at all
 abbrev pub MayRead : Known → Known → Type 0
 MayRead old new = (new.moments ≡ old.moments) ⊎ ((now : ℕ) × Reads old now new)
 
@@ -50,7 +50,7 @@ abbrev pub FedNow : Known → Result EventValue ErrorValue → Known → Type 0
 FedNow old item new =
     (now : ℕ) × (exists : Bool) × GainsFed old.seen item now exists new.seen × Reads old now new
 
--- .. or it was missed
+-- what was fed was taken at the moment that the clock answered, or it was missed
 abbrev pub FedOrMissed : Known → Result EventValue ErrorValue → Known → Type 0
 FedOrMissed old item new = FedNow old item new ⊎ (GainsOne old.seen Missed new.seen × MayRead old new)
 
@@ -74,7 +74,7 @@ abbrev pub BatchMakes : {A : Type 0} → ℕ → Result (Vec Timed A) ErrorValue
 BatchMakes now (Ok batch) hs = hs ≡ accepted (TickCommand now) (BatchReply batch.items) ∷ []
 BatchMakes now (Err error) hs = hs ≡ []
 
--- .. and by the errors, of which none may have been emitted
+-- what happens by a tick's errors: they are emitted, or there are none
 abbrev pub ErrorsMake : List ErrorValue → History → Type 0
 ErrorsMake errors hs =
     (hs ≡ accepted ErrorsCommand (ErrorsReply errors) ∷ []) ⊎ ((errors ≡ []) × (hs ≡ []))
@@ -89,7 +89,7 @@ abbrev pub GainsTick : {A : Type 0} → History → ℕ → Result (Vec Timed A)
 GainsTick before now batch errors after =
     (hs : History) × TickMakes now batch errors hs × (after ≡ before ++ hs)
 
--- .. after other things perhaps
+-- a tick happened, after other things perhaps
 abbrev pub AddsTick : {A : Type 0} → History → ℕ → Result (Vec Timed A) ErrorValue → List ErrorValue → History → Type 0
 AddsTick before now batch errors after =
     (mid : History) × Begins before mid × GainsTick mid now batch errors after

@@ -33,7 +33,7 @@ pub record RanTo {C : Type 0} (rules : Rules C) (es : List EntryValue) (core : C
   pub ran : Run rules (opened_core core.state.timeout cache) commands replies core
   pub entries : taken_in commands replies ≡ es
 
--- .. to some core with this timeout
+-- a run by the cache's rules, from a core that was just opened to some core with this timeout
 abbrev pub RanAs : {C : Type 0} → Rules C → ℕ → List EntryValue → Type 0
 RanAs {C} rules timeout es = (core : Core C) × (core.state.timeout ≡ timeout) × RanTo rules es core
 
@@ -42,7 +42,7 @@ abbrev pub HasNoNumber : ReplyValue → Type 0
 HasNoNumber (TakenReply answer) = answer ≡ None
 HasNoNumber reply = Unit {0}
 
--- .. or in any of the entries
+-- no number stands in any reply of the entries
 abbrev pub HaveNoNumbers : List EntryValue → Type 0
 HaveNoNumbers es = AllByRecursion (λ e. HasNoNumber e.reply) es
 

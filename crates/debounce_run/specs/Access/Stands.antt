@@ -28,7 +28,8 @@ pub record LeadsTo {C : Type 0} (book : Kept C) (count : ℕ) (parts : List Entr
   pub legal : IsLegal (entries_of log) book.core.state
   pub missed : count ≡ min (missed_in log) (2 ^ 64 - 1)
 
--- .. where the entries of this beginning of it were taken out, and all was done by the cache's rules. A journal of
+-- the history leads to this book and this count; the entries of a beginning of it were taken out, and all was done by
+-- the cache's rules. A journal of
 -- which nothing was taken out is whole
 abbrev pub Stands : {C : Type 0} → Rules C → Kept C → ℕ → History → History → Type 0
 Stands rules book count out log =
@@ -100,7 +101,7 @@ pub record GoesOn (old new : Reach) : Type 0 where
   pub feeds : new.feeds ≡ old.feeds
   pub seen : Begins old.seen new.seen
 
--- .. and nothing was taken out
+-- the history goes on under the same lock and rights, and nothing was taken out of the journal
 abbrev pub Lasts : Reach → Reach → Type 0
 Lasts old new = GoesOn old new × (old.keeps ≡ true → new.out ≡ old.out)
 
@@ -110,13 +111,13 @@ StaysButTells old new =
     (new.lock ≡ old.lock) × (new.seen ≡ old.seen) × (new.out ≡ old.out) × (new.keeps ≡ old.keeps)
     × (new.feeds ≡ old.feeds)
 
--- .. but the right to feed
+-- all stays but the right to feed, which another has now
 abbrev pub StaysButFeeds : Reach → Reach → Type 0
 StaysButFeeds old new =
     (new.lock ≡ old.lock) × (new.seen ≡ old.seen) × (new.out ≡ old.out) × (new.keeps ≡ old.keeps)
     × (new.tells ≡ old.tells)
 
--- .. but both
+-- all stays but the rights to emit and to feed, which others have now
 abbrev pub StaysButRights : Reach → Reach → Type 0
 StaysButRights old new =
     (new.lock ≡ old.lock) × (new.seen ≡ old.seen) × (new.out ≡ old.out) × (new.keeps ≡ old.keeps)

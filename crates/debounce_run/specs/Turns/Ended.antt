@@ -30,8 +30,8 @@ pub record IsEnded {C L : Type 0} (rules : Rules C) (tells : L → History → T
   pub kept : LosesNoChange book.core.state.timeout (entries_of log)
   pub founded : InventsNoRename book.core.state.timeout (entries_of log)
 
--- .. of a debouncer whose feed came back: it has seen a beginning of that history, in which nothing else was fed or
--- missed
+-- a debouncer ended so, and its feed came back: it has seen a beginning of that history, in which nothing else was fed
+-- or missed
 pub record IsEndedFed {C L : Type 0} (rules : Rules C) (tells : L → History → Type 0) (left : L) (seen fed : History)
     (parts : List EntryValue) (book : Kept C) (count : ℕ) : Type 0 where
   pub ended : IsEnded rules tells left seen parts book count
@@ -51,7 +51,7 @@ FeedComesBack {Last} ends made last log =
     (begun : Known) (config : Config) → made ≡ Some (begun, config)
     → (now : Known) × (found : Last) × (last ≡ Some found) × ends begun config now found × HasAllFed now.seen log
 
--- .. of a debouncer that was made so, unless it is fed by hand: what its watcher found last is told of the same history
+-- a debouncer ended so, and unless it is fed by hand, what its watcher found last is told of the same history
 pub record IsFinished {C L Last : Type 0} (rules : Rules C) (ends : Known → Config → Known → Last → Type 0)
     (made : Option (Known × Config)) (last : Option Last) (tells : L → History → Type 0) (left : L) (seen : History)
     (parts : List EntryValue) (book : Kept C) (count : ℕ) : Type 0 where

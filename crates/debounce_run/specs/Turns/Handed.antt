@@ -20,12 +20,12 @@ module _ {H A : Type 0} (handles : H → Outcome A → H → Type 0) where
       (v : Vec ErrorValue A) × (v.items ≡ errors) × HandsErrors handles v before after
   HandsReply reply before after = after ≡ before
 
-  -- .. with what was emitted, if that is what happened
+  -- the handler was called with what was emitted, if something was accepted, and else not at all
   abbrev pub HandsOne : HappenedValue → H → H → Type 0
   HandsOne (Accepted entry) before after = HandsReply entry.reply before after
   HandsOne h before after = after ≡ before
 
-  -- .. with what was emitted by all that happened, in order
+  -- the handler was called with what was emitted in a history, in order
   abbrev pub Handed : H → History → H → Type 0
   Handed before [] after = after ≡ before
   Handed before (h ∷ hs) after = (mid : H) × HandsOne h before mid × Handed mid hs after
@@ -47,7 +47,7 @@ abbrev pub tick_of : CommandValue → List ℕ
 tick_of (TickCommand now) = now ∷ []
 tick_of command = []
 
--- .. that was accepted
+-- the moment of a tick that was accepted
 abbrev pub tick_in : HappenedValue → List ℕ
 tick_in (Accepted entry) = tick_of entry.command
 tick_in h = []
@@ -57,7 +57,7 @@ abbrev pub ticks_of : History → List ℕ
 ticks_of [] = []
 ticks_of (h ∷ hs) = tick_in h ++ ticks_of hs
 
--- .. of what was emitted, as far as this has seen it
+-- the moments of the ticks that this has seen
 abbrev pub ticks_by : Known → List ℕ
 ticks_by known = ticks_of (picked is_emitting known.seen)
 

@@ -95,7 +95,7 @@ IsFailure FullKind = ⊥
 abbrev pub IsWatchError : ErrorValue → Type 0
 IsWatchError e = (e ≡ path_not_found) ⊎ (IsFailure e.kind × (e.paths ≡ []))
 
--- .. and why it doesn't unwatch one
+-- why a watcher over real folders doesn't unwatch a path
 abbrev pub IsUnwatchError : ErrorValue → Type 0
 IsUnwatchError e = e ≡ watch_not_found
 
@@ -109,7 +109,8 @@ WatchesOrRefuses root (Ok done) =
     ⊎ WatchesNext old root new)
 WatchesOrRefuses root (Err e) = IsWatchError e
 
--- .. and lists it, or says why not: of the answer this says that it has the root, and nothing beside what the root
+-- a watcher over real folders watches a root and lists it, or says why not: the answer has the root, and nothing beside
+-- what the root
 -- shows
 abbrev pub ListsOrRefuses : PathValue × RecursiveMode → Result ListingValue ErrorValue → Type 0
 ListsOrRefuses root (Ok listed) = (old : PolledValue) × (new : PolledValue) × Lists None old root listed new

@@ -67,7 +67,7 @@ held_bytes is_long bytes = if is_long then None else Some bytes
 abbrev pub held_of : List ℕ → Option (List ℕ)
 held_of line = if nat_le (length line) longest then Some line else None
 
--- .. with one more byte
+-- what is held of a line with one more byte
 abbrev pub with_byte : Option (List ℕ) → ℕ → Option (List ℕ)
 with_byte None byte = None
 with_byte (Some line) byte = held_of (line ++ byte ∷ [])

@@ -10,7 +10,7 @@ place_below given real path =
     else (if (length real == 0) || not (is_prefix real path) then None
     else Some (relocated real given path))
 
--- .. by the folder's real path, if the system says one
+-- a path, by the folder's real path, if the system says one: else the path as it is
 abbrev pub real_place : PathValue → Option PathValue → PathValue → Option PathValue
 real_place given None path = None
 real_place given (Some real) path = place_below given real path
