@@ -31,10 +31,10 @@ only_set (x ∷ y ∷ l) a e = absurd (cc)
 
 -- the pass that has each right, once another has this one
 abbrev given_to : Right → ℕ → (Right → ℕ) → Right → ℕ
-given_to Emits n crier Emits = n
-given_to Emits n crier Feeds = crier Feeds
-given_to Feeds n crier Emits = crier Emits
-given_to Feeds n crier Feeds = n
+given_to Emits n entitled Emits = n
+given_to Emits n entitled Feeds = entitled Feeds
+given_to Feeds n entitled Emits = entitled Emits
+given_to Feeds n entitled Feeds = n
 
 module _ {E : Type 0} where
   pub begins_self : (xs : List E) → Begins xs xs
@@ -73,33 +73,35 @@ module _ {E : Type 0} where
   had_beside Feeds v u h = h
 
   abbrev Has : (Right → E → Bool) → List E → (Right → ℕ) → ℕ → Hand E → Type 0
-  Has pick log crier port v = (right : Right) → has right v ≡ true
-      → (port ≡ crier right) × (picked (pick right) v.seen ≡ picked (pick right) log)
+  Has pick log entitled number v = (right : Right) → has right v ≡ true
+      → (number ≡ entitled right) × (picked (pick right) v.seen ≡ picked (pick right) log)
 
   -- who gave the right away has the others
-  gave_away : (pick : Right → E → Bool) (log : List E) (crier : Right → ℕ) (port n : ℕ) (gone : Right) (v : Hand E)
-      → Has pick log crier port v → Has pick log (given_to gone n crier) port (without gone v)
-  gave_away pick log crier port n Emits v h Emits p = absurd (off p)
-  gave_away pick log crier port n Emits v h Feeds p = h Feeds p
-  gave_away pick log crier port n Feeds v h Emits p = h Emits p
-  gave_away pick log crier port n Feeds v h Feeds p = absurd (off p)
+  gave_away : (pick : Right → E → Bool) (log : List E) (entitled : Right → ℕ) (number n : ℕ) (gone : Right) (v : Hand E)
+      → Has pick log entitled number v → Has pick log (given_to gone n entitled) number (without gone v)
+  gave_away pick log entitled number n Emits v h Emits p = absurd (off p)
+  gave_away pick log entitled number n Emits v h Feeds p = h Feeds p
+  gave_away pick log entitled number n Feeds v h Emits p = h Emits p
+  gave_away pick log entitled number n Feeds v h Feeds p = absurd (off p)
 
   -- and so has one who never had it
-  has_others : (pick : Right → E → Bool) (log : List E) (crier : Right → ℕ) (port n : ℕ) (gone : Right) (v : Hand E)
-      → (has gone v ≡ true → ⊥) → Has pick log crier port v → Has pick log (given_to gone n crier) port v
-  has_others pick log crier port n Emits v not h Emits p = absurd (not p)
-  has_others pick log crier port n Emits v not h Feeds p = h Feeds p
-  has_others pick log crier port n Feeds v not h Emits p = h Emits p
-  has_others pick log crier port n Feeds v not h Feeds p = absurd (not p)
+  has_others : (pick : Right → E → Bool) (log : List E) (entitled : Right → ℕ) (number n : ℕ) (gone : Right)
+      (v : Hand E)
+      → (has gone v ≡ true → ⊥) → Has pick log entitled number v → Has pick log (given_to gone n entitled) number v
+  has_others pick log entitled number n Emits v not h Emits p = absurd (not p)
+  has_others pick log entitled number n Emits v not h Feeds p = h Feeds p
+  has_others pick log entitled number n Feeds v not h Emits p = h Emits p
+  has_others pick log entitled number n Feeds v not h Feeds p = absurd (not p)
 
   -- who was given it has it alone
-  was_given : (pick : Right → E → Bool) (log seen : List E) (crier : Right → ℕ) (port n : ℕ) (given : Right) (b : Bool)
-      → port ≡ n → picked (pick given) seen ≡ picked (pick given) log
-      → Has pick log (given_to given n crier) port (righted given b seen)
-  was_given pick log seen crier port n Emits b here all Emits p = (here, all)
-  was_given pick log seen crier port n Emits b here all Feeds p = absurd (off p)
-  was_given pick log seen crier port n Feeds b here all Emits p = absurd (off p)
-  was_given pick log seen crier port n Feeds b here all Feeds p = (here, all)
+  was_given : (pick : Right → E → Bool) (log seen : List E) (entitled : Right → ℕ) (number n : ℕ) (given : Right)
+      (b : Bool)
+      → number ≡ n → picked (pick given) seen ≡ picked (pick given) log
+      → Has pick log (given_to given n entitled) number (righted given b seen)
+  was_given pick log seen entitled number n Emits b here all Emits p = (here, all)
+  was_given pick log seen entitled number n Emits b here all Feeds p = absurd (off p)
+  was_given pick log seen entitled number n Feeds b here all Emits p = absurd (off p)
+  was_given pick log seen entitled number n Feeds b here all Feeds p = (here, all)
 
   -- what a pass with one right shows
   righted_seen : (right : Right) (b : Bool) (xs : List E) → (righted right b xs).seen ≡ xs
@@ -134,13 +136,13 @@ module _ {E : Type 0} where
 
 module _ {T E : Type 0} (leads : T → List E → List E → Type 0) (pick : Right → E → Bool) where
   abbrev All : (ℕ → Hand E → Type 0) → List (Hand E) → Type 0
-  All F views = (port : ℕ) (v : Hand E) → get_elem? views port ≡ some v → F port v
+  All F views = (number : ℕ) (v : Hand E) → get_elem? views number ≡ some v → F number v
 
-  all_set : (F : ℕ → Hand E → Type 0) (views : List (Hand E)) (port : ℕ) (w : Hand E) → F port w
-      → ((j : ℕ) (u : Hand E) → j ≢ port → get_elem? views j ≡ some u → F j u) → All F (set views port w)
-  all_set F views port w mine others j u e =
-      ⊎_elim (λ (x : (j ≡ port) × (w ≡ u)). subst (λ (y : ℕ × Hand E). F y.0 y.1) (λ i. (sym x.0 i, x.1 i)) mine)
-      (λ (x : (j ≢ port) × (get_elem? views j ≡ some u)). others j u x.0 x.1) (at_set views port j w u e)
+  all_set : (F : ℕ → Hand E → Type 0) (views : List (Hand E)) (number : ℕ) (w : Hand E) → F number w
+      → ((j : ℕ) (u : Hand E) → j ≢ number → get_elem? views j ≡ some u → F j u) → All F (set views number w)
+  all_set F views number w mine others j u e =
+      ⊎_elim (λ (x : (j ≡ number) × (w ≡ u)). subst (λ (y : ℕ × Hand E). F y.0 y.1) (λ i. (sym x.0 i, x.1 i)) mine)
+      (λ (x : (j ≢ number) × (get_elem? views j ≡ some u)). others j u x.0 x.1) (at_set views number j w u e)
 
   abbrev Kept : State (Option T) (Hand E) → Type 0
   Kept = IsKept leads pick
@@ -150,8 +152,8 @@ module _ {T E : Type 0} (leads : T → List E → List E → Type 0) (pick : Rig
   starts x log stands = record {
     log = log;
     taken = [];
-    seat = 0;
-    crier = λ _. 0;
+    holder = 0;
+    entitled = λ _. 0;
     home = inr (x, refl, refl, stands);
     fits = one;
   }
@@ -166,10 +168,10 @@ module _ {T E : Type 0} (leads : T → List E → List E → Type 0) (pick : Rig
         ended = λ right p. absurd (never right (opener log) refl refl p);
       }
 
-      one : (port : ℕ) (v : Hand E) → get_elem? (opener log ∷ []) port ≡ some v
-          → Fits pick (0 ∷ []) log [] 0 (λ _. 0) port v
+      one : (number : ℕ) (v : Hand E) → get_elem? (opener log ∷ []) number ≡ some v
+          → Fits pick (0 ∷ []) log [] 0 (λ _. 0) number v
       one zero v e = subst (Fits pick (0 ∷ []) log [] 0 (λ _. 0) 0) (some-injective _ _ e) here
-      one (suc port) v e = absurd (some-ne-none v (sym e))
+      one (suc number) v e = absurd (some-ne-none v (sym e))
 
   -- a step that changes nothing
   stays : (s : State (Option T) (Hand E)) (id n : ℕ) (v : Hand E) → Kept s → set s.words 0 n ≡ s.words
@@ -201,10 +203,10 @@ module _ {T E : Type 0} (leads : T → List E → List E → Type 0) (pick : Rig
         record {
           log = h.log;
           taken = h.taken;
-          seat = id;
-          crier = h.crier;
+          holder = id;
+          entitled = h.entitled;
           home = inl words;
-          fits = all_set (Fits pick (set s.words 0 1) h.log h.taken id h.crier) s.views id w
+          fits = all_set (Fits pick (set s.words 0 1) h.log h.taken id h.entitled) s.views id w
               (record {
                 seen = begins_self h.log;
                 shown = mine.shown;
@@ -260,10 +262,10 @@ module _ {T E : Type 0} (leads : T → List E → List E → Type 0) (pick : Rig
         record {
           log = may.log;
           taken = may.taken;
-          seat = h.seat;
-          crier = h.crier;
+          holder = h.holder;
+          entitled = h.entitled;
           home = inr (x, words, home, may.stands);
-          fits = all_set (Fits pick (set s.words 0 0) may.log may.taken h.seat h.crier) s.views id w
+          fits = all_set (Fits pick (set s.words 0 0) may.log may.taken h.holder h.entitled) s.views id w
               (record {
                 seen = begins_self may.log;
                 shown = begins_trans v.shown h.log may.log mine.shown longer;
@@ -307,10 +309,10 @@ module _ {T E : Type 0} (leads : T → List E → List E → Type 0) (pick : Rig
         ),
       )
 
-  knows : (words : List ℕ) (log taken : List E) (seat : ℕ) (crier : Right → ℕ) (port : ℕ) (xs : List E)
+  knows : (words : List ℕ) (log taken : List E) (holder : ℕ) (entitled : Right → ℕ) (number : ℕ) (xs : List E)
       → Begins xs log
-      → Fits pick words log taken seat crier port (knower xs)
-  knows words log taken seat crier port xs b = record {
+      → Fits pick words log taken holder entitled number (knower xs)
+  knows words log taken holder entitled number xs b = record {
     seen = b;
     shown = begins_nil log;
     holds = λ p. absurd (off p);
@@ -324,13 +326,13 @@ module _ {T E : Type 0} (leads : T → List E → List E → Type 0) (pick : Rig
   splits id v s h at = record {
     log = h.log;
     taken = h.taken;
-    seat = h.seat;
-    crier = h.crier;
+    holder = h.holder;
+    entitled = h.entitled;
     home = h.home;
     fits = λ j u e. ⊎_elim
         (λ was. h.fits j u (subst (λ l. get_elem? l j ≡ some u) (set_again s.views id v at) was))
-        (λ (same : knower v.seen ≡ u). subst (Fits pick s.words h.log h.taken h.seat h.crier j) same
-        (knows s.words h.log h.taken h.seat h.crier j v.seen (h.fits id v at).seen))
+        (λ (same : knower v.seen ≡ u). subst (Fits pick s.words h.log h.taken h.holder h.entitled j) same
+        (knows s.words h.log h.taken h.holder h.entitled j v.seen (h.fits id v at).seen))
         (at_snoc (set s.views id v) (knower v.seen) u j e);
   }
 
@@ -342,36 +344,36 @@ module _ {T E : Type 0} (leads : T → List E → List E → Type 0) (pick : Rig
   at_end (x ∷ xs) a b (suc j) n e = ap suc (at_end xs a b j n e)
 
   -- what a pass keeps that gives a right away
-  gives_away : (words : List ℕ) (log taken : List E) (seat : ℕ) (crier : Right → ℕ) (n port : ℕ) (right : Right)
-      (v : Hand E) → Fits pick words log taken seat crier port v
-      → Fits pick words log taken seat (given_to right n crier) port (without right v)
-  gives_away words log taken seat crier n port Emits v mine = record {
+  gives_away : (words : List ℕ) (log taken : List E) (holder : ℕ) (entitled : Right → ℕ) (n number : ℕ) (right : Right)
+      (v : Hand E) → Fits pick words log taken holder entitled number v
+      → Fits pick words log taken holder (given_to right n entitled) number (without right v)
+  gives_away words log taken holder entitled n number Emits v mine = record {
     seen = mine.seen;
     shown = mine.shown;
     holds = mine.holds;
     keeps = mine.keeps;
-    tells = gave_away pick log crier port n Emits v mine.tells;
+    tells = gave_away pick log entitled number n Emits v mine.tells;
     ended = λ asked p. mine.ended asked (still_had asked (without Emits v) v refl refl p);
   }
-  gives_away words log taken seat crier n port Feeds v mine = record {
+  gives_away words log taken holder entitled n number Feeds v mine = record {
     seen = mine.seen;
     shown = mine.shown;
     holds = mine.holds;
     keeps = mine.keeps;
-    tells = gave_away pick log crier port n Feeds v mine.tells;
+    tells = gave_away pick log entitled number n Feeds v mine.tells;
     ended = λ asked p. mine.ended asked (still_had asked (without Feeds v) v refl refl p);
   }
 
   -- a pass with one right comes
-  comes : (words : List ℕ) (log taken xs : List E) (seat : ℕ) (crier : Right → ℕ) (n port : ℕ) (right : Right)
-      (b : Bool) → Begins xs log → port ≡ n → picked (pick right) xs ≡ picked (pick right) log
-      → Fits pick words log taken seat (given_to right n crier) port (righted right b xs)
-  comes words log taken xs seat crier n port right b seen here all = record {
+  comes : (words : List ℕ) (log taken xs : List E) (holder : ℕ) (entitled : Right → ℕ) (n number : ℕ) (right : Right)
+      (b : Bool) → Begins xs log → number ≡ n → picked (pick right) xs ≡ picked (pick right) log
+      → Fits pick words log taken holder (given_to right n entitled) number (righted right b xs)
+  comes words log taken xs holder entitled n number right b seen here all = record {
     seen = subst (λ l. Begins l log) (sym (righted_seen right b xs)) seen;
     shown = subst (λ l. Begins l log) (sym (righted_shown right b xs)) (begins_nil log);
     holds = λ p. absurd (off (sym (righted_holds right b xs) ∙ p));
     keeps = λ p. absurd (off (sym (righted_keeps right b xs) ∙ p));
-    tells = was_given pick log xs crier port n right b here all;
+    tells = was_given pick log xs entitled number n right b here all;
     ended = λ asked p. absurd (righted_ended asked right b xs p);
   }
 
@@ -381,11 +383,11 @@ module _ {T E : Type 0} (leads : T → List E → List E → Type 0) (pick : Rig
   splits_righted right id v telling s h at =
       let mine = h.fits id v at in
       let vs : List (Hand E) = set s.views id (without right v) in
-      let crier : Right → ℕ = given_to right (length vs) h.crier in
+      let entitled : Right → ℕ = given_to right (length vs) h.entitled in
       let Old : ℕ → Hand E → Type 0 =
-      λ j u. Fits pick s.words h.log h.taken h.seat crier j u × (has right u ≢ true) in
+      λ j u. Fits pick s.words h.log h.taken h.holder entitled j u × (has right u ≢ true) in
       let old : All Old vs = all_set Old s.views id (without right v) (
-        gives_away s.words h.log h.taken h.seat h.crier (length vs) id right v mine,
+        gives_away s.words h.log h.taken h.holder h.entitled (length vs) id right v mine,
         has_not right v,
       )
       (λ j u other e. let theirs = h.fits j u e in
@@ -395,7 +397,7 @@ module _ {T E : Type 0} (leads : T → List E → List E → Type 0) (pick : Rig
           shown = theirs.shown;
           holds = theirs.holds;
           keeps = theirs.keeps;
-          tells = has_others pick h.log h.crier j (length vs) right u quiet theirs.tells;
+          tells = has_others pick h.log h.entitled j (length vs) right u quiet theirs.tells;
           ended = theirs.ended;
         },
         quiet,
@@ -404,8 +406,8 @@ module _ {T E : Type 0} (leads : T → List E → List E → Type 0) (pick : Rig
       record {
         log = h.log;
         taken = h.taken;
-        seat = h.seat;
-        crier = crier;
+        holder = h.holder;
+        entitled = entitled;
         home = h.home;
         fits = λ j u e. ⊎_elim
             (λ was. (old j u was).0)
@@ -413,8 +415,8 @@ module _ {T E : Type 0} (leads : T → List E → List E → Type 0) (pick : Rig
             let is_telling : has right u ≡ true = sym (ap (has right) same) ∙ righted_has right (has right v) v.seen
             ∙ telling in
             let end : j ≡ length vs = at_end vs new u j (λ x. (old j u x).1 is_telling) e in
-            subst (Fits pick s.words h.log h.taken h.seat crier j) same
-            (comes s.words h.log h.taken v.seen h.seat h.crier (length vs) j right (has right v) mine.seen end
+            subst (Fits pick s.words h.log h.taken h.holder entitled j) same
+            (comes s.words h.log h.taken v.seen h.holder h.entitled (length vs) j right (has right v) mine.seen end
             (mine.tells right telling).1))
             (at_snoc vs new u j e);
       }
@@ -429,7 +431,7 @@ module _ {T E : Type 0} (leads : T → List E → List E → Type 0) (pick : Rig
       let was : get_elem? s.views other ≡ some u = ⊎_elim (λ x. absurd (two x.0)) (λ x. x.1)
       (at_set s.views id other both u at') in
       let theirs = h.fits other u was in
-      let F : ℕ → Hand E → Type 0 = Fits pick s.words h.log h.taken h.seat h.crier in
+      let F : ℕ → Hand E → Type 0 = Fits pick s.words h.log h.taken h.holder h.entitled in
       let mine' : F id both = record {
         seen = mine.seen;
         shown = theirs.seen;
@@ -443,11 +445,11 @@ module _ {T E : Type 0} (leads : T → List E → List E → Type 0) (pick : Rig
       record {
         log = h.log;
         taken = h.taken;
-        seat = h.seat;
-        crier = h.crier;
+        holder = h.holder;
+        entitled = h.entitled;
         home = h.home;
         fits = all_set F vs other (knower [])
-            (knows s.words h.log h.taken h.seat h.crier other [] (begins_nil h.log)) (λ j y _ e. now j y e);
+            (knows s.words h.log h.taken h.holder h.entitled other [] (begins_nil h.log)) (λ j y _ e. now j y e);
       }
 
   -- a pass that has the value, and was shown what another has seen, compares

@@ -10,13 +10,13 @@ use Rattle.debounce_lock.specs.declared.hand.Hand.{Hand}
 module _ {E : Type 0} where
   -- what the rule says of the pass of this number, if the word is this, this is the history, these of its first entries
   -- were taken out of the value, and these passes have the value and each right
-  pub record Fits (pick : Right → E → Bool) (words : List ℕ) (log taken : List E) (seat : ℕ) (crier : Right → ℕ)
-      (port : ℕ) (v : Hand E) : Type 0 where
+  pub record Fits (pick : Right → E → Bool) (words : List ℕ) (log taken : List E) (holder : ℕ) (entitled : Right → ℕ)
+      (number : ℕ) (v : Hand E) : Type 0 where
     pub seen : Begins v.seen log
     pub shown : Begins v.shown log
-    pub holds : v.holds ≡ true → (port ≡ seat) × (v.seen ≡ log) × (v.taken ≡ taken) × (words ≡ 1 ∷ [])
-    pub keeps : v.keeps ≡ true → (port ≡ 0) × (v.taken ≡ taken)
-    pub tells : (right : Right) → has right v ≡ true → (port ≡ crier right) × (picked (pick right) v.seen
+    pub holds : v.holds ≡ true → (number ≡ holder) × (v.seen ≡ log) × (v.taken ≡ taken) × (words ≡ 1 ∷ [])
+    pub keeps : v.keeps ≡ true → (number ≡ 0) × (v.taken ≡ taken)
+    pub tells : (right : Right) → has right v ≡ true → (number ≡ entitled right) × (picked (pick right) v.seen
         ≡ picked (pick right) log)
     pub ended : (right : Right) → had_it right v ≡ true → picked (pick right) v.shown ≡ picked (pick right) v.seen
 
@@ -27,12 +27,12 @@ module _ {T E : Type 0} where
       : Type 0 where
     pub log : List E
     pub taken : List E
-    pub seat : ℕ
-    pub crier : Right → ℕ
+    pub holder : ℕ
+    pub entitled : Right → ℕ
     pub home : (s.words ≡ 1 ∷ [])
         ⊎ ((b : T) × (s.words ≡ 0 ∷ []) × (s.homes ≡ some (Some b) ∷ []) × leads b taken log)
-    pub fits : (port : ℕ) (v : Hand E) → get_elem? s.views port ≡ some v
-        → Fits pick s.words log taken seat crier port v
+    pub fits : (number : ℕ) (v : Hand E) → get_elem? s.views number ≡ some v
+        → Fits pick s.words log taken holder entitled number v
 
   -- if the value was there, the pass has it now
   abbrev pub TakesIt : (T → List E → List E → Type 0) → (Right → E → Bool) → Me (Option T) (Hand E) → ℕ
