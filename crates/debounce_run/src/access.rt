@@ -13,8 +13,9 @@ ghost use Rattle.debounce_model.specs.Tick.{IsOutlook};
 ghost use Rattle.debounce_book.specs.Journal.{IsJournal, IsLegal, IsPart};
 ghost use Rattle.debounce_book.specs.JournalLaws.{LosesNoChange, GivesRawPaths, InventsNoRename};
 ghost use Rattle.debounce_run.specs.Access.Adds.{Adds, AddsTick, CommandMakes, GainsFed, GainsOne, GainsTick};
-ghost use Rattle.debounce_run.specs.Access.Happened.{Missed, accepted, entries_of, is_emitting, is_fed, journal_of};
-ghost use Rattle.debounce_run.specs.Access.Stands.{GoesOn, HasAllFed, IsFresh, IsTold, Lasts, StaysButFeeds, StaysButTells, ToldJournal, feeds_of, opening, seen_by, tells_of};
+ghost use Rattle.debounce_run.specs.Access.Happened.{History, Missed, accepted, entries_of, is_emitting, is_fed, journal_of};
+ghost use Rattle.debounce_run.specs.Access.Stands.{GoesOn, HasAllEmitted, IsFresh, Lasts, StaysButFeeds, StaysButTells, ToldJournal, feeds_of, opening, seen_by, tells_of};
+ghost use Rattle.debounce_run.specs.Turns.Ended.{IsHistory};
 
 pub mod locked;
 pub mod made;
@@ -118,15 +119,6 @@ impl<C: FileIdCache<A> + Drop, A: Allocator + Copy> Access<C, A> {
 }
 
 impl<C: FileIdCache<A> + Drop, A: Allocator> Access<C, A> {
-    /// What this way has seen, for whoever is to be shown it.
-    pub fn shown(&mut self) -> BookPass<C, A>
-        ensures same { self.new ≡ self.old }
-        ensures lock { (result.table_id ≡ self.old.lock) × (result.me.1 ≡ []) }
-        ensures seen { seen_by result ≡ self.old.seen }
-    {
-        self.lock.another(&mut self.pass)
-    }
-
     /// The pass alone, which says who has seen what, once the book isn't reached by it any longer.
     pub fn into_pass(self) -> BookPass<C, A>
         ensures lock { result.table_id ≡ self.lock }
@@ -136,18 +128,6 @@ impl<C: FileIdCache<A> + Drop, A: Allocator> Access<C, A> {
     {
         let Access { lock: _, pass } = self;
         pass
-    }
-
-    /// Looks at the history up to now, to which what another has seen belongs.
-    pub fn catch_up<R: Wait>(&mut self, rt: &R, shown: BookPass<C, A>)
-        requires { (shown.table_id ≡ self.old.lock) × (shown.me.1 ≡ []) }
-        ensures lasts { Lasts self.old self.new }
-        ensures shown { Begins (seen_by shown) self.new.seen }
-    {
-        let Access { lock, pass } = self;
-        let (guard, held) = lock.take(rt, pass);
-        lock.compare(pass, shown);
-        lock.give::<Unchanged>(guard, pass, held);
     }
 
     /// Notes that an event or an error was refused. Nothing else was fed or missed since the last such call.
@@ -303,26 +283,9 @@ impl<C: FileIdCache<A> + Drop, A: Allocator + Copy> Access<C, A> {
         journal
     }
 
-    /// Waits until no other reaches the book, and returns it with the count of what was missed. `teller` is the
-    /// worker's pass, by which all was emitted that was.
-    pub fn close<R: Wait + Clock>(self, rt: &R, teller: BookPass<C, A>) -> (Book<C, A>, u64)
-        requires keeps { self.keeps ≡ true }
-        requires lock { (teller.table_id ≡ self.lock) × (teller.me.1 ≡ []) }
-        requires tells { tells_of teller ≡ true }
-        ensures told { IsTold C.rules self.seen (seen_by teller) (entries_of self.out) result.0
-            result.1 }
-    {
-        let Access { lock, mut pass } = self;
-        let lock = wait_for_last(rt, lock);
-        let (guard, held) = lock.take(rt, &mut pass);
-        lock.compare(&mut pass, teller);
-        drop(guard);
-        end_of(held)
-    }
-
-    /// Waits as `close` does. `worker` is the pass by which all was emitted that was, and `feed` the one by which all
-    /// was fed or missed.
-    pub fn close_fed<R: Wait + Clock>(
+    /// Waits until no other reaches the book, and returns it with the count of what was missed. `worker` is the pass by
+    /// which all was emitted that was, and `feed` the one by which all was fed or missed.
+    pub fn close<R: Wait + Clock>(
         self,
         rt: &R,
         worker: BookPass<C, A>,
@@ -333,8 +296,9 @@ impl<C: FileIdCache<A> + Drop, A: Allocator + Copy> Access<C, A> {
             × (feed.table_id ≡ self.lock) × (feed.me.1 ≡ []) }
         requires tells { tells_of worker ≡ true }
         requires feeds { feeds_of feed ≡ true }
-        ensures told { (told : IsTold C.rules self.seen (seen_by worker) (entries_of self.out)
-            result.0 result.1) × HasAllFed (seen_by feed) told.0 }
+        ensures history { (log : History)
+            × IsHistory C.rules self.seen (seen_by feed) (entries_of self.out) result.0 result.1 log
+            × HasAllEmitted (seen_by worker) log }
     {
         let Access { lock, mut pass } = self;
         let lock = wait_for_last(rt, lock);

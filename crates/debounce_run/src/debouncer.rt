@@ -15,13 +15,12 @@ ghost use Rattle.debounce_run.specs.Access.Stands.{StaysButRights};
 ghost use Rattle.debounce_run.specs.Turns.Clock.{IsIo};
 ghost use Rattle.debounce_run.specs.Turns.Handed.{LeavesAll};
 ghost use Rattle.debounce_run.specs.Turns.Watched.{AsksFirst, ListsFirst};
-ghost use Rattle.debounce_run.specs.Turns.Ended.{EndsJournal, IsEndedFed, IsFinished, StaysOfLock};
+ghost use Rattle.debounce_run.specs.Turns.Ended.{EndsJournal, IsFinished, StaysOfLock};
 ghost use Rattle.debounce_run.specs.Turns.Running.{IsMadeWith, IsStarted, RunsOn};
 ghost use Rattle.debounce_run.specs.Start.{IsStartError, IsStopped, IsTooSlow, too_slow, tick_nanos};
 
-use crate::by_hand::ByHand;
 use crate::turns::clock::start_of;
-use crate::turns::feed::{Feed, Receipt};
+use crate::turns::feed::Feed;
 use crate::turns::left::{Ending, Forgotten, Leaves, Returned};
 use crate::turns::life::Pace;
 use crate::turns::shared::Shared;
@@ -70,8 +69,8 @@ pub struct Running<
     L: Leaves = Forgotten,
 > {
     pub(crate) watcher: T,
-    /// The watcher's thread, which owns the feed; none if the debouncer is fed by hand.
-    pub(crate) thread: Option<WatcherThread<K, A>>,
+    /// The watcher's thread, which owns the feed.
+    pub(crate) thread: WatcherThread<K, A>,
     pub(crate) shared: Shared<C, R, A>,
     pub(crate) worker: Worker<C, L, A>,
 }
@@ -85,8 +84,8 @@ pub struct Finished<C: Drop, L: Drop, N: Drop, A: Allocator = Global> {
     pub missed: u64,
     /// What is left of the handler.
     pub left: L,
-    /// What the watcher found last; `None` if the debouncer was fed by hand.
-    pub last: Option<N>,
+    /// What the watcher found last.
+    pub last: N,
 }
 
 impl<
@@ -97,8 +96,7 @@ impl<
     A: Allocator + Copy + Send + Sync + 'static,
     L: Leaves,
 > Model for Running<T, K, C, R, A, L> {
-    ghost use Rattle.std.specs.Prelude.{◌≡◌, true, IfSome};
-    ghost use Rattle.std.specs.Option.{option_map};
+    ghost use Rattle.std.specs.Prelude.{◌≡◌, true};
     ghost use Rattle.debounce_run.specs.Access.Happened.{entries_of, is_nil};
     ghost use Rattle.debounce_run.specs.Turns.Ended.{StaysOfLock};
     ghost use Rattle.debounce_run.specs.Turns.Running.{Shown};
@@ -107,7 +105,7 @@ impl<
 
     ghost view = { λ d. record {
       watcher = d.watcher;
-      made = option_map (λ t. (t.made.handler.value, t.made.config)) d.thread;
+      made = (d.thread.made.handler.value, d.thread.made.config);
       lock = d.shared.owner.lock;
       seen = d.shared.owner.seen;
       parts = entries_of d.shared.owner.out;
@@ -117,8 +115,8 @@ impl<
 
     ghost invariant = { λ d. (d.shared.owner.keeps ≡ true)
         × (d.worker.access.value.lock ≡ d.shared.owner.lock)
-        × IfSome d.thread (λ t. (t.made.handler.value.lock ≡ d.shared.owner.lock)
-        × StaysOfLock K.ends) };
+        × (d.thread.made.handler.value.lock ≡ d.shared.owner.lock)
+        × StaysOfLock K.ends };
 }
 
 impl<
@@ -216,7 +214,7 @@ pub fn new_journaled_debouncer<
     start::<F, Forgotten, Forgotten, T, C, R, A>(shared, tick, event_handler, began, config)
 }
 
-/// Starts a debouncer as [`new_debouncer_opt`], whose handler comes back by [`Debouncer::finish_left`], for
+/// Starts a debouncer as [`new_debouncer_opt`], whose handler comes back by [`Debouncer::finish`], for
 /// whoever proves what it was called with.
 pub fn new_told_debouncer<
     F: DebounceEventHandler<DebounceEventResult<A>> + Leaves,
@@ -298,7 +296,7 @@ fn start<
     match start_watcher(shared.rt, shared.alloc, feed, config) {
         Ok((watcher, thread)) => Ok(Running {
             watcher,
-            thread: Some(thread),
+            thread,
             shared,
             worker,
         }),
@@ -437,37 +435,19 @@ impl<
         T::kind()
     }
 
-    /// Stops the watcher and the debouncer's thread, waits until both have ended, and returns the book
-    /// and how many events and errors were missed in all. A turn that has begun is finished, as by
-    /// `stop`. The watcher looks once more before it ends, so that what changed before this call is
-    /// reported too, and what it reports until it has ended goes to the book.
+    /// Stops the watcher and the debouncer's thread, waits until both have ended, and returns what is left: the
+    /// book, how many events and errors were missed in all, what is left of the handler, which was called with just
+    /// what was emitted, and what the watcher found last. A turn that has begun is finished, as by `stop`. The
+    /// watcher looks once more before it ends, so that what changed before this call is reported too, and what it
+    /// reports until it has ended goes to the book.
     ///
     /// In the book is what was never emitted: its `outlook` is what waits, in the order of a batch, and
     /// `core().pending_errors()` are the errors. A reader that applies each batch and then that outlook
     /// has applied all that the watcher reported, but for what was missed. The journal comes out by
     /// `into_journal`, and is not copied; the last part of one that was taken in parts, by `take_journal`.
     ///
-    /// It waits until the watcher's work has ended: for ever, if that goes on after the watcher's drop. A
-    /// debouncer that is fed by hand waits until the [`Feed`] was dropped.
-    pub fn finish(self) -> (Book<C, A>, u64)
-        ensures ended { (left : L) × (last : Option T.Task.Last)
-            × IsFinished C.rules T.Task.ends self.made last (L.tells self.began) left self.seen
-            self.parts result.0 result.1 }
-        ensures legal { IfSome result.0.journal (λ es. IsLegal es result.0.core.state) }
-        ensures part { IfSome result.0.part (λ es. IsPart es result.0.core.state) }
-    {
-        let Finished {
-            book,
-            missed,
-            left: _,
-            last: _,
-        } = self.finish_left();
-        (book, missed)
-    }
-
-    /// Stops as `finish` does, and returns also what is left of the handler, which was called with just what
-    /// was emitted, and what the watcher found last.
-    pub fn finish_left(self) -> Finished<C, L, LastOf<T, C, R, A>, A>
+    /// It waits until the watcher's work has ended: for ever, if that goes on after the watcher's drop.
+    pub fn finish(self) -> Finished<C, L, LastOf<T, C, R, A>, A>
         ensures ended { IsFinished C.rules T.Task.ends self.made result.last
             (L.tells self.began) result.left self.seen self.parts result.book result.missed }
         ensures legal { IfSome result.book.journal (λ es. IsLegal es result.book.core.state) }
@@ -482,53 +462,15 @@ impl<
         } = self;
         watcher.look_last();
         drop(watcher);
-        let Some(thread) = thread else {
-            let (emitted, left) = worker.join(&shared.rt);
-            let (book, missed) = shared.into_book(emitted);
-            return Finished {
-                book,
-                missed,
-                left,
-                last: None,
-            };
-        };
         let (feed, last) = thread.join(&shared.rt);
         let (emitted, left) = worker.join(&shared.rt);
-        let (book, missed) = shared.into_book_fed(emitted, feed);
+        let (book, missed) = shared.into_book(emitted, feed);
         Finished {
             book,
             missed,
             left,
-            last: Some(last),
+            last,
         }
-    }
-}
-
-impl<
-    C: FileIdCache<A> + Drop + Send + 'static,
-    R: Threads + Wait + Clock + Files + Copy + Send + Sync + 'static,
-    A: Allocator + Copy + Send + Sync + 'static,
-    L: Leaves,
-> Debouncer<ByHand, C, R, A, L> {
-    /// Stops as `finish` does, and takes the feed: all that was fed is what the feed shows.
-    pub fn finish_fed(self, feed: Feed<C, R, A>) -> (Book<C, A>, u64)
-        requires { feed.lock ≡ self.lock }
-        ensures ended { (left : L)
-            × IsEndedFed C.rules (L.tells self.began) left self.seen feed.seen self.parts
-            result.0 result.1 }
-        ensures legal { IfSome result.0.journal (λ es. IsLegal es result.0.core.state) }
-        ensures part { IfSome result.0.part (λ es. IsPart es result.0.core.state) }
-    {
-        self.shared.set_stop();
-        let Self {
-            watcher: _,
-            thread: _,
-            shared,
-            worker,
-        } = self;
-        let (emitted, left) = worker.join(&shared.rt);
-        drop(left);
-        shared.into_book_fed(emitted, feed)
     }
 }
 
@@ -590,16 +532,6 @@ impl<
         ensures part { (s : State) × IsPart result.items s }
     {
         self.shared.owner.take_journal(&self.shared.rt)
-    }
-
-    /// Looks at the history up to now. What the receipt shows is in it.
-    pub fn catch_up(&mut self, receipt: Receipt<C, A>)
-        requires { receipt.lock ≡ self.old.lock }
-        ensures watcher { self.new.watcher ≡ self.old.watcher }
-        ensures seen { RunsOn self.old self.new }
-        ensures shown { Begins receipt.seen self.new.seen }
-    {
-        self.shared.catch_up(receipt);
     }
 
     /// Stops the watcher and the debouncer's thread, and waits until that thread has ended, not until the

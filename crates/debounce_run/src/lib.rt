@@ -16,12 +16,9 @@
 //!     new_debouncer_opt(rt, rt.alloc(), timeout, None, handler, NoCache::new(), Config::default())?;
 //! debouncer.watch(&path, RecursiveMode::Recursive)?;
 //! ```
-//!
-//! [`new_debouncer_by_hand`] starts one without a watcher, and returns its feed.
 #![tactic(auto)]
 
 mod access;
-mod by_hand;
 mod debouncer;
 mod send_to;
 mod threads;
@@ -30,10 +27,6 @@ mod watcher_thread;
 mod worker;
 
 pub use access::Access;
-pub use by_hand::{
-    ByHand, NoTask, new_debouncer_by_hand, new_journaled_debouncer_by_hand,
-    new_told_debouncer_by_hand,
-};
 pub use debouncer::{
     Debouncer, Finished, LastOf, Running, TaskOf, new_debouncer_opt, new_journaled_debouncer,
     new_told_debouncer,
@@ -42,7 +35,7 @@ pub use send_to::{SendTo, Unsent};
 pub use threads::meet::{Meet, NoMeet};
 pub use threads::run::run_threads;
 pub use turns::clock::{Stopwatch, now};
-pub use turns::feed::{Feed, Receipt};
+pub use turns::feed::Feed;
 pub use turns::feeding::Feeding;
 pub use turns::left::{Forgotten, Leaves};
 pub use turns::ticking::Ticking;

@@ -16,8 +16,9 @@ use Rattle.debounce_lock.proofs.Moves.{begins_self, begins_trans}
 use Rattle.debounce_run.specs.declared.access.locked.Locked.{Locked}
 use Rattle.debounce_run.specs.Access.Adds.{Adds, AddsTick, BatchMakes, CommandMakes, Does, FedMakes, FedNow, FeedsItem, FeedsOn, GainsFed, GainsOne, GainsTick, Makes, MayRead, TickMakes}
 use Rattle.debounce_run.specs.Access.Happened.{HappenedValue, History, Missed, accepted, entries_of, is_emitting, is_fed, journal_of, told_as}
-use Rattle.debounce_run.specs.Access.Stands.{GoesOn, HasAllFed, IsTold, Known, Lasts, LeadsTo, Reach, Stands}
+use Rattle.debounce_run.specs.Access.Stands.{GoesOn, HasAllEmitted, Known, Lasts, LeadsTo, Reach, Stands}
 use Rattle.debounce_run.specs.Access.Taken.{TakesAll, all_out}
+use Rattle.debounce_run.specs.Turns.Ended.{IsHistory}
 use Rattle.debounce_run.proofs.AccessLemmas.Steps.{picked_append, parted_stands}
 
 -- what a way to the book shows, by its pass
@@ -118,45 +119,23 @@ module _ {C A : Type 0} {r : Rules C} where
         ∙ took.taken keeps,
   )
 
-  -- .. also if it was compared with another meanwhile
-  pub lasts_beside : (a b : TableId) (u v other m w : Hand HappenedValue) (x : Locked C A) → b ≡ a → m ≡ beside v other
-      → Took (StandsIn r) told_as u x v
-      → Gave (StandsIn r) (λ before taken y after now. (after ≡ before) × (now ≡ taken)) m x w
-      → Lasts (reach_of a u) (reach_of b w)
-  lasts_beside a b u v other m w x same is took gave = (
-    record {
-      lock = same;
-      keeps = gave.keeps ∙ ap (λ (h : Hand HappenedValue). h.keeps) is ∙ took.keeps;
-      tells = gave.tells ∙ ap (λ (h : Hand HappenedValue). h.tells) is ∙ took.tells;
-      feeds = gave.feeds ∙ ap (λ (h : Hand HappenedValue). h.feeds) is ∙ took.feeds;
-      seen = begins_trans u.seen v.seen w.seen took.goes_on (subst (λ (h : Hand HappenedValue). Begins h.seen w.seen) is
-          gave.goes_on);
-    },
-    λ keeps. gave.makes.1 ∙ ap (λ (h : Hand HappenedValue). h.taken) is ∙ took.taken keeps,
-  )
-
-  -- the way that alone takes entries out knows at which history they were
-  pub told_by : (u v : Hand HappenedValue) (x : Locked C A) (seen : History) → u.keeps ≡ true
-      → Took (StandsIn r) told_as u x v → Begins seen v.seen → picked is_emitting seen ≡ picked is_emitting v.seen
-      → IsTold r u.seen seen (entries_of u.taken) x.book.value x.missed
-  told_by u v x seen keeps took begins told = (
-    v.seen,
-    took.goes_on,
-    begins,
-    subst (λ (l : History). LeadsTo x.book.value x.missed
-        (entries_of l) v.seen) (took.taken keeps) took.stands.0,
-    took.stands.1,
-    told,
-  )
-
-  -- .. and the feed knows all that was fed
-  pub told_fed : (u v : Hand HappenedValue) (x : Locked C A) (seen fed : History) → u.keeps ≡ true
-      → Took (StandsIn r) told_as u x v → Begins seen v.seen → picked is_emitting seen ≡ picked is_emitting v.seen
+  -- the way that alone takes entries out knows at which history they were, the worker all that was emitted, and the
+  -- feed all that was fed
+  pub history_by : (u v : Hand HappenedValue) (x : Locked C A) (worker fed : History) → u.keeps ≡ true
+      → Took (StandsIn r) told_as u x v → Begins worker v.seen → picked is_emitting worker ≡ picked is_emitting v.seen
       → Begins fed v.seen → picked is_fed fed ≡ picked is_fed v.seen
-      → (all : IsTold r u.seen seen (entries_of u.taken) x.book.value x.missed) × HasAllFed fed all.0
-  unfolding told_by
-  told_fed u v x seen fed keeps took begins told begun all =
-      (told_by u v x seen keeps took begins told, (begun, all))
+      → (log : History) × IsHistory r u.seen fed (entries_of u.taken) x.book.value x.missed log × HasAllEmitted worker log
+  history_by u v x worker fed keeps took begins emits begun all = (
+    v.seen,
+    record {
+      goes_on = took.goes_on;
+      leads =
+          subst (λ (l : History). LeadsTo x.book.value x.missed (entries_of l) v.seen) (took.taken keeps) took.stands.0;
+      ran = took.stands.1;
+      all_fed = (begun, all);
+    },
+    (begins, emits),
+  )
 
 -- what is fed is one thing that was
 fed_picked : (item : Result EventValue ErrorValue) (now : ℕ) (exists : Bool) (answer : Option FileId)

@@ -35,13 +35,9 @@ abbrev pub Stands : {C : Type 0} → Rules C → Kept C → ℕ → History → 
 Stands rules book count out log =
     LeadsTo book count (entries_of out) log × RanTo rules (entries_of log) book.core × (out ≡ [] → book.part ≡ None)
 
--- at the end one history goes on from what was seen and from what was told, it leads to the book and to the count, all
--- in it was done by the cache's rules, and nothing else was emitted in it than was told
-abbrev pub IsTold : {C : Type 0} → Rules C → History → History → List EntryValue → Kept C → ℕ → Type 0
-IsTold rules seen told parts book count =
-    (log : History) × Begins seen log × Begins told log × LeadsTo book count parts log
-    × RanTo rules (entries_of log) book.core
-    × (picked is_emitting told ≡ picked is_emitting log)
+-- what the worker has seen is a beginning of this history, in which nothing else was emitted
+abbrev pub HasAllEmitted : History → History → Type 0
+HasAllEmitted emitted log = Begins emitted log × (picked is_emitting emitted ≡ picked is_emitting log)
 
 -- what a feed has seen is a beginning of this history, in which nothing else was fed or missed
 abbrev pub HasAllFed : History → History → Type 0
@@ -76,7 +72,7 @@ tells_of pass = (view pass).tells
 abbrev pub feeds_of : {T E : Type 0} → Pass T E → Bool
 feeds_of pass = (view pass).feeds
 
--- what a feed, a receipt or the worker shows: of which lock it is, the history as far as it has seen it, and the
+-- what a feed or the worker shows: of which lock it is, the history as far as it has seen it, and the
 -- moments that its clock has answered, in order
 pub record Known : Type 0 where
   pub lock : TableId

@@ -1,5 +1,5 @@
 -- What a debouncer that runs shows.
-use Rattle.std.specs.Prelude.{◌≡◌, ℕ, Bool, true, List, [], ◌∷◌, Option, Some}
+use Rattle.std.specs.Prelude.{◌≡◌, ℕ, Bool, true, List, [], ◌∷◌}
 use Rattle.atomic_table.specs.Seated.{TableId}
 use Rattle.debounce_lock.specs.History.{Begins}
 use Rattle.notify_watch.specs.declared.config.Config.{Config}
@@ -7,12 +7,12 @@ use Rattle.debounce_book.specs.Journal.{EntryValue}
 use Rattle.debounce_run.specs.Access.Happened.{History, Opened}
 use Rattle.debounce_run.specs.Access.Stands.{Known}
 
--- its watcher; with which feed that was made, and with which configuration, unless it is fed by hand; of which lock it
--- is; the history as far as it has seen it; the parts of the journal that were taken out, and whether none was; and
--- what was there of its handler at the start
+-- its watcher; with which feed that was made, and with which configuration; of which lock it is; the history as far as
+-- it has seen it; the parts of the journal that were taken out, and whether none was; and what was there of its handler
+-- at the start
 pub record Shown (T L : Type 0) : Type 0 where
   pub watcher : T
-  pub made : Option (Known × Config)
+  pub made : Known × Config
   pub lock : TableId
   pub seen : History
   pub parts : List EntryValue
@@ -37,4 +37,4 @@ pub record IsStarted {T L : Type 0} (started : Shown T L) (timeout : ℕ) (journ
 -- its watcher was made with a feed that had seen as much, whose clock wasn't read yet, and with this configuration
 abbrev pub IsMadeWith : {T L : Type 0} → Config → Shown T L → Type 0
 IsMadeWith config started =
-    started.made ≡ Some (record { lock = started.lock; seen = started.seen; moments = [] }, config)
+    started.made ≡ (record { lock = started.lock; seen = started.seen; moments = [] }, config)

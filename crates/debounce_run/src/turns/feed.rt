@@ -12,7 +12,6 @@ use crate::turns::feeding::Feeding;
 use crate::turns::shared::{Shared, Signals};
 use crate::turns::turn::feed_one;
 use debounce_cache::FileIdCache;
-use debounce_lock::Shown;
 use notify_paths::Error;
 use notify_types::{Event, EventKind, ModifyKind, RenameMode};
 use notify_watch::EventHandler;
@@ -54,29 +53,6 @@ impl<C: FileIdCache<A> + Drop, R: Wait + Drop, A: Allocator> Model for Feed<C, R
     ghost view = { λ f. f.gate };
 }
 
-/// Shows that something was taken. Clauses see the history up to then, and what the feed's clock had answered. It
-/// has no bytes.
-#[derive(Drop)]
-pub struct Receipt<C: FileIdCache<A> + Drop, A: Allocator = Global> {
-    pass: BookPass<C, A>,
-    answers: Shown<Stopwatch>,
-}
-
-impl<C: FileIdCache<A> + Drop, A: Allocator> Model for Receipt<C, A> {
-    ghost use Rattle.std.specs.Prelude.{◌≡◌, []};
-    ghost use Rattle.debounce_run.specs.Access.Stands.{Known, seen_by};
-
-    ghost Value = { Known };
-
-    ghost view = { λ r. record {
-      lock = r.pass.table_id;
-      seen = seen_by r.pass;
-      moments = r.answers.value;
-    } };
-
-    ghost invariant = { λ r. r.pass.me.1 ≡ [] };
-}
-
 impl<C: FileIdCache<A> + Drop, R: Wait + Copy + Drop, A: Allocator + Copy> Shared<C, R, A> {
     /// The feed of the debouncer, which counts from this start, and alone feeds from then on.
     pub fn new_feed(&mut self, start: Instant) -> Result<Feed<C, R, A>, Error<A>>
@@ -94,18 +70,6 @@ impl<C: FileIdCache<A> + Drop, R: Wait + Copy + Drop, A: Allocator + Copy> Share
             gate: Feeding::new(self.rt, access, Stopwatch::new(start)),
             signals,
         })
-    }
-}
-
-impl<C: FileIdCache<A> + Drop, R: Wait + Drop, A: Allocator> Shared<C, R, A> {
-    /// Looks at the history up to now. What the receipt shows is in it.
-    pub fn catch_up(&mut self, receipt: Receipt<C, A>)
-        requires { receipt.lock ≡ self.old.owner.lock }
-        ensures lasts { Lasts self.old.owner self.new.owner }
-        ensures shown { Begins receipt.seen self.new.owner.seen }
-    {
-        let Receipt { pass, answers: _ } = receipt;
-        self.owner.catch_up(&self.rt, pass);
     }
 }
 
@@ -133,8 +97,8 @@ impl<
 
 impl<C: FileIdCache<A> + Drop, R: Clock + Files + Wait + Drop, A: Allocator + Copy> Feed<C, R, A> {
     /// Feeds an event or an error to the book, at the moment of the call, for which it reads its clock. One that is
-    /// refused isn't counted as missed: who feeds by hand has the error.
-    pub fn feed(&mut self, item: Result<Event<A>, Error<A>>) -> Result<(), Error<A>>
+    /// refused isn't counted as missed.
+    pub(crate) fn feed(&mut self, item: Result<Event<A>, Error<A>>) -> Result<(), Error<A>>
         ensures lock { self.new.lock ≡ self.old.lock }
         ensures ok { OnOk result (FedNow self.old item self.new) }
         ensures err { OnErr result (Begins self.old.seen self.new.seen
@@ -151,17 +115,6 @@ impl<C: FileIdCache<A> + Drop, R: Clock + Files + Wait + Drop, A: Allocator + Co
 }
 
 impl<C: FileIdCache<A> + Drop, R: Wait + Drop, A: Allocator> Feed<C, R, A> {
-    /// Shows as much of the history as this feed has seen, to `Debouncer::catch_up`.
-    pub fn receipt(&mut self) -> Receipt<C, A>
-        ensures same { self.new ≡ self.old }
-        ensures shown { result ≡ self.old }
-    {
-        Receipt {
-            pass: self.gate.shown(),
-            answers: self.gate.answers(),
-        }
-    }
-
     /// The pass alone, by which it fed.
     pub(crate) fn into_pass(self) -> BookPass<C, A>
         ensures lock { result.table_id ≡ self.lock }

@@ -10,7 +10,6 @@ use crate::access::locked::BookPass;
 use crate::turns::clock::Stopwatch;
 use crate::turns::turn::FeedGate;
 use debounce_cache::FileIdCache;
-use debounce_lock::Shown;
 use notify_paths::Error;
 use notify_types::{Event, Moment};
 use std::alloc::Allocator;
@@ -58,23 +57,6 @@ impl<C: FileIdCache<A> + Drop, R: Wait + Drop, A: Allocator> Feeding<C, R, A> {
         ensures missed { GainsOne self.old.seen Missed self.new.seen }
     {
         self.access.miss(&self.rt);
-    }
-
-    /// What its clock has answered, for whoever is to be shown it.
-    pub fn answers(&mut self) -> Shown<Stopwatch>
-        ensures same { self.new ≡ self.old }
-        ensures shown { result.value ≡ self.old.moments }
-    {
-        Shown::of(&self.clock)
-    }
-
-    /// What this way has seen, for whoever is to be shown it.
-    pub fn shown(&mut self) -> BookPass<C, A>
-        ensures same { self.new ≡ self.old }
-        ensures lock { (result.table_id ≡ self.old.lock) × (result.me.1 ≡ []) }
-        ensures seen { seen_by result ≡ self.old.seen }
-    {
-        self.access.shown()
     }
 
     /// The pass alone, by which it fed.

@@ -5,8 +5,9 @@ ghost use Rattle.debounce_model.specs.Command.{RootCommand, RootedReply};
 ghost use Rattle.debounce_book.specs.Journal.{IsJournal, IsLegal, IsPart};
 ghost use Rattle.debounce_book.specs.JournalLaws.{LosesNoChange, GivesRawPaths, InventsNoRename};
 ghost use Rattle.debounce_run.specs.Access.Adds.{Adds};
-ghost use Rattle.debounce_run.specs.Access.Happened.{accepted, entries_of};
-ghost use Rattle.debounce_run.specs.Access.Stands.{HasAllFed, IsFresh, IsTold, Lasts, StaysButFeeds, StaysButTells, ToldJournal, opening, seen_by, tells_of};
+ghost use Rattle.debounce_run.specs.Access.Happened.{History, accepted, entries_of};
+ghost use Rattle.debounce_run.specs.Access.Stands.{HasAllEmitted, IsFresh, Lasts, StaysButFeeds, StaysButTells, ToldJournal, opening, seen_by, tells_of};
+ghost use Rattle.debounce_run.specs.Turns.Ended.{IsHistory};
 ghost use Rattle.debounce_run.specs.Turns.Watched.{AsksFirst};
 
 use crate::access::Access;
@@ -183,38 +184,17 @@ impl<C: FileIdCache<A> + Drop, R: Wait + Drop, A: Allocator + Copy> Shared<C, R,
 }
 
 impl<C: FileIdCache<A> + Drop, R: Wait + Clock + Drop, A: Allocator + Copy> Shared<C, R, A> {
-    /// Waits until no other reaches the book, and returns it with the count of what was missed. `teller` is the
-    /// worker's pass, by which all was emitted that was.
-    pub fn into_book(self, teller: BookPass<C, A>) -> (Book<C, A>, u64)
-        requires keeps { self.owner.keeps ≡ true }
-        requires lock { (teller.table_id ≡ self.owner.lock) × (teller.me.1 ≡ []) }
-        requires tells { tells_of teller ≡ true }
-        ensures told { IsTold C.rules self.owner.seen (seen_by teller) (entries_of self.owner.out)
-            result.0 result.1 }
-        ensures legal { IfSome result.0.journal (λ es. IsLegal es result.0.core.state) }
-        ensures part { IfSome result.0.part (λ es. IsPart es result.0.core.state) }
-    {
-        let Shared {
-            rt,
-            alloc: _,
-            owner,
-            signals: _,
-        } = self;
-        let (book, missed) = owner.close(&rt, teller);
-        // This call shows the proof that the journal is legal, or the part of it.
-        let _ = book.is_journaled();
-        (book, missed)
-    }
-
-    /// Returns the book as `into_book` does. `worker` is the pass by which all was emitted that was, and by this feed
-    /// alone was fed.
-    pub fn into_book_fed(self, worker: BookPass<C, A>, feed: Feed<C, R, A>) -> (Book<C, A>, u64)
+    /// Waits until no other reaches the book, and returns it with the count of what was missed. `worker` is the pass by
+    /// which all was emitted that was, and by this feed alone was fed.
+    pub fn into_book(self, worker: BookPass<C, A>, feed: Feed<C, R, A>) -> (Book<C, A>, u64)
         requires keeps { self.owner.keeps ≡ true }
         requires lock { (worker.table_id ≡ self.owner.lock) × (worker.me.1 ≡ []) }
         requires tells { tells_of worker ≡ true }
         requires feed { feed.lock ≡ self.owner.lock }
-        ensures told { (told : IsTold C.rules self.owner.seen (seen_by worker)
-            (entries_of self.owner.out) result.0 result.1) × HasAllFed feed.seen told.0 }
+        ensures history { (log : History)
+            × IsHistory C.rules self.owner.seen feed.seen (entries_of self.owner.out)
+            result.0 result.1 log
+            × HasAllEmitted (seen_by worker) log }
         ensures legal { IfSome result.0.journal (λ es. IsLegal es result.0.core.state) }
         ensures part { IfSome result.0.part (λ es. IsPart es result.0.core.state) }
     {
@@ -224,8 +204,8 @@ impl<C: FileIdCache<A> + Drop, R: Wait + Clock + Drop, A: Allocator + Copy> Shar
             owner,
             signals: _,
         } = self;
-        let (book, missed) = owner.close_fed(&rt, worker, feed.into_pass());
-        // As in `into_book`.
+        let (book, missed) = owner.close(&rt, worker, feed.into_pass());
+        // This call shows the proof that the journal is legal, or the part of it.
         let _ = book.is_journaled();
         (book, missed)
     }
