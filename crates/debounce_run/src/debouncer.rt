@@ -11,7 +11,7 @@ ghost use Rattle.debounce_book.specs.JournalLaws.{LosesNoChange, GivesRawPaths, 
 ghost use Rattle.debounce_lock.specs.History.{Begins, picked};
 ghost use Rattle.debounce_run.specs.Access.Adds.{Adds};
 ghost use Rattle.debounce_run.specs.Access.Happened.{Opened, accepted, entries_of, is_emitting, journal_of};
-ghost use Rattle.debounce_run.specs.Access.Stands.{StaysButRights};
+ghost use Rattle.debounce_run.specs.Access.Stands.{IsFresh, StaysButRights, opening};
 ghost use Rattle.debounce_run.specs.Turns.Clock.{IsIo};
 ghost use Rattle.debounce_run.specs.Turns.Handed.{LeavesAll};
 ghost use Rattle.debounce_run.specs.Turns.Watched.{AsksFirst, ListsFirst};
@@ -68,11 +68,11 @@ pub struct Running<
     A: Allocator + Copy + Send + Sync + 'static = Global,
     L: Leaves = Forgotten,
 > {
-    pub(crate) watcher: T,
+    watcher: T,
     /// The watcher's thread, which owns the feed.
-    pub(crate) thread: WatcherThread<K, A>,
-    pub(crate) shared: Shared<C, R, A>,
-    pub(crate) worker: Worker<C, L, A>,
+    thread: WatcherThread<K, A>,
+    shared: Shared<C, R, A>,
+    worker: Worker<C, L, A>,
 }
 
 /// What is left when a debouncer ends. `N` is what its watcher finds last.
@@ -138,6 +138,19 @@ impl<
     }
 }
 
+/// How a debouncer is started.
+#[derive(Clone, Copy)]
+pub struct Start {
+    /// How old an event is that is emitted.
+    pub timeout: Duration,
+    /// How often the debouncer's thread looks for such events; `None` stands for a quarter of the timeout.
+    pub tick_rate: Option<Duration>,
+    /// With which configuration the watcher is made.
+    pub config: Config,
+    /// Whether a journal of the commands that are accepted is kept.
+    pub is_journaled: bool,
+}
+
 /// Starts a debouncer. An event is emitted once it is as old as the timeout, and the handler is
 /// called by a thread that looks for such events at each tick: `None` stands for a quarter of the
 /// timeout. The watcher is made with the debouncer's [`Feed`] and with `config`.
@@ -171,13 +184,16 @@ pub fn new_debouncer_opt<
     ensures made { IfOk result (IsMadeWith config) }
     ensures err { IfErr result (IsStartError T.refuses timeout tick_rate) }
 {
-    let Some(tick) = tick_of(timeout, tick_rate) else {
-        return Err(Error::new(alloc, ErrorKind::Generic(String::new(alloc))));
+    let how = Start {
+        timeout,
+        tick_rate,
+        config,
+        is_journaled: false,
     };
-    let book = Book::new(alloc, file_id_cache, timeout.as_nanos());
-    let shared = Shared::new(rt, alloc, book)?;
     let began = Snapshot::of(&Forgotten);
-    start::<F, Forgotten, Forgotten, T, C, R, A>(shared, tick, event_handler, began, config)
+    start::<F, Forgotten, Forgotten, T, C, R, A>(
+        rt, alloc, how, event_handler, began, file_id_cache,
+    )
 }
 
 /// Starts a debouncer that keeps a journal of the commands that it accepts, for
@@ -205,17 +221,20 @@ pub fn new_journaled_debouncer<
     ensures made { IfOk result (IsMadeWith config) }
     ensures err { IfErr result (IsStartError T.refuses timeout tick_rate) }
 {
-    let Some(tick) = tick_of(timeout, tick_rate) else {
-        return Err(Error::new(alloc, ErrorKind::Generic(String::new(alloc))));
+    let how = Start {
+        timeout,
+        tick_rate,
+        config,
+        is_journaled: true,
     };
-    let book = Book::journaled(alloc, file_id_cache, timeout.as_nanos());
-    let shared = Shared::new(rt, alloc, book)?;
     let began = Snapshot::of(&Forgotten);
-    start::<F, Forgotten, Forgotten, T, C, R, A>(shared, tick, event_handler, began, config)
+    start::<F, Forgotten, Forgotten, T, C, R, A>(
+        rt, alloc, how, event_handler, began, file_id_cache,
+    )
 }
 
-/// Starts a debouncer as [`new_debouncer_opt`], whose handler comes back by [`Debouncer::finish`], for
-/// whoever proves what it was called with.
+/// Starts a debouncer as [`new_debouncer_opt`] or [`new_journaled_debouncer`], whose handler comes back by
+/// [`Debouncer::finish`], for whoever proves what it was called with.
 pub fn new_told_debouncer<
     F: DebounceEventHandler<DebounceEventResult<A>> + Leaves,
     T: Watcher<Feed<C, R, A>, R, A>,
@@ -225,33 +244,60 @@ pub fn new_told_debouncer<
 >(
     rt: R,
     alloc: A,
-    timeout: Duration,
-    tick_rate: Option<Duration>,
+    how: Start,
     event_handler: F,
     file_id_cache: C,
-    config: Config,
 ) -> Result<Debouncer<T, C, R, A, F>, Error<A>>
     requires ready { F.ready event_handler }
     requires leaves { LeavesAll F.handles (λ h l. l ≡ h) F.tells event_handler event_handler }
     requires takes { (feed : _) → T.takes feed }
-    ensures rate { IsTooSlow timeout tick_rate → IsErrOf result too_slow }
-    ensures opened { IfOk result (λ d. IsStarted d (as_nanos timeout) false) }
-    ensures made { IfOk result (IsMadeWith config) }
+    ensures rate { IsTooSlow how.timeout how.tick_rate → IsErrOf result too_slow }
+    ensures opened { IfOk result (λ d. IsStarted d (as_nanos how.timeout) how.is_journaled) }
+    ensures made { IfOk result (IsMadeWith how.config) }
     ensures began { IfOk result (λ d. d.began ≡ event_handler) }
-    ensures err { IfErr result (IsStartError T.refuses timeout tick_rate) }
+    ensures err { IfErr result (IsStartError T.refuses how.timeout how.tick_rate) }
 {
-    let Some(tick) = tick_of(timeout, tick_rate) else {
+    let began = Snapshot::of(&event_handler);
+    start::<F, Returned, F, T, C, R, A>(rt, alloc, how, event_handler, began, file_id_cache)
+}
+
+/// Starts a debouncer. `began` shows what was there of the handler.
+fn start<
+    F: DebounceEventHandler<DebounceEventResult<A>>,
+    E: Ending<F, L> + Send + 'static,
+    L: Leaves,
+    T: Watcher<Feed<C, R, A>, R, A>,
+    C: FileIdCache<A> + Drop + Send + 'static,
+    R: Threads + Wait + Clock + Files + Copy + Send + Sync + 'static,
+    A: Allocator + Copy + Send + Sync + 'static,
+>(
+    rt: R,
+    alloc: A,
+    how: Start,
+    handler: F,
+    began: Snapshot<L>,
+    cache: C,
+) -> Result<Debouncer<T, C, R, A, L>, Error<A>>
+    requires ready { F.ready handler }
+    requires leaves { LeavesAll F.handles E.ends L.tells handler began.value }
+    requires takes { (feed : _) → T.takes feed }
+    ensures rate { IsTooSlow how.timeout how.tick_rate → IsErrOf result too_slow }
+    ensures opened { IfOk result (λ d. IsStarted d (as_nanos how.timeout) how.is_journaled) }
+    ensures made { IfOk result (IsMadeWith how.config) }
+    ensures began { IfOk result (λ d. d.began ≡ began.value) }
+    ensures err { IfErr result (IsStartError T.refuses how.timeout how.tick_rate) }
+{
+    let Some(tick) = tick_of(how.timeout, how.tick_rate) else {
         return Err(Error::new(alloc, ErrorKind::Generic(String::new(alloc))));
     };
-    let book = Book::new(alloc, file_id_cache, timeout.as_nanos());
+    let book = book_of(alloc, cache, how.timeout.as_nanos(), how.is_journaled);
     let shared = Shared::new(rt, alloc, book)?;
-    let began = Snapshot::of(&event_handler);
-    start::<F, Returned, F, T, C, R, A>(shared, tick, event_handler, began, config)
+    launch::<F, E, L, T, C, R, A>(shared, tick, handler, began, how.config)
 }
 
 /// How long the worker sleeps before each turn: the tick rate, if it isn't above the timeout, and
 /// without one a quarter of the timeout.
-pub(crate) fn tick_of(timeout: Duration, tick_rate: Option<Duration>) -> Option<Duration>
+fn tick_of(timeout: Duration, tick_rate: Option<Duration>) -> Option<Duration>
     ensures some { IfSome result (λ tick. as_nanos tick ≡ tick_nanos timeout tick_rate) }
     ensures none { (result ≡ None) ↔ IsTooSlow timeout tick_rate }
 {
@@ -264,8 +310,23 @@ pub(crate) fn tick_of(timeout: Duration, tick_rate: Option<Duration>) -> Option<
     Some(rate)
 }
 
+/// A book of which nothing was asked yet, with a journal or without.
+fn book_of<C: FileIdCache<A> + Drop, A: Allocator + Copy>(
+    alloc: A,
+    cache: C,
+    timeout: Moment,
+    is_journaled: bool,
+) -> Book<C, A>
+    ensures { IsFresh result × (opening result ≡ Opened timeout is_journaled ∷ []) }
+{
+    if is_journaled {
+        return Book::journaled(alloc, cache, timeout);
+    }
+    Book::new(alloc, cache, timeout)
+}
+
 /// Starts the worker and then the watcher. All memory of the debouncer's own is taken before.
-fn start<
+fn launch<
     F: DebounceEventHandler<DebounceEventResult<A>>,
     E: Ending<F, L> + Send + 'static,
     L: Leaves,
@@ -308,13 +369,13 @@ fn start<
 }
 
 /// A debouncer but for its watcher.
-pub(crate) struct Fed<C: FileIdCache<A> + Drop, R: Wait + Drop, L: Leaves, A: Allocator> {
-    pub(crate) feed: Feed<C, R, A>,
-    pub(crate) worker: Worker<C, L, A>,
+struct Fed<C: FileIdCache<A> + Drop, R: Wait + Drop, L: Leaves, A: Allocator> {
+    feed: Feed<C, R, A>,
+    worker: Worker<C, L, A>,
 }
 
 /// Starts the worker, and makes the feed, which counts from the same start.
-pub(crate) fn start_fed<
+fn start_fed<
     F: DebounceEventHandler<DebounceEventResult<A>>,
     E: Ending<F, L> + Send + 'static,
     L: Leaves,

@@ -28,8 +28,8 @@ mod worker;
 
 pub use access::Access;
 pub use debouncer::{
-    Debouncer, Finished, LastOf, Running, TaskOf, new_debouncer_opt, new_journaled_debouncer,
-    new_told_debouncer,
+    Debouncer, Finished, LastOf, Running, Start, TaskOf, new_debouncer_opt,
+    new_journaled_debouncer, new_told_debouncer,
 };
 pub use send_to::{SendTo, Unsent};
 pub use threads::meet::{Meet, NoMeet};
