@@ -21,10 +21,10 @@ ghost use Rattle.debounce_run.specs.Start.{IsStartError, IsStopped, IsTooSlow, t
 
 use crate::turns::clock::start_of;
 use crate::turns::feed::Feed;
-use crate::turns::left::{Ending, Forgotten, Leaves, Returned};
 use crate::turns::life::Pace;
+use crate::turns::returned::{Ending, NoHandler, Returned, ReturnedHandler};
 use crate::turns::shared::Shared;
-use crate::watcher_thread::{Made, WatcherThread, start_task};
+use crate::watcher_thread::{WatcherArguments, WatcherThread, start_task};
 use crate::worker::{Worker, start_worker};
 use debounce_book::{Book, Entry};
 use debounce_cache::FileIdCache;
@@ -46,12 +46,12 @@ use std::time::{Clock, Duration};
 /// `C` is the cache of file numbers, and `R` the runtime.
 ///
 /// Clauses see its watcher, with what it was made, the history of its book as far as it has seen it, and the
-/// parts of the journal that were taken out. `L` is what is left of the handler at the end; of [`Forgotten`]
+/// parts of the journal that were taken out. `L` is what comes back of the handler at the end; of [`NoHandler`]
 /// clauses see nothing.
 ///
 /// Dropping it asks its thread to end, and waits neither for it nor for the watcher's thread. What still waits
 /// then is dropped.
-pub type Debouncer<T, C, R, A = Global, L = Forgotten> = Running<T, TaskOf<T, C, R, A>, C, R, A, L>;
+pub type Debouncer<T, C, R, A = Global, L = NoHandler> = Running<T, TaskOf<T, C, R, A>, C, R, A, L>;
 
 /// The work of the thread of a debouncer's watcher.
 pub type TaskOf<T, C, R, A> = <T as Watcher<Feed<C, R, A>, R, A>>::Task;
@@ -66,7 +66,7 @@ pub struct Running<
     C: FileIdCache<A> + Drop + Send + 'static,
     R: Threads + Wait + Clock + Files + Copy + Send + Sync + 'static,
     A: Allocator + Copy + Send + Sync + 'static = Global,
-    L: Leaves = Forgotten,
+    L: ReturnedHandler = NoHandler,
 > {
     watcher: T,
     /// The watcher's thread, which owns the feed.
@@ -82,8 +82,8 @@ pub struct Finished<C: Drop, L: Drop, N: Drop, A: Allocator = Global> {
     pub book: Book<C, A>,
     /// How many events and errors were missed in all.
     pub missed: u64,
-    /// What is left of the handler.
-    pub left: L,
+    /// What comes back of the handler.
+    pub handler: L,
     /// What the watcher found last.
     pub last: N,
 }
@@ -94,7 +94,7 @@ impl<
     C: FileIdCache<A> + Drop + Send + 'static,
     R: Threads + Wait + Clock + Files + Copy + Send + Sync + 'static,
     A: Allocator + Copy + Send + Sync + 'static,
-    L: Leaves,
+    L: ReturnedHandler,
 > Model for Running<T, K, C, R, A, L> {
     ghost use Rattle.std.specs.Prelude.{◌≡◌, true};
     ghost use Rattle.debounce_run.specs.Access.Happened.{entries_of, is_nil};
@@ -125,7 +125,7 @@ impl<
     C: FileIdCache<A> + Drop + Send + 'static,
     R: Threads + Wait + Clock + Files + Copy + Send + Sync + 'static,
     A: Allocator + Copy + Send + Sync + 'static,
-    L: Leaves,
+    L: ReturnedHandler,
 > Drop for Running<T, K, C, R, A, L> {
     fn drop(self) {
         self.shared.set_stop();
@@ -190,9 +190,14 @@ pub fn new_debouncer_opt<
         config,
         is_journaled: false,
     };
-    let began = Snapshot::of(&Forgotten);
-    start::<F, Forgotten, Forgotten, T, C, R, A>(
-        rt, alloc, how, event_handler, began, file_id_cache,
+    let began = Snapshot::of(&NoHandler);
+    start::<F, NoHandler, NoHandler, T, C, R, A>(
+        rt,
+        alloc,
+        how,
+        event_handler,
+        began,
+        file_id_cache,
     )
 }
 
@@ -227,16 +232,21 @@ pub fn new_journaled_debouncer<
         config,
         is_journaled: true,
     };
-    let began = Snapshot::of(&Forgotten);
-    start::<F, Forgotten, Forgotten, T, C, R, A>(
-        rt, alloc, how, event_handler, began, file_id_cache,
+    let began = Snapshot::of(&NoHandler);
+    start::<F, NoHandler, NoHandler, T, C, R, A>(
+        rt,
+        alloc,
+        how,
+        event_handler,
+        began,
+        file_id_cache,
     )
 }
 
 /// Starts a debouncer as [`new_debouncer_opt`] or [`new_journaled_debouncer`], whose handler comes back by
 /// [`Debouncer::finish`], for whoever proves what it was called with.
-pub fn new_told_debouncer<
-    F: DebounceEventHandler<DebounceEventResult<A>> + Leaves,
+pub fn new_debouncer_returning_handler<
+    F: DebounceEventHandler<DebounceEventResult<A>> + ReturnedHandler,
     T: Watcher<Feed<C, R, A>, R, A>,
     C: FileIdCache<A> + Drop + Send + 'static,
     R: Threads + Wait + Clock + Files + Copy + Send + Sync + 'static,
@@ -249,7 +259,7 @@ pub fn new_told_debouncer<
     file_id_cache: C,
 ) -> Result<Debouncer<T, C, R, A, F>, Error<A>>
     requires ready { F.ready event_handler }
-    requires leaves { LeavesAll F.handles (λ h l. l ≡ h) F.tells event_handler event_handler }
+    requires leaves { LeavesAll F.handles (λ h l. l ≡ h) F.emitted event_handler event_handler }
     requires takes { (feed : _) → T.takes feed }
     ensures rate { IsTooSlow how.timeout how.tick_rate → IsErrOf result too_slow }
     ensures opened { IfOk result (λ d. IsStarted d (as_nanos how.timeout) how.is_journaled) }
@@ -265,7 +275,7 @@ pub fn new_told_debouncer<
 fn start<
     F: DebounceEventHandler<DebounceEventResult<A>>,
     E: Ending<F, L> + Send + 'static,
-    L: Leaves,
+    L: ReturnedHandler,
     T: Watcher<Feed<C, R, A>, R, A>,
     C: FileIdCache<A> + Drop + Send + 'static,
     R: Threads + Wait + Clock + Files + Copy + Send + Sync + 'static,
@@ -279,7 +289,7 @@ fn start<
     cache: C,
 ) -> Result<Debouncer<T, C, R, A, L>, Error<A>>
     requires ready { F.ready handler }
-    requires leaves { LeavesAll F.handles E.ends L.tells handler began.value }
+    requires leaves { LeavesAll F.handles E.ends L.emitted handler began.value }
     requires takes { (feed : _) → T.takes feed }
     ensures rate { IsTooSlow how.timeout how.tick_rate → IsErrOf result too_slow }
     ensures opened { IfOk result (λ d. IsStarted d (as_nanos how.timeout) how.is_journaled) }
@@ -329,7 +339,7 @@ fn book_of<C: FileIdCache<A> + Drop, A: Allocator + Copy>(
 fn launch<
     F: DebounceEventHandler<DebounceEventResult<A>>,
     E: Ending<F, L> + Send + 'static,
-    L: Leaves,
+    L: ReturnedHandler,
     T: Watcher<Feed<C, R, A>, R, A>,
     C: FileIdCache<A> + Drop + Send + 'static,
     R: Threads + Wait + Clock + Files + Copy + Send + Sync + 'static,
@@ -342,7 +352,7 @@ fn launch<
     config: Config,
 ) -> Result<Debouncer<T, C, R, A, L>, Error<A>>
     requires ready { F.ready handler }
-    requires leaves { LeavesAll F.handles E.ends L.tells handler began.value }
+    requires leaves { LeavesAll F.handles E.ends L.emitted handler began.value }
     requires takes { (feed : _) → T.takes feed }
     requires rights { (shared.owner.keeps ≡ true) × (shared.owner.tells ≡ true)
         × (shared.owner.feeds ≡ true) }
@@ -369,7 +379,7 @@ fn launch<
 }
 
 /// A debouncer but for its watcher.
-struct Fed<C: FileIdCache<A> + Drop, R: Wait + Drop, L: Leaves, A: Allocator> {
+struct Fed<C: FileIdCache<A> + Drop, R: Wait + Drop, L: ReturnedHandler, A: Allocator> {
     feed: Feed<C, R, A>,
     worker: Worker<C, L, A>,
 }
@@ -378,7 +388,7 @@ struct Fed<C: FileIdCache<A> + Drop, R: Wait + Drop, L: Leaves, A: Allocator> {
 fn start_fed<
     F: DebounceEventHandler<DebounceEventResult<A>>,
     E: Ending<F, L> + Send + 'static,
-    L: Leaves,
+    L: ReturnedHandler,
     C: FileIdCache<A> + Drop + Send + 'static,
     R: Threads + Wait + Clock + Copy + Send + Sync + 'static,
     A: Allocator + Copy + Send + Sync + 'static,
@@ -389,7 +399,7 @@ fn start_fed<
     began: Snapshot<L>,
 ) -> Result<Fed<C, R, L, A>, Error<A>>
     requires ready { F.ready handler }
-    requires leaves { LeavesAll F.handles E.ends L.tells handler began.value }
+    requires leaves { LeavesAll F.handles E.ends L.emitted handler began.value }
     requires rights { (shared.old.owner.tells ≡ true) × (shared.old.owner.feeds ≡ true) }
     requires fresh { picked is_emitting shared.old.owner.seen ≡ [] }
     ensures same { StaysButRights shared.old.owner shared.new.owner }
@@ -425,7 +435,7 @@ fn start_watcher<
     ensures stays { IfOk result (λ _. StaysOfLock T.Task.ends) }
     ensures err { IfErr result (λ e. T.refuses e ⊎ ((e ≡ out_of_memory) ⊎ (e ≡ not_started))) }
 {
-    let made = Made::of(&feed, config);
+    let made = WatcherArguments::of(&feed, config);
     let (watcher, task) = T::new(rt, alloc, feed, config)?;
     let thread = start_task(rt, alloc, task, made)?;
     Ok((watcher, thread))
@@ -436,7 +446,7 @@ impl<
     C: FileIdCache<A> + Drop + Send + 'static,
     R: Threads + Wait + Clock + Files + Copy + Send + Sync + 'static,
     A: Allocator + Copy + Send + Sync + 'static,
-    L: Leaves,
+    L: ReturnedHandler,
 > Debouncer<T, C, R, A, L> {
     /// Watches a path from now on; in the mode `Recursive` also what is below it.
     ///
@@ -497,7 +507,7 @@ impl<
     }
 
     /// Stops the watcher and the debouncer's thread, waits until both have ended, and returns what is left: the
-    /// book, how many events and errors were missed in all, what is left of the handler, which was called with just
+    /// book, how many events and errors were missed in all, what comes back of the handler, which was called with just
     /// what was emitted, and what the watcher found last. A turn that has begun is finished, as by `stop`. The
     /// watcher looks once more before it ends, so that what changed before this call is reported too, and what it
     /// reports until it has ended goes to the book.
@@ -510,7 +520,7 @@ impl<
     /// It waits until the watcher's work has ended: for ever, if that goes on after the watcher's drop.
     pub fn finish(self) -> Finished<C, L, LastOf<T, C, R, A>, A>
         ensures ended { IsFinished C.rules T.Task.ends self.made result.last
-            (L.tells self.began) result.left self.seen self.parts result.book result.missed }
+            (L.emitted self.began) result.handler self.seen self.parts result.book result.missed }
         ensures legal { IfSome result.book.journal (λ es. IsLegal es result.book.core.state) }
         ensures part { IfSome result.book.part (λ es. IsPart es result.book.core.state) }
     {
@@ -524,12 +534,12 @@ impl<
         watcher.look_last();
         drop(watcher);
         let (feed, last) = thread.join(&shared.rt);
-        let (emitted, left) = worker.join(&shared.rt);
-        let (book, missed) = shared.into_book(emitted, feed);
+        let (pass, handler) = worker.join(&shared.rt);
+        let (book, missed) = shared.into_book(pass, feed);
         Finished {
             book,
             missed,
-            left,
+            handler,
             last,
         }
     }
@@ -541,7 +551,7 @@ impl<
     C: FileIdCache<A> + Drop + Send + 'static,
     R: Threads + Wait + Clock + Files + Copy + Send + Sync + 'static,
     A: Allocator + Copy + Send + Sync + 'static,
-    L: Leaves,
+    L: ReturnedHandler,
 > Running<T, K, C, R, A, L> {
     /// Returns how many events and errors of the watcher were refused, and so are never emitted.
     /// After 2^64 - 1 it begins again at 0.
@@ -622,7 +632,7 @@ impl<
     /// thread has ended too.
     pub fn stop_journal(self) -> Result<(Moment, Vec<Entry<A>, A>), Error<A>>
         ensures ended { self.is_whole ≡ true → IfOk result (λ r. (left : L)
-            × EndsJournal C.rules (L.tells self.began) left self.seen r.0 r.1.items) }
+            × EndsJournal C.rules (L.emitted self.began) left self.seen r.0 r.1.items) }
         ensures legal { IfOk result (λ r. IsJournal r.0 r.1.items) }
         ensures kept { IfOk result (λ r. LosesNoChange r.0 r.1.items) }
         ensures raw { IfOk result (λ r. GivesRawPaths r.0 r.1.items) }
@@ -636,8 +646,8 @@ impl<
             shared,
             worker,
         } = self;
-        let (teller, left) = worker.join(&shared.rt);
-        drop(left);
+        let (teller, handler) = worker.join(&shared.rt);
+        drop(handler);
         shared.into_journal(teller)
     }
 }
@@ -647,7 +657,7 @@ impl<
     C: FileIdCache<A> + Drop + Send + 'static,
     R: Threads + Wait + Clock + Files + Copy + Send + Sync + 'static,
     A: Allocator + Copy + Send + Sync + 'static,
-    L: Leaves,
+    L: ReturnedHandler,
 > Debouncer<T, C, R, A, L> {
     /// Watches a path as `watch` does, and returns what stands there. The batches tell how this changes, if
     /// nothing at, below or above the path was watched since the debouncer was started; for roots that

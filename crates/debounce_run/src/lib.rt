@@ -29,7 +29,7 @@ mod worker;
 pub use access::Access;
 pub use debouncer::{
     Debouncer, Finished, LastOf, Running, Start, TaskOf, new_debouncer_opt,
-    new_journaled_debouncer, new_told_debouncer,
+    new_debouncer_returning_handler, new_journaled_debouncer,
 };
 pub use send_to::{SendTo, Unsent};
 pub use threads::meet::{Meet, NoMeet};
@@ -37,7 +37,7 @@ pub use threads::run::run_threads;
 pub use turns::clock::{Stopwatch, now};
 pub use turns::feed::Feed;
 pub use turns::feeding::Feeding;
-pub use turns::left::{Forgotten, Leaves};
+pub use turns::returned::{NoHandler, ReturnedHandler};
 pub use turns::ticking::Ticking;
 pub use turns::turn::{FeedGate, Gate, TickGate, feed_one, turn};
-pub use watcher_thread::{Hands, Made, WatcherThread, start_task};
+pub use watcher_thread::{Hands, WatcherArguments, WatcherThread, start_task};

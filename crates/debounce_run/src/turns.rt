@@ -8,8 +8,8 @@
 pub mod clock;
 pub mod feed;
 pub mod feeding;
-pub mod left;
 pub mod life;
+pub mod returned;
 pub mod shared;
 pub mod ticking;
 pub mod turn;

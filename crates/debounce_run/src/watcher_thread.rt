@@ -15,17 +15,17 @@ use std::thread::{Promise, Threads};
 
 /// With what a watcher was made, as clauses saw it: its handler, and its configuration.
 #[derive(Drop)]
-pub struct Made<F> {
+pub struct WatcherArguments<F> {
     pub handler: Snapshot<F>,
     pub config: Config,
 }
 
-impl<F> Made<F> {
+impl<F> WatcherArguments<F> {
     /// Shows what a watcher is about to be made with.
-    pub fn of(handler: &F, config: Config) -> Made<F>
+    pub fn of(handler: &F, config: Config) -> WatcherArguments<F>
         ensures { (result.handler.value ≡ handler.now) × (result.config ≡ config) }
     {
-        Made {
+        WatcherArguments {
             handler: Snapshot::of(handler),
             config,
         }
@@ -35,7 +35,7 @@ impl<F> Made<F> {
 /// What a watcher's thread promises: the handler comes back, and what was found last, as its work ends.
 #[derive(Drop)]
 pub struct Hands<K: Task> {
-    pub made: Made<K::Handler>,
+    pub made: WatcherArguments<K::Handler>,
     of: PhantomData<K>,
 }
 
@@ -58,7 +58,7 @@ pub fn start_task<
     R: Threads + Wait + Copy + Send + 'static,
     K: Task<Handler = F>,
     A: Allocator + Copy + Send + Sync + 'static,
->(rt: R, alloc: A, task: K, made: Made<F>) -> Result<WatcherThread<K, A>, Error<A>>
+>(rt: R, alloc: A, task: K, made: WatcherArguments<F>) -> Result<WatcherThread<K, A>, Error<A>>
     requires { K.is_made task made.handler.value made.config }
     ensures ok { IfOk result (λ thread. thread.made ≡ made) }
     ensures err { IfErr result (λ e. (e ≡ out_of_memory) ⊎ (e ≡ not_started)) }

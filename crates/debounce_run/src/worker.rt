@@ -9,8 +9,8 @@ ghost use Rattle.debounce_run.specs.Turns.Handed.{Handed, LeavesAll};
 
 use crate::access::Access;
 use crate::access::locked::BookPass;
-use crate::turns::left::{Ending, Leaves};
 use crate::turns::life::{Pace, turns};
+use crate::turns::returned::{Ending, ReturnedHandler};
 use crate::turns::shared::{Shared, Signals};
 use crate::watcher_thread::start_error;
 use debounce_cache::FileIdCache;
@@ -23,15 +23,15 @@ use std::sync::{Arc, Wait};
 use std::thread::{Promise, Threads};
 use std::time::Clock;
 
-/// What the worker promises: the pass by which it emitted comes back, and what is left of the handler, which
+/// What the worker promises: the pass by which it emitted comes back, and what comes back of the handler, which
 /// tells what was emitted.
 #[derive(Drop)]
-pub(crate) struct Returns<C: FileIdCache<A> + Drop, L: Leaves, A: Allocator> {
+pub(crate) struct Returns<C: FileIdCache<A> + Drop, L: ReturnedHandler, A: Allocator> {
     pub access: Snapshot<Access<C, A>>,
     pub began: Snapshot<L>,
 }
 
-impl<C: FileIdCache<A> + Drop, L: Leaves, A: Allocator> Promise<(BookPass<C, A>, L)>
+impl<C: FileIdCache<A> + Drop, L: ReturnedHandler, A: Allocator> Promise<(BookPass<C, A>, L)>
     for Returns<C, L, A> {
     ghost use Rattle.std.specs.Prelude.{◌≡◌, true, []};
     ghost use Rattle.debounce_lock.specs.History.{picked};
@@ -40,17 +40,17 @@ impl<C: FileIdCache<A> + Drop, L: Leaves, A: Allocator> Promise<(BookPass<C, A>,
 
     ghost kept_by = { λ p r. (r.0.table_id ≡ p.access.value.lock) × (r.0.me.1 ≡ [])
         × (tells_of r.0 ≡ true)
-        × L.tells p.began.value r.1 (picked is_emitting (seen_by r.0)) };
+        × L.emitted p.began.value r.1 (picked is_emitting (seen_by r.0)) };
 }
 
-/// The debouncer's own thread, which ends with the pass by which it emitted and what is left of the handler.
+/// The debouncer's own thread, which ends with the pass by which it emitted and what comes back of the handler.
 pub(crate) type Worker<C, L, A> = SlotHandle<(BookPass<C, A>, L), Returns<C, L, A>, A>;
 
 /// Starts the worker. `E` says how its handler ends.
 pub(crate) fn start_worker<
     F: DebounceEventHandler<DebounceEventResult<A>>,
     E: Ending<F, L> + Send + 'static,
-    L: Leaves,
+    L: ReturnedHandler,
     C: FileIdCache<A> + Drop + Send + 'static,
     R: Threads + Wait + Clock + Copy + Send + Sync + 'static,
     A: Allocator + Copy + Send + Sync + 'static,
@@ -61,7 +61,7 @@ pub(crate) fn start_worker<
     pace: Pace,
 ) -> Result<Worker<C, L, A>, Error<A>>
     requires ready { F.ready handler }
-    requires leaves { LeavesAll F.handles E.ends L.tells handler began.value }
+    requires leaves { LeavesAll F.handles E.ends L.emitted handler began.value }
     requires tells { shared.old.owner.tells ≡ true }
     requires fresh { picked is_emitting shared.old.owner.seen ≡ [] }
     ensures same { StaysButTells shared.old.owner shared.new.owner }
@@ -82,7 +82,7 @@ pub(crate) fn start_worker<
 fn spawned<
     H: DebounceEventHandler<DebounceEventResult<A>>,
     E: Ending<H, L> + Send + 'static,
-    L: Leaves,
+    L: ReturnedHandler,
     C: FileIdCache<A> + Drop + Send + 'static,
     R: Threads + Wait + Clock + Copy + Send + Sync + 'static,
     A: Allocator + Copy + Send + Sync + 'static,
@@ -96,7 +96,7 @@ fn spawned<
     pace: Pace,
 ) -> Result<Worker<C, L, A>, Unstarted>
     requires ready { H.ready handler }
-    requires leaves { LeavesAll H.handles E.ends L.tells handler began.value }
+    requires leaves { LeavesAll H.handles E.ends L.emitted handler began.value }
     requires tells { access.tells ≡ true }
     requires fresh { picked is_emitting access.seen ≡ [] }
     ensures { IfOk result (λ w. (w.access.value.lock ≡ access.lock)

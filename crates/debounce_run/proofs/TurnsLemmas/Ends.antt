@@ -40,7 +40,7 @@ keeps_laws {C} {r} parts book count log led ran = record {
 }
 
 module _ {L : Type 0} (emitted : L → History → Type 0) (left : L) where
-  -- what is left tells all that was emitted, and the watcher's work has brought the feed back
+  -- what comes back tells all that was emitted, and the watcher's work has brought the feed back
   pub finishes : {C Last : Type 0} {r : Rules C} (ends : Known → Config → Known → Last → Type 0) (begun : Known)
       (config : Config) (now : Known) (last : Last) (seen worker : History) (parts : List EntryValue) (book : Kept C)
       (count : ℕ)

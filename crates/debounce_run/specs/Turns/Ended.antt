@@ -33,7 +33,7 @@ pub record KeepsLaws {C : Type 0} (rules : Rules C) (core : Core C) (es : List E
   pub kept : LosesNoChange core.state.timeout es
   pub founded : InventsNoRename core.state.timeout es
 
--- a debouncer has ended: its history leads to this book and this count, what is left of the handler tells what was
+-- a debouncer has ended: its history leads to this book and this count, what comes back of the handler tells what was
 -- emitted in it, and the laws of whole runs hold of it
 pub record IsEnded {C L : Type 0} (rules : Rules C) (emitted : L → History → Type 0) (left : L) (seen fed : History)
     (parts : List EntryValue) (book : Kept C) (count : ℕ) : Type 0 where
@@ -55,7 +55,7 @@ StaysOfLock {Last} ends =
     → now.lock ≡ begun.lock
 
 -- these are the timeout and the journal of one history that goes on from what was seen, all in it was done by the
--- cache's rules, and what is left of the handler tells what was emitted in it. Each event that was emitted was as old
+-- cache's rules, and what comes back of the handler tells what was emitted in it. Each event that was emitted was as old
 -- as the timeout, and a cache without numbers has given none
 pub record EndsJournal {C L : Type 0} (rules : Rules C) (emitted : L → History → Type 0) (left : L) (seen : History)
     (timeout : ℕ) (journal : List EntryValue) : Type 0 where

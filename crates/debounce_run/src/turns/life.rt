@@ -9,7 +9,7 @@ ghost use Rattle.debounce_run.specs.Turns.Handed.{Handed, HandsOn, TicksNow, tic
 use crate::access::Access;
 use crate::access::locked::BookPass;
 use crate::turns::clock::Stopwatch;
-use crate::turns::left::{Ending, Leaves};
+use crate::turns::returned::{Ending, ReturnedHandler};
 use crate::turns::shared::Signals;
 use crate::turns::ticking::Ticking;
 use crate::turns::turn::turn;
@@ -35,7 +35,7 @@ pub struct Pace {
 pub fn turns<
     H: DebounceEventHandler<DebounceEventResult<A>>,
     E: Ending<H, L>,
-    L: Leaves,
+    L: ReturnedHandler,
     C: FileIdCache<A> + Drop,
     R: Wait + Clock + Copy,
     A: Allocator + Copy,

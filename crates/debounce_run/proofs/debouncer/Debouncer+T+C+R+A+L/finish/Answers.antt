@@ -3,4 +3,4 @@ use Rattle.debounce_run.proofs.debouncer.Debouncer+T+C+R+A+L.finish.Goals as goa
 
 pub returns-clause-ended : goal.returns-clause-ended
 returns-clause-ended g c = rw (← c.self.view_is)
-    (finishes _ _ _ _ _ _ _ _ _ _ _ _ c.into_book-book.ensures.history c.join-emitted.ensures.3 c.join-feed.ensures)
+    (finishes _ _ _ _ _ _ _ _ _ _ _ _ c.into_book-book.ensures.history c.join-pass.ensures.3 c.join-feed.ensures)
