@@ -124,7 +124,8 @@ module _ {C A : Type 0} {r : Rules C} where
   pub history_by : (u v : Hand HappenedValue) (x : Locked C A) (worker fed : History) → u.keeps ≡ true
       → Took (StandsIn r) told_as u x v → Begins worker v.seen → picked is_emitting worker ≡ picked is_emitting v.seen
       → Begins fed v.seen → picked is_fed fed ≡ picked is_fed v.seen
-      → (log : History) × IsHistory r u.seen fed (entries_of u.taken) x.book.value x.missed log × HasAllEmitted worker log
+      → (log : History) × IsHistory r u.seen fed (entries_of u.taken) x.book.value x.missed log
+      × HasAllEmitted worker log
   history_by u v x worker fed keeps took begins emits begun all = (
     v.seen,
     record {

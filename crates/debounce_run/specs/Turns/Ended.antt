@@ -23,9 +23,9 @@ pub record IsHistory {C : Type 0} (rules : Rules C) (seen fed : History) (parts 
   pub ran : RanTo rules (entries_of log) book.core
   pub all_fed : HasAllFed fed log
 
--- the laws of whole runs, of a core to which these entries lead by these rules. Each event that was emitted was as old as
--- the timeout; a cache without numbers has given none; who played every batch, and then what waits, has the raw paths;
--- without renames no change that an event told is lost; and no joined rename is invented
+-- the laws of whole runs, of a core to which these entries lead by these rules. Each event that was emitted was as old
+-- as the timeout; a cache without numbers has given none; who played every batch, and then what waits, has the raw
+-- paths; without renames no change that an event told is lost; and no joined rename is invented
 pub record KeepsLaws {C : Type 0} (rules : Rules C) (core : Core C) (es : List EntryValue) : Type 0 where
   pub aged : AreAged core.state.timeout 0 es
   pub unnumbered : NumbersNothing rules → HaveNoNumbers es
@@ -55,8 +55,8 @@ StaysOfLock {Last} ends =
     → now.lock ≡ begun.lock
 
 -- these are the timeout and the journal of one history that goes on from what was seen, all in it was done by the
--- cache's rules, and what comes back of the handler tells what was emitted in it. Each event that was emitted was as old
--- as the timeout, and a cache without numbers has given none
+-- cache's rules, and what comes back of the handler tells what was emitted in it. Each event that was emitted was as
+-- old as the timeout, and a cache without numbers has given none
 pub record EndsJournal {C L : Type 0} (rules : Rules C) (emitted : L → History → Type 0) (left : L) (seen : History)
     (timeout : ℕ) (journal : List EntryValue) : Type 0 where
   pub log : History
