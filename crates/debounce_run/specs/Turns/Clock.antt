@@ -8,6 +8,10 @@ use Rattle.notify_paths.specs.Errors.{ErrorValue, IoKind}
 abbrev pub IsIo : ErrorValue → Type 0
 IsIo error = (kind : ErrorKind) × (error ≡ record { kind = IoKind kind; paths = [] })
 
+-- the error of this kind, without paths
+abbrev pub io_error : ErrorKind → ErrorValue
+io_error kind = record { kind = IoKind kind; paths = [] }
+
 -- the answers so far, if there is one
 abbrev pub answered : Option (Shown (List ℕ)) → List ℕ
 answered None = []

@@ -1,6 +1,8 @@
 //! The clock of the running debouncer.
-ghost use Rattle.std.specs.Prelude.{◌≡◌, ◌++◌, ◌∷◌, [], IfErr, IfOk, OnErr};
-ghost use Rattle.debounce_run.specs.Turns.Clock.{IsIo};
+ghost use Rattle.std.specs.Prelude.{◌≡◌, ◌++◌, ◌∷◌, [], Ok, IfErr, IfOk, IsErrOf, OnErr};
+ghost use Rattle.std.specs.Duration.{as_nanos};
+ghost use Rattle.std.specs.IoError.{error_kind};
+ghost use Rattle.debounce_run.specs.Turns.Clock.{IsIo, io_error};
 
 use debounce_lock::Shown;
 use notify_paths::{Error, ErrorKind};
@@ -8,7 +10,7 @@ use notify_types::Moment;
 use std::alloc::Allocator;
 use std::io;
 use std::marker::Model;
-use std::time::{Clock, Instant};
+use std::time::{Clock, Duration, Instant};
 
 /// A clock that counts from a start. Clauses see the moments that it has answered, in order: only
 /// [`Stopwatch::read`] adds one. Of how they pass std says nothing, and so no clause does.
@@ -79,7 +81,17 @@ impl Stopwatch {
 pub fn now<R: Clock, A: Allocator>(rt: &R, alloc: A, start: Instant) -> Result<Moment, Error<A>>
     ensures { IfErr result IsIo }
 {
-    match start.elapsed(rt) {
+    moment_of(alloc, start.elapsed(rt))
+}
+
+/// The moment that a clock answered, or why it answered none. Of what std's clock answers no clause of std's says
+/// anything, and so no clause says that `now` passes on its answer.
+fn moment_of<A: Allocator>(alloc: A, answer: io::Result<Duration>) -> Result<Moment, Error<A>>
+    ensures ok { IfOk answer (λ elapsed. result ≡ Ok (as_nanos elapsed)) }
+    ensures err { IfErr answer (λ error. IsErrOf result (io_error (error_kind error))) }
+    ensures io { IfErr result IsIo }
+{
+    match answer {
         Ok(elapsed) => Ok(elapsed.as_nanos()),
         Err(error) => Err(io_error(alloc, &error)),
     }
@@ -93,7 +105,8 @@ pub fn start_of<R: Clock, A: Allocator>(rt: &R, alloc: A) -> Result<Instant, Err
 }
 
 fn io_error<A: Allocator>(alloc: A, error: &io::Error) -> Error<A>
-    ensures { IsIo result }
+    ensures kind { result ≡ io_error (error_kind error.now) }
+    ensures io { IsIo result }
 {
     Error::new(alloc, ErrorKind::Io(error.kind()))
 }
