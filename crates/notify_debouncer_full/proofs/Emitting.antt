@@ -1,5 +1,5 @@
 -- What a handler that puts reports into a queue was called with.
-use Rattle.std.proofs.Common.{◌≡◌, ℕ, ◌+◌, ◌-◌, ◌^◌, min, Bool, true, false, if◌then◌else◌, List, [], ◌∷◌, ◌++◌, map, Option, Ok, Err, sym, refl, ap, ◌∙◌, subst, append_assoc, append-nil, arith}
+use Rattle.std.proofs.Common.{◌≡◌, ℕ, ◌+◌, ◌-◌, ◌^◌, min, Bool, true, false, if◌then◌else◌, List, [], ◌∷◌, ◌++◌, map, Ok, Err, sym, refl, ap, ◌∙◌, subst, append_assoc, append-nil, arith}
 use Rattle.notify_watch.specs.Handler.{Outcome}
 use Rattle.notify_watch.specs.declared.config.Config.{Config}
 use Rattle.debounce_book.specs.Book.{Kept}
@@ -8,11 +8,11 @@ use Rattle.debounce_model.specs.Cache.{no_numbers}
 use Rattle.debounce_model.specs.Command.{ReplyValue, ErrorsReply, BatchReply}
 use Rattle.debounce_run.specs.Access.Happened.{HappenedValue, History, Accepted}
 use Rattle.debounce_run.specs.Access.Stands.{Known}
-use Rattle.debounce_run.specs.Turns.Ended.{IsEnded, IsFinished}
+use Rattle.debounce_run.specs.Turns.Ended.{IsFinished}
 use Rattle.debounce_run.specs.Turns.Handed.{Handed, HandsOne, HandsReply, LeavesAll}
 use Rattle.debounce_run.specs.Turns.Turn.{HandsList}
 use Rattle.debounce_lock.specs.Reports.Queue.{Calls, Sending, lost_in, put_in}
-use Rattle.notify_debouncer_full.specs.Emitted.{CallsOnce, EndsReports, FinishesReports, IsGiven, Report, WasCalled, called, once, plain, reported_by, reports_at, reports_of}
+use Rattle.notify_debouncer_full.specs.Emitted.{CallsOnce, FinishesReports, IsGiven, Report, WasCalled, called, once, plain, reported_by, reports_at, reports_of}
 
 module _ {A : Type 0} where
   called_append : (a b : Calls (Outcome A)) → called (a ++ b) ≡ called a ++ called b
@@ -93,33 +93,19 @@ module _ {A : Type 0} where
   }
 
   -- .. at the end
-  pub ends_reports : {C : Type 0} (began left : Sending (Outcome A)) (seen : History) (parts : List EntryValue)
+  pub finishes_reports : {C Last : Type 0} (ends : Known → Config → Known → Last → Type 0) (made : Known × Config)
+      (last : Last) (began left : Sending (Outcome A)) (seen : History) (parts : List EntryValue)
       (given rest : List (Outcome A)) (unsent : ℕ) (book : Kept C) (count : ℕ)
-      → IsEnded no_numbers (WasCalled began) left seen parts book count → began.calls ≡ []
-      → given ++ rest ≡ put_in left.calls → unsent ≡ min (lost_in left.calls) (2 ^ 64 - 1)
-      → EndsReports seen parts given rest unsent book count
-  ends_reports began left seen parts given rest unsent book count ended fresh put lost = record {
-    log = ended.log;
-    goes_on = ended.goes_on;
-    leads = ended.leads;
-    ran = ended.ran;
-    aged = ended.aged;
-    unnumbered = ended.unnumbered;
-    told = gives_all began left given rest unsent _ ended.told fresh put lost;
-    raw = ended.raw;
-    kept = ended.kept;
-    founded = ended.founded;
-  }
-
-  -- .. and its watcher's
-  pub finishes_reports : {C Last : Type 0} (ends : Known → Config → Known → Last → Type 0)
-      (made : Option (Known × Config)) (last : Option Last) (began left : Sending (Outcome A)) (seen : History)
-      (parts : List EntryValue) (given rest : List (Outcome A)) (unsent : ℕ) (book : Kept C) (count : ℕ)
       → IsFinished no_numbers ends made last (WasCalled began) left seen parts book count → began.calls ≡ []
       → given ++ rest ≡ put_in left.calls → unsent ≡ min (lost_in left.calls) (2 ^ 64 - 1)
       → FinishesReports ends made last seen parts given rest unsent book count
-  unfolding ends_reports
-  finishes_reports ends made last began left seen parts given rest unsent book count finished fresh put lost = (
-    ends_reports began left seen parts given rest unsent book count finished.ended fresh put lost,
-    finished.fed,
+  finishes_reports ends made last began left seen parts given rest unsent book count (now, end, e) fresh put lost = (
+    now,
+    end,
+    record {
+      log = e.log;
+      history = e.history;
+      handler = gives_all began left given rest unsent _ e.handler fresh put lost;
+      laws = e.laws;
+    },
   )

@@ -1,5 +1,5 @@
 -- What was emitted, as reports, and what a queue of them gave.
-use Rattle.std.specs.Prelude.{◌≡◌, ◌-◌, ◌^◌, ℕ, min, Bool, List, [], ◌∷◌, ◌++◌, map, Option, Result, Ok, Err}
+use Rattle.std.specs.Prelude.{◌≡◌, ◌-◌, ◌^◌, ℕ, min, Bool, List, [], ◌∷◌, ◌++◌, map, Result, Ok, Err}
 use Rattle.notify_paths.specs.Errors.{ErrorValue}
 use Rattle.notify_types.specs.Event.{Timed}
 use Rattle.notify_watch.specs.Handler.{Outcome}
@@ -10,7 +10,7 @@ use Rattle.debounce_book.specs.Book.{Kept}
 use Rattle.debounce_book.specs.Journal.{EntryValue}
 use Rattle.debounce_run.specs.Access.Happened.{HappenedValue, History, Accepted}
 use Rattle.debounce_run.specs.Access.Stands.{Known}
-use Rattle.debounce_run.specs.Turns.Ended.{FeedComesBack, IsEnded}
+use Rattle.debounce_run.specs.Turns.Ended.{IsFinished}
 use Rattle.debounce_lock.specs.Reports.Queue.{Calls, Giving, Sending, lost_in, put_in}
 
 -- what a report has, whichever its allocator is
@@ -82,16 +82,11 @@ module _ {A : Type 0} where
     pub unsent_is : unsent ≡ min (lost_in calls) (2 ^ 64 - 1)
     pub whole : unsent ≡ 0 → map plain (given ++ left) ≡ reports_of emitted
 
-  -- it is as at the end of a debouncer whose cache has no numbers, and what was emitted was given or is left
-  abbrev pub EndsReports : {C : Type 0} → History → List EntryValue → List (Outcome A) → List (Outcome A) → ℕ
-      → Kept C → ℕ → Type 0
-  EndsReports seen parts given left unsent book count =
-      IsEnded no_numbers (λ (rest : List (Outcome A) × ℕ) emitted. IsGiven given rest.0 rest.1 emitted)
-      (left, unsent) seen parts book count
-
-  -- it is as at the end of such a debouncer, and the feed of its watcher has come back, with what was found last, which
-  -- is told of the same history
-  abbrev pub FinishesReports : {C Last : Type 0} → (Known → Config → Known → Last → Type 0) → Option (Known × Config)
-      → Option Last → History → List EntryValue → List (Outcome A) → List (Outcome A) → ℕ → Kept C → ℕ → Type 0
+  -- a debouncer has ended whose cache has no numbers, with its watcher's work and what was found last, and what was
+  -- emitted was given or is left
+  abbrev pub FinishesReports : {C Last : Type 0} → (Known → Config → Known → Last → Type 0) → Known × Config
+      → Last → History → List EntryValue → List (Outcome A) → List (Outcome A) → ℕ → Kept C → ℕ → Type 0
   FinishesReports ends made last seen parts given left unsent book count =
-      (ended : EndsReports seen parts given left unsent book count) × FeedComesBack ends made last ended.log
+      IsFinished no_numbers ends made last
+      (λ (rest : List (Outcome A) × ℕ) emitted. IsGiven given rest.0 rest.1 emitted) (left, unsent) seen parts book
+      count

@@ -36,11 +36,10 @@ pub use debounce_model::{Command, FileId, Reply};
 pub use debounce_order::sort_events;
 pub use debounce_queues::Queue;
 pub use debounce_run::{
-    ByHand, Debouncer, Feed, FeedGate, Finished, Forgotten, Gate, Hands, LastOf, Leaves, Made,
-    Meet, NoMeet, Receipt, Running, SendTo, TaskOf, TickGate, Unsent, WatcherThread, feed_one,
-    new_debouncer_by_hand, new_debouncer_opt, new_journaled_debouncer,
-    new_journaled_debouncer_by_hand, new_told_debouncer, new_told_debouncer_by_hand, now,
-    run_threads, start_task, turn,
+    Debouncer, Feed, FeedGate, Finished, Gate, Hands, LastOf, Meet, NoHandler, NoMeet,
+    ReturnedHandler, Running, SendTo, Start, TaskOf, TickGate, Unsent, WatcherArguments,
+    WatcherThread, feed_one, new_debouncer_opt, new_debouncer_returning_handler,
+    new_journaled_debouncer, now, run_threads, start_task, turn,
 };
 pub use notify_paths::{Error, ErrorKind, FoldersAbove, Part, Parts, PathBuf};
 pub use notify_types::{
@@ -53,10 +52,7 @@ pub use notify_watch::{
 };
 pub use queue_handler::QueueHandler;
 pub use reader_paths::moves::{Move, Moves};
-pub use recommended::{
-    RecommendedCache, RecommendedDebouncer, RecommendedWatcher, new_debouncer,
-    new_debouncer_with_config,
-};
+pub use recommended::{RecommendedCache, RecommendedDebouncer, RecommendedWatcher, new_debouncer};
 pub use reports::{LastReports, QueueingDebouncer, RecommendedReports, Reports, ReportsBy};
 pub use runtime::{DebouncerAllocator, DebouncerRuntime};
 

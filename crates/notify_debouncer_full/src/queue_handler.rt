@@ -2,7 +2,7 @@
 ghost use Rattle.std.specs.Prelude.{◌≡◌};
 
 use debounce_lock::ReportSender;
-use debounce_run::Leaves;
+use debounce_run::ReturnedHandler;
 use notify_watch::{DebounceEventHandler, DebounceEventResult};
 use std::alloc::{Allocator, Global};
 use std::marker::Model;
@@ -55,9 +55,9 @@ impl<R: Wait + Drop + Send + 'static, A: Allocator + Send + Sync + 'static> Debo
     }
 }
 
-impl<R: Wait + Drop + Send + 'static, A: Allocator + Send + Sync + 'static> Leaves
+impl<R: Wait + Drop + Send + 'static, A: Allocator + Send + Sync + 'static> ReturnedHandler
     for QueueHandler<R, A> {
     ghost use Rattle.notify_debouncer_full.specs.Emitted.{WasCalled};
 
-    ghost tells = { λ began left emitted. WasCalled began left emitted };
+    ghost emitted = { λ began ended log. WasCalled began ended log };
 }

@@ -19,7 +19,9 @@ use crate::recommended::{RecommendedCache, RecommendedWatcher};
 use crate::runtime::{DebouncerAllocator, DebouncerRuntime};
 use debounce_book::Book;
 use debounce_lock::{QueueRest, ReportQueue, report_queue};
-use debounce_run::{Debouncer, Feed, Finished, LastOf, Running, TaskOf, new_told_debouncer};
+use debounce_run::{
+    Debouncer, Feed, Finished, LastOf, Running, Start, TaskOf, new_debouncer_returning_handler,
+};
 use notify_paths::{Error, ErrorKind, PathBuf};
 use notify_types::{DebouncedEvent, RecursiveMode};
 use notify_watch::{Config, DebounceEventResult, ListingWatcher, Task, Watcher};
@@ -83,8 +85,8 @@ pub struct LastReports<A: DebouncerAllocator = Global, N: Drop = LastFound<A>> {
     /// How many batches and lists of errors could not be put into the queue, since an allocation failed. It counts
     /// no further than 2^64 - 1.
     pub unsent: u64,
-    /// What the watcher found last; `None` if the debouncer was fed by hand.
-    pub last: Option<N>,
+    /// What the watcher found last.
+    pub last: N,
 }
 
 impl<
@@ -119,7 +121,13 @@ impl<
         };
         let handler = QueueHandler::new(rt, sender);
         let cache = RecommendedCache::new();
-        let debouncer = new_told_debouncer(rt, alloc, timeout, tick_rate, handler, cache, config)?;
+        let how = Start {
+            timeout,
+            tick_rate,
+            config,
+            is_journaled: false,
+        };
+        let debouncer = new_debouncer_returning_handler(rt, alloc, how, handler, cache)?;
         Ok(ReportsBy {
             rt,
             debouncer,
@@ -184,10 +192,10 @@ impl<
         let Finished {
             book,
             missed,
-            left,
+            handler,
             last,
-        } = debouncer.finish_left();
-        let QueueRest { reports, unsent } = queue.close(&rt, left.into_sender());
+        } = debouncer.finish();
+        let QueueRest { reports, unsent } = queue.close(&rt, handler.into_sender());
         LastReports {
             queue: reports,
             book,
