@@ -18,7 +18,7 @@ pub enum Kind {
     Sort,
     /// N creations that stay pending; timed are fifty ticks that emit ten events each.
     Due,
-    /// N modifications of a thousand paths in turn, each by a feed of a debouncer that runs, with its clock and its
+    /// N modifications of a thousand paths in turn, each by a feed's way to a book, with its clock and its
     /// lock. An operation is a feed.
     Feed,
     /// N turns of a debouncer's worker over a thousand pending events, with its lock; none is due. An operation is a

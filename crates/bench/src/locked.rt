@@ -6,14 +6,13 @@ use crate::workloads::Figures;
 use anyhow::Result;
 use debounce_run::{Access, Feeding, Stopwatch, Ticking};
 use notify_debouncer_full::{
-    Book, DebounceEventResult, DebouncerRuntime, Event, Feed, Moment, NoCache, feed_one,
-    new_debouncer_by_hand, turn,
+    Book, DebounceEventResult, DebouncerRuntime, Event, Moment, NoCache, feed_one, turn,
 };
 use std::alloc::Global;
-use std::time::{Duration, Instant};
+use std::time::Instant;
 
-/// The timeout of the debouncer that is fed by hand, in seconds: nothing is emitted meanwhile.
-const HOUR: u64 = 3600;
+/// The timeout of the feeds, in nanoseconds: nothing is due meanwhile.
+const HOUR: Moment = 3_600_000_000_000;
 
 /// The timeout of the turns, in nanoseconds.
 const TIMEOUT: Moment = 1_000_000_000_000;
@@ -21,17 +20,16 @@ const TIMEOUT: Moment = 1_000_000_000_000;
 /// How many events are pending at each turn.
 const PENDING: u64 = 1000;
 
-/// Times so many feeds of a debouncer that is fed by hand. The checksum is how many events are pending then.
-pub fn feed_by_hand<R: DebouncerRuntime + AllocGlobal>(rt: &R, n: u64) -> Result<Figures> {
+/// Times so many feeds, for each of which the clock is read. The checksum is how many events are pending then.
+pub fn feed_under_lock<R: DebouncerRuntime + AllocGlobal>(rt: &R, n: u64) -> Result<Figures> {
     let events = modifications(rt.alloc(), n)?;
-    let handler = |_outcome: DebounceEventResult| {};
-    let hour = Duration::from_secs(HOUR);
-    let cache = NoCache::new();
-    let (debouncer, mut feed) = new_debouncer_by_hand(*rt, rt.alloc(), hour, None, handler, cache)?;
-    let figures = feed_all(rt, &mut feed, events, n)?;
-    let (book, _missed) = debouncer.finish_fed(feed);
+    let book = Book::new(rt.alloc(), NoCache::new(), HOUR);
+    let mut owner = Access::open(rt.alloc(), book)?;
+    let clock = Stopwatch::new(Instant::now(rt)?);
+    let mut feeding = Feeding::new(*rt, owner.feeding()?, clock);
+    let figures = feed_all(rt, &mut feeding, events, n)?;
     Ok(Figures {
-        checksum: book.core().waiting(),
+        checksum: count_pending(rt, owner, feeding)?,
         ..figures
     })
 }
@@ -39,17 +37,33 @@ pub fn feed_by_hand<R: DebouncerRuntime + AllocGlobal>(rt: &R, n: u64) -> Result
 /// Feeds each event.
 fn feed_all<R: DebouncerRuntime + AllocGlobal>(
     rt: &R,
-    feed: &mut Feed<NoCache, R>,
+    feeding: &mut Feeding<NoCache, R, Global>,
     events: Vec<Event>,
     n: u64,
 ) -> Result<Figures>
-    ensures lock { feed.new.lock ≡ feed.old.lock }
+    ensures lock { feeding.new.lock ≡ feeding.old.lock }
 {
     let start = Instant::now(rt)?;
     for event in events {
-        feed.feed(Ok(event))?;
+        let now = feeding.now(rt.alloc())?;
+        feed_one(feeding, Ok(event), now, true)?;
     }
     Figures::stop(rt, start, n, &[])
+}
+
+/// Takes the book out of its lock, and returns how many events are pending in it.
+fn count_pending<R: DebouncerRuntime + AllocGlobal>(
+    rt: &R,
+    owner: Access<NoCache, Global>,
+    feeding: Feeding<NoCache, R, Global>,
+) -> Result<u64>
+    requires rights { (owner.keeps ≡ true) × (owner.tells ≡ true) }
+    requires lock { feeding.lock ≡ owner.lock }
+{
+    let mut owner = owner;
+    let worker = owner.telling()?.into_pass();
+    let (book, _missed) = owner.close(rt, worker, feeding.into_pass());
+    Ok(book.core().waiting())
 }
 
 /// Times so many turns at which nothing is due. The checksum is how many events are pending.

@@ -6,7 +6,7 @@ use crate::events::{
     FOLDERS, creations, folder_removals, modifications, renames, scattered_events,
 };
 use crate::kind::Kind;
-use crate::locked::{feed_by_hand, turn_in_vain};
+use crate::locked::{feed_under_lock, turn_in_vain};
 use anyhow::{Result, ensure};
 use notify_debouncer_full::{
     DebounceDataInner, DebouncedEvent, DebouncerRuntime, Event, Moment, NoCache, sort_events,
@@ -85,7 +85,7 @@ fn run_on<R: DebouncerRuntime + AllocGlobal>(
         Kind::Rmdir => rmdir(rt, core, n),
         Kind::Sort => sort(rt, n),
         Kind::Due => due(rt, core, n),
-        Kind::Feed => feed_by_hand(rt, n),
+        Kind::Feed => feed_under_lock(rt, n),
         Kind::Turn => turn_in_vain(rt, n),
     }
 }

@@ -1,6 +1,6 @@
 use Rattle.std.proofs.Common.{◌≡◌}
 use Rattle.bench.proofs.locked.feed_all.Given as goal
 
--- it is the same feed
+-- it is a way to the same book
 abbrev pub invariant-loop-event : goal.invariant-loop-event
-invariant-loop-event g l = l.feed.lock ≡ l.fn.feed.lock
+invariant-loop-event g l = l.feeding.lock ≡ l.fn.feeding.lock
