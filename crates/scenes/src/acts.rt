@@ -1,7 +1,6 @@
 //! The lines of a scene that ask a debouncer, from its start to its end. Each function here that calls
 //! it is proved from the bounds of its watcher, runtime and memory alone.
 use crate::books::{Core, tell_book, tell_entries, tell_journal};
-use crate::by_hand::play_by_hand;
 use crate::folder::play_file_line;
 use crate::mirror::watch_as_mirror;
 use crate::polling::play_polling;
@@ -11,7 +10,7 @@ use crate::scene::{Host, LINES, Scene, next_line, number, split};
 use crate::watcher::Scribe;
 use crate::words::{answer_of, given, push_batch, word_of};
 use notify_debouncer_full::{
-    Config, DebounceDataInner, Debouncer, Error, Feed, ListingWatcher, NoCache, PathBuf,
+    Config, DebounceDataInner, Debouncer, Error, Feed, Finished, ListingWatcher, NoCache, PathBuf,
     RecursiveMode, Watcher, new_debouncer_opt, new_journaled_debouncer,
 };
 use std::io;
@@ -54,7 +53,6 @@ fn play_next<T: ListingWatcher<Feed<NoCache, R, A>, R, A>, R: Host, A: TestHeap>
         ("start" | "start_journaled", _) => play_started::<T, R, A>(scene, line, rest),
         ("start_reports", _) => play_reports::<T, R, A>(scene, line, rest),
         ("poll" | "poll_from_nothing" | "poll_by_lengths", _) => play_polling(scene, line, rest),
-        ("by_hand", _) => play_by_hand(scene, line),
         ("recommended", _) => play_recommended(scene, line),
         ("closure", _) => play_closure(scene, line),
         ("mirror", words) => watch_as_mirror::<T, R, A>(scene, line, words, false),
@@ -334,7 +332,12 @@ fn finish<T: Watcher<Feed<NoCache, R, A>, R, A>, R: Host, A: TestHeap>(
     core: &mut Core<A>,
     words: &str,
 ) -> io::Result<()> {
-    let (book, missed) = debouncer.finish();
+    let Finished {
+        book,
+        missed,
+        handler: _,
+        last: _,
+    } = debouncer.finish();
     let counted = scene.count("missed", missed);
     let told = scene.tell_modes(book.core(), words);
     tell_book(scene, core, book)?;

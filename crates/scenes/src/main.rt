@@ -13,7 +13,6 @@
 
 mod acts;
 mod books;
-mod by_hand;
 mod clock;
 mod document;
 mod folder;

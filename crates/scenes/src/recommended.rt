@@ -8,7 +8,7 @@ use crate::words::given;
 use crossbeam_channel::{Receiver, Sender, unbounded};
 use notify_debouncer_full::{
     Config, DebounceEventResult, NoCache, PollWatcher, RecommendedDebouncer, RecursiveMode, SendTo,
-    new_debouncer, new_debouncer_opt, new_debouncer_with_config,
+    new_debouncer, new_debouncer_opt,
 };
 use std::alloc::Global;
 use std::io;
@@ -55,7 +55,7 @@ fn start_recommended<R: Host>(
         None => new_debouncer(rt, alloc, timeout, None, handler),
         Some(interval) => {
             let config = Config::default().with_poll_interval(interval);
-            new_debouncer_with_config(rt, alloc, timeout, None, handler, config)
+            new_debouncer_opt(rt, alloc, timeout, None, handler, NoCache::new(), config)
         }
     })
 }
