@@ -8,8 +8,8 @@ use crossbeam_channel::{Receiver, Sender, unbounded};
 use mirror_run::{Fault, end_run, push_error_lines, push_events, write_full, write_last};
 use notify_debouncer_full::{
     Book, Config, DebounceEventResult, Debouncer, DebouncerAllocator, DebouncerRuntime, Error,
-    ErrorKind, Feed, PathBuf, RecommendedCache, RecommendedDebouncer, RecursiveMode, SendTo,
-    Watcher, new_debouncer, new_debouncer_opt,
+    ErrorKind, Feed, Finished, PathBuf, RecommendedCache, RecommendedDebouncer, RecursiveMode,
+    SendTo, Watcher, new_debouncer, new_debouncer_opt,
 };
 use std::alloc::{AllocError, Allocator};
 use std::io::Write;
@@ -128,7 +128,12 @@ fn end_watch<
 >(alloc: A, debouncer: Debouncer<T, RecommendedCache, R, A>) -> Result<String<A>, Fault>
     ensures { IfErr result (λ e. e ≡ Fault.Memory) }
 {
-    let (book, missed) = debouncer.finish();
+    let Finished {
+        book,
+        missed,
+        handler: _,
+        last: _,
+    } = debouncer.finish();
     last_lines(alloc, &book, missed)
 }
 
