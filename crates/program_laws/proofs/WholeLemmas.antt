@@ -2,7 +2,7 @@
 use Rattle.std.proofs.Common.{subst, ◌≡◌, ◌∙◌, ◌+◌, ◌-◌, ◌^◌, ℕ, min, List, [], ◌∷◌, ◌++◌, ap, arith, append_assoc, append-nil, map, refl, sym}
 use Rattle.std.proofs.lemmas.List.{map-append}
 use Rattle.std.specs.Map.{keys_of}
-use Rattle.std.specs.Prelude.{Option, None, Some, true}
+use Rattle.std.specs.Prelude.{None, Some, true}
 use Rattle.std.specs.declared.alloc.Global.{Global}
 use Rattle.notify_types.specs.Event.{Timed}
 use Rattle.notify_watch.specs.Handler.{Outcome}
@@ -14,8 +14,7 @@ use Rattle.debounce_book.specs.Journal.{IsLegal}
 use Rattle.debounce_book.specs.JournalLaws.{replies_of}
 use Rattle.debounce_run.specs.Access.Adds.{FeedsItem}
 use Rattle.debounce_run.specs.Access.Happened.{History, entries_of, is_emitting, missed_in}
-use Rattle.debounce_run.specs.Access.Stands.{Known}
-use Rattle.debounce_run.specs.Turns.Ended.{FeedComesBack}
+use Rattle.debounce_run.specs.Access.Stands.{HasAllFed, Known}
 use Rattle.poll_listing.specs.Listing.{ListingValue}
 use Rattle.poll_rounds.specs.Reports.{Reported}
 use Rattle.poll_watcher.specs.declared.watcher.LastFound.{LastFound}
@@ -68,34 +67,24 @@ none_of all missed unsent lost top counted is none = omega arith
 nor_other : (missed unsent lost top : ℕ) → lost ≡ min (missed + unsent) (top + 1) → lost ≡ 0 → unsent ≡ 0
 nor_other missed unsent lost top is none = omega arith
 
--- what the watcher found last, of which the feed that came back tells
-abbrev last_of : Option (LastFound Global) → ListingValue
-last_of None = []
-last_of (Some found) = found.polled.last
-
--- .. leads to it from nothing, with initial events
-led_to_last : (made : Option (Known × Config)) (last : Option (LastFound Global)) (log : History) →
-    FeedComesBack ends_polling made last log → LeadsToLast made (last_of last) log
-led_to_last made last log back begun config is initial =
-    let came = back begun config is in (
-      came.0,
-      subst (λ found. Reported FeedsItem begun found came.0) (sym (ap last_of came.2)) (came.3.0.1 initial),
-      came.4,
-    )
+-- the feed that came back leads to what the watcher found last from nothing, with initial events
+led_to_last : (made : Known × Config) (now : Known) (last : LastFound Global) (log : History) →
+    ends_polling made.0 made.1 now last → HasAllFed now.seen log → LeadsToLast made last.polled.last log
+led_to_last made now last log end fed initial = (now, end.0.1 initial, fed)
 
 -- so who plays the history, and then what waits, has its paths
-last_paths : ReaderHasTheLastListing → (made : Option (Known × Config)) (found : ListingValue) (log : History)
+last_paths : ReaderHasTheLastListing → (made : Known × Config) (found : ListingValue) (log : History)
     (state : State) → LeadsToLast made found log → BeganWith true made → missed_in log ≡ 0 →
     IsLegal (entries_of log) state → (rest : List Timed) → IsOutlook state rest →
     read_paths [] (replies_of (entries_of log)) rest ≡ keys_of found
 last_paths law made found log state leads began none legal rest shown =
-    let led = leads began.0 began.1 began.2 began.4 in
-    law began.0 led.0 found log state rest began.3 led.1 led.2 none legal shown
+    let led = leads began.1 in law made.0 led.0 found log state rest began.0 led.1 led.2 none legal shown
 
 pub takes_all : ReaderHasTheLastListing → TakesAllReports
 takes_all law s steps lost fresh gave =
     let waited = gave.0 in let s' = gave.1 in let rest = gave.2 in let left = gave.4.1 in
-    let ended = left.ended.0 in
+    let ended = left.ended.2 in
+    let last = left.last.polled.last in
     let each = given_each waited s s' gave.3 in
     let so_far = each.2 ∙ ap (λ xs. xs ++ taken_in waited) fresh in
     let taken = ap taken_in gave.5 ∙ taken_on waited (map (λ report. Some report) rest.reports.items)
@@ -104,36 +93,36 @@ takes_all law s steps lost fresh gave =
     ∙ ap (λ xs. (xs ++ left.queue) ++ left.rest_is.waiting) (sym so_far) in
     let sum = gave.6 ∙ left.rest_is.missed_is in
     let none : lost ≡ 0 → missed_in ended.log ≡ 0 =
-    λ none. none_of _ left.missed left.unsent lost (2 ^ 64 - 2) ended.leads.missed sum none in
+    λ none. none_of _ left.missed left.unsent lost (2 ^ 64 - 2) ended.history.leads.missed sum none in
     let all : lost ≡ 0 → map plain (taken_in steps)
     ≡ reports_of (picked is_emitting ended.log) ++ map plain left.rest_is.waiting =
     λ none. ap (λ xs. map plain xs) taken
     ∙ map-append plain (s'.awaited.queue.given ++ left.queue) left.rest_is.waiting
     ∙ ap (λ xs. xs ++ map plain left.rest_is.waiting)
-    (ended.told.whole (nor_other left.missed left.unsent lost (2 ^ 64 - 2) sum none)) in
-    let fed = subst (λ made. LeadsToLast made (last_of left.last) ended.log) each.0
-    (led_to_last s'.made left.last ended.log left.ended.1) in
+    (ended.handler.whole (nor_other left.missed left.unsent lost (2 ^ 64 - 2) sum none)) in
+    let fed = subst (λ made. LeadsToLast made last ended.log) each.0
+    (led_to_last s'.made left.ended.0 left.last ended.log left.ended.1 ended.history.all_fed) in
     let paths : BeganWith true s.made → lost ≡ 0 → (rest : List Timed) → IsOutlook left.book.core.state rest
-    → read_paths [] (replies_of (entries_of ended.log)) rest ≡ keys_of (last_of left.last) =
-    λ began missed. last_paths law s.made (last_of left.last) ended.log left.book.core.state fed began (none missed)
-    ended.leads.legal in
+    → read_paths [] (replies_of (entries_of ended.log)) rest ≡ keys_of last =
+    λ began missed. last_paths law s.made last ended.log left.book.core.state fed began (none missed)
+    ended.history.leads.legal in
     record {
       log = ended.log;
-      goes_on = subst (λ seen. Begins seen ended.log) each.1 ended.goes_on;
+      goes_on = subst (λ seen. Begins seen ended.log) each.1 ended.history.goes_on;
       book = left.book;
       missed = left.missed;
       parts = left.parts;
-      leads = ended.leads;
+      leads = ended.history.leads;
       waiting = left.rest_is.waiting;
       waits = left.rest_is.waits;
       none_missed = none;
       all = all;
-      raw = ended.raw;
-      found = last_of left.last;
+      raw = ended.laws.raw;
+      found = last;
       fed = fed;
       paths = paths;
       played = λ began missed. played_all [] steps ended.log _ left.book.core.state left.book.core.state
-          left.rest_is.waiting left.rest_is.waits ended.leads.legal (all missed)
+          left.rest_is.waiting left.rest_is.waits ended.history.leads.legal (all missed)
           ∙ paths began missed left.rest_is.waits.0 left.rest_is.waits.3;
-      kept = ended.kept;
+      kept = ended.laws.kept;
     }

@@ -1,5 +1,5 @@
 -- What a program took that followed folders to the end.
-use Rattle.std.specs.Prelude.{◌≡◌, ℕ, List, [], ◌∷◌, ◌++◌, true, Option, None, Some, map}
+use Rattle.std.specs.Prelude.{◌≡◌, ℕ, List, [], ◌∷◌, ◌++◌, true, None, Some, map}
 use Rattle.std.specs.Map.{keys_of}
 use Rattle.std.specs.declared.alloc.Global.{Global}
 use Rattle.notify_types.specs.Event.{Timed}
@@ -36,10 +36,9 @@ abbrev pub played_by : Paths → List Step → Paths
 played_by paths steps = play paths (events_of (events_in (map plain (taken_in steps))))
 
 -- with initial events, what was fed in this history is just what leads from nothing to this listing
-abbrev pub LeadsToLast : Option (Known × Config) → ListingValue → History → Type 0
+abbrev pub LeadsToLast : Known × Config → ListingValue → History → Type 0
 LeadsToLast made found log =
-    (begun : Known) (config : Config) → made ≡ Some (begun, config) → config.initial_events ≡ true
-    → (now : Known) × Reported FeedsItem begun found now × HasAllFed now.seen log
+    made.1.initial_events ≡ true → (now : Known) × Reported FeedsItem made.0 found now × HasAllFed now.seen log
 
 -- one history goes on from what was seen of the debouncer, and leads to its book at the end. If nothing was lost, the
 -- debouncer missed nothing, and what was taken is all that was emitted in it, each report once and in order, and then

@@ -1,5 +1,5 @@
 -- A folder's reports, as they begin and as they end.
-use Rattle.std.proofs.Common.{◌≡◌, ℕ, false, List, [], ◌∷◌, Option, Result, Ok, Err, subst, sym}
+use Rattle.std.proofs.Common.{◌≡◌, ℕ, false, List, [], ◌∷◌, Result, Ok, Err, subst, sym}
 use Rattle.std.specs.Duration.{as_nanos}
 use Rattle.std.specs.Prelude.{IfOk}
 use Rattle.std.specs.declared.alloc.Global.{Global}
@@ -39,7 +39,7 @@ opened_one pace path mode before after s is began adds seen given = record {
 -- what is left of a debouncer and of the wait for its reports, if the rest could be had
 pub left_if : {T L : Type 0} (debouncer ended : Shown T L) (awaited : Awaited) (closed : Giving (Outcome Global)) →
     ended ≡ debouncer → closed ≡ awaited.queue → (queue : List (Outcome Global)) (book : Kept NoCache)
-    (missed unsent : ℕ) (last : Option (LastFound Global)) →
+    (missed unsent : ℕ) (last : LastFound Global) →
     FinishesReports ends_polling ended.made last ended.seen ended.parts closed.given queue unsent book missed →
     (rest : Result Rest Fault) → IfOk rest (IsRestOf book queue missed unsent) →
     IfOk rest (IsLeft (followed debouncer awaited))

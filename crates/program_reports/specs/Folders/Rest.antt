@@ -1,5 +1,5 @@
 -- What is left when a debouncer ends.
-use Rattle.std.specs.Prelude.{◌≡◌, ◌+◌, ◌-◌, ◌^◌, ℕ, min, List, [], ◌∷◌, ◌++◌, Option, None, Ok, Err}
+use Rattle.std.specs.Prelude.{◌≡◌, ◌+◌, ◌-◌, ◌^◌, ℕ, min, List, [], ◌∷◌, ◌++◌, None, Ok, Err}
 use Rattle.std.specs.declared.alloc.Global.{Global}
 use Rattle.std.specs.declared.vec.Vec.{Vec}
 use Rattle.notify_paths.specs.Errors.{ErrorValue}
@@ -61,6 +61,6 @@ pub record IsLeft (s : Followed) (rest : Rest) : Type 0 where
   pub queue : List (Outcome Global)
   pub missed : ℕ
   pub unsent : ℕ
-  pub last : Option (LastFound Global)
+  pub last : LastFound Global
   pub ended : FinishesReports ends_polling s.made last s.seen parts s.awaited.queue.given queue unsent book missed
   pub rest_is : IsRestOf book queue missed unsent rest

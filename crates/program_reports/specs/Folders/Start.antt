@@ -1,5 +1,5 @@
 -- A folder's reports, as they begin.
-use Rattle.std.specs.Prelude.{◌≡◌, ◌⊎◌, Bool, false, List, [], ◌∷◌, Option, Some}
+use Rattle.std.specs.Prelude.{◌≡◌, ◌⊎◌, Bool, false, List, [], ◌∷◌}
 use Rattle.std.specs.Duration.{as_nanos}
 use Rattle.notify_paths.specs.Path.{PathValue}
 use Rattle.notify_types.specs.declared.event.RecursiveMode.{RecursiveMode}
@@ -33,7 +33,7 @@ AddsRoots before (path ∷ paths) mode after =
 -- what is reported of folders shows: with which feed its watcher was made, and with which configuration; the history of
 -- its debouncer, as far as it was seen; and the wait for its reports
 pub record Followed : Type 0 where
-  pub made : Option (Known × Config)
+  pub made : Known × Config
   pub seen : History
   pub awaited : Awaited
 
@@ -42,10 +42,8 @@ abbrev pub followed : {T L : Type 0} → Shown T L → Awaited → Followed
 followed debouncer awaited = record { made = debouncer.made; seen = debouncer.seen; awaited = awaited }
 
 -- the watcher was made with a feed by which nothing had been fed, and with initial events or without
-abbrev pub BeganWith : Bool → Option (Known × Config) → Type 0
-BeganWith initial made =
-    (begun : Known) × (config : Config) × (made ≡ Some (begun, config)) × (picked is_fed begun.seen ≡ [])
-    × (config.initial_events ≡ initial)
+abbrev pub BeganWith : Bool → Known × Config → Type 0
+BeganWith initial made = (picked is_fed made.0.seen ≡ []) × (made.1.initial_events ≡ initial)
 
 -- a debouncer was started at this pace, each of the paths became a root, and nothing was given yet
 pub record IsOpened (pace : Pace) (paths : List PathValue) (mode : RecursiveMode) (s : Followed) : Type 0 where
