@@ -1,3 +1,4 @@
+pub mod CalledLemmas
 pub mod Following
-pub mod ToldCalls
+pub mod OwnEventLemmas
 pub mod WholeLemmas

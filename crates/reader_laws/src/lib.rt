@@ -3,7 +3,7 @@
 //! Each function does nothing, and has a contract that its callers may cite: what a reader has of the
 //! changes between listings ([`listings`]), of a watcher that begins with nothing ([`reports`]), also through the
 //! feed of a debouncer that runs ([`feeder`]), and what a rename leaves of what waits below a folder
-//! ([`renames`]). [`callers`] are programs in small, from a feed by hand to a reader over the whole chain.
+//! ([`renames`]). [`callers`] are programs in small, from three calls of the core to a reader over the whole chain.
 #![tactic(auto)]
 
 pub mod callers;

@@ -9,6 +9,8 @@
 #[cfg(test)]
 mod build;
 #[cfg(test)]
+mod called;
+#[cfg(test)]
 mod losses;
 #[cfg(test)]
 mod memory;
@@ -16,8 +18,6 @@ mod memory;
 mod pauses;
 #[cfg(test)]
 mod threads;
-#[cfg(test)]
-mod told;
 #[cfg(test)]
 mod turns;
 #[cfg(test)]

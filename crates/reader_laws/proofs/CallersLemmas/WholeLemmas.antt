@@ -1,7 +1,7 @@
 -- A reader who plays all that was reported, and then what waits, has what the watcher's tree shows.
-use Rattle.std.proofs.Common.{◌≡◌, ◌∙◌, ◌+◌, ◌-◌, ◌^◌, ℕ, min, ap, arith, inl, refl, sym, subst, true, true≢false, List, [], ◌∷◌, ◌++◌, append-nil, map, None, Some}
+use Rattle.std.proofs.Common.{◌≡◌, ◌∙◌, ◌+◌, ◌-◌, ◌^◌, ℕ, min, ap, arith, inl, sym, List, [], ◌∷◌, ◌++◌, append-nil, map, None, Some}
 use Rattle.std.proofs.lemmas.List.{map-append}
-use Rattle.std.specs.Prelude.{Option, Result, Ok, Err, IfErr, IsSome}
+use Rattle.std.specs.Prelude.{Option, Result, Ok, Err, IfErr}
 use Rattle.std.specs.Map.{keys_of}
 use Rattle.std.specs.Option.{option_to_list}
 use Rattle.notify_paths.specs.Errors.{ErrorValue, out_of_memory}
@@ -17,8 +17,7 @@ use Rattle.debounce_book.specs.JournalLaws.{replies_of}
 use Rattle.debounce_lock.specs.History.{picked}
 use Rattle.debounce_run.specs.Access.Adds.{FeedsItem}
 use Rattle.debounce_run.specs.Access.Happened.{History, entries_of, is_emitting, missed_in}
-use Rattle.debounce_run.specs.Access.Stands.{Known}
-use Rattle.debounce_run.specs.Turns.Ended.{FeedComesBack}
+use Rattle.debounce_run.specs.Access.Stands.{HasAllFed, Known}
 use Rattle.reader_laws.specs.Feeder.{ReaderHasTheLastListing}
 use Rattle.poll_listing.specs.Listing.{ListingValue}
 use Rattle.poll_watcher.specs.Work.{EndsPolling, FindsTree}
@@ -76,37 +75,22 @@ ends_fixed tree begun config now found =
     EndsPolling FeedsItem begun config now found.polled.last
     × FindsTree (Some tree) found.went_well found.polled.roots found.polled.last
 
--- what was found, or else this
-abbrev found_or : {X : Type 0} → X → Option X → X
-found_or x None = x
-found_or x (Some found) = found
-
 -- who plays all that was reported, and then what waits
-pub reads_tree : {A : Type 0} → ReaderHasTheLastListing → (tree : ListingValue) (made : Option (Known × Config))
-    (found : Option (LastFound A)) (last : LastFound A) (log : History) (state : State) (given left : List (Outcome A))
+pub reads_tree : {A : Type 0} → ReaderHasTheLastListing → (tree : ListingValue) (made : Known × Config) (now : Known)
+    (last : LastFound A) (log : History) (state : State) (given left : List (Outcome A))
     (slice : List (Outcome A)) (count unsent : ℕ) (before paths : Paths) → BeganWithNothing made →
-    FeedComesBack (ends_fixed tree) made found log →
-    found ≡ Some last → count ≡ min (missed_in log) (2 ^ 64 - 1) → IsLegal (entries_of log) state →
+    ends_fixed tree made.0 made.1 now last → HasAllFed now.seen log →
+    count ≡ min (missed_in log) (2 ^ 64 - 1) → IsLegal (entries_of log) state →
     (unsent ≡ 0 → map plain (given ++ left) ≡ reports_of (picked is_emitting log)) → before ≡ read_on [] given →
     slice ≡ left → ReadsRest state slice before paths →
     ReadsTree tree last.polled.roots last.went_well count unsent paths
-reads_tree {A} law tree made found last log state given left slice count unsent before paths nothing back is counted
+reads_tree {A} law tree made now last log state given left slice count unsent before paths nothing ends fed counted
     legal whole read same_reports rest = λ is_tree well none sent.
-    let came = back nothing.0 nothing.1 nothing.2 in
-    let same : last ≡ came.1 = ap (found_or last) (sym is ∙ came.2) in
-    let ends : ends_fixed tree nothing.0 nothing.1 came.0 last =
-    subst (λ (f : LastFound A). ends_fixed tree nothing.0 nothing.1 came.0 f) (sym same) came.3 in
     let has : read_paths [] (replies_of (entries_of log)) rest.0 ≡ keys_of last.polled.last =
-    law nothing.0 came.0 last.polled.last log state rest.0 nothing.4 (ends.0.1 nothing.3) came.4
+    law made.0 now last.polled.last log state rest.0 nothing.1 (ends.0.1 nothing.0) fed
     (none_missed (missed_in log) count (2 ^ 64 - 2) counted none) legal rest.1 in
     let all : read_on before slice ≡ play [] (events_of (emitted (replies_of (entries_of log)))) =
     ap (read_on before) same_reports ∙ ap (λ ps. read_on ps left) read ∙ read_both [] given left
     ∙ ap (λ reports. play [] (events_of (events_in reports))) (whole sent)
     ∙ ap (λ es. play [] (events_of es)) (reported_batches log _ state legal) in
     rest.2 ∙ ap (λ ps. play ps (events_of rest.0)) all ∙ has ∙ ap keys_of (ends.1 well is_tree)
-
--- a watcher's feed comes back with what was found last
-pub last_is : {A : Type 0} (tree : ListingValue) (made : Option (Known × Config)) (last : Option (LastFound A))
-    (log : History) → BeganWithNothing made → FeedComesBack (ends_fixed tree) made last log → IsSome last
-last_is {A} tree made last log nothing back =
-    subst (λ (l : Option (LastFound A)). IsSome l) (sym (back nothing.0 nothing.1 nothing.2).2) refl

@@ -1,5 +1,5 @@
 -- A reader of all that a debouncer reports, over folders whose tree is told.
-use Rattle.std.specs.Prelude.{◌≡◌, ◌⊎◌, ℕ, Bool, true, List, [], map, Option, Some}
+use Rattle.std.specs.Prelude.{◌≡◌, ◌⊎◌, ℕ, Bool, true, List, [], map}
 use Rattle.std.specs.Map.{keys_of}
 use Rattle.notify_types.specs.declared.event.RecursiveMode.{RecursiveMode}
 use Rattle.notify_paths.specs.Errors.{ErrorValue, out_of_memory}
@@ -29,10 +29,8 @@ ReadsRest state reports before after =
     (rest : List Timed) × IsOutlook state rest × (after ≡ play (read_on before reports) (events_of rest))
 
 -- the watcher was made with initial events, and with a feed that had fed nothing
-abbrev pub BeganWithNothing : Option (Known × Config) → Type 0
-BeganWithNothing made =
-    (begun : Known) × (config : Config) × (made ≡ Some (begun, config)) × (config.initial_events ≡ true)
-    × (picked is_fed begun.seen ≡ [])
+abbrev pub BeganWithNothing : Known × Config → Type 0
+BeganWithNothing made = (made.1.initial_events ≡ true) × (picked is_fed made.0.seen ≡ [])
 
 -- the paths are those of what the tree shows at the roots, if it is one, the last round went well, and nothing was
 -- missed or unsent

@@ -139,10 +139,9 @@ fn finish_read<K: FixedTree<A> + Drop + Send + 'static, R: DebouncerRuntime, A: 
         last,
     } = reports.finish();
     let paths = read_rest(paths, queue.as_slice(), &book)?;
-    let found = last.unwrap();
     Ok(ReadWhole {
         paths,
-        found,
+        found: last,
         missed,
         unsent,
     })

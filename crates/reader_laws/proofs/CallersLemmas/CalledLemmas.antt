@@ -3,8 +3,8 @@ use Rattle.std.proofs.Common.{◌≡◌, Bool, true, false, true≢false, List, 
 use Rattle.notify_watch.specs.Handler.{Outcome}
 use Rattle.debounce_run.specs.Access.Happened.{History}
 use Rattle.debounce_run.specs.Turns.Handed.{Handed, LeavesAll}
-use Rattle.reader_laws.specs.Callers.Told.{StaysUncalled}
-use Rattle.reader_laws.specs.declared.callers.told.Called.{Called}
+use Rattle.reader_laws.specs.Callers.Called.{StaysUncalled}
+use Rattle.reader_laws.specs.declared.callers.called.Called.{Called}
 
 -- if nothing was emitted, a handler is as it was
 pub stays_uncalled : {H A : Type 0} (handles : H → Outcome A → H → Type 0) (handler : H)

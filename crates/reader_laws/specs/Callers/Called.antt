@@ -6,11 +6,11 @@ use Rattle.debounce_book.specs.Journal.{EntryValue}
 use Rattle.debounce_run.specs.Access.Aged.{AreAged}
 use Rattle.debounce_run.specs.Access.Happened.{History, entries_of, is_emitting}
 use Rattle.debounce_run.specs.Access.Ran.{HaveNoNumbers}
-use Rattle.debounce_run.specs.Access.Stands.{HasAllFed, LeadsTo}
+use Rattle.debounce_run.specs.Access.Stands.{LeadsTo}
 
 -- if nothing was emitted, the handler is as it was
 abbrev pub StaysUncalled : {H : Type 0} → H → H → History → Type 0
-StaysUncalled began left emitted = emitted ≡ [] → left ≡ began
+StaysUncalled began ended emitted = emitted ≡ [] → ended ≡ began
 
 -- a history that goes on from what was seen leads to the book and to the count, and something was emitted in it, each
 -- event as old as the timeout. No number stands in it, as the cache has none
@@ -18,9 +18,3 @@ abbrev pub EndsCalled : {C : Type 0} → History → List EntryValue → Kept C 
 EndsCalled seen parts book count =
     (log : History) × Begins seen log × LeadsTo book count parts log × (picked is_emitting log ≡ [] → ⊥)
     × AreAged book.core.state.timeout 0 (entries_of log) × HaveNoNumbers (entries_of log)
-
--- a history that goes on from what was seen leads to the book and to the count, and nothing was fed or missed in it but
--- what the feed shows
-abbrev pub EndsFed : {C : Type 0} → History → History → List EntryValue → Kept C → ℕ → Type 0
-EndsFed seen fed parts book count =
-    (log : History) × Begins seen log × LeadsTo book count parts log × HasAllFed fed log
