@@ -1,8 +1,8 @@
 //! A watcher that polls.
 use crate::build::path;
 use notify_debouncer_full::{
-    Config, DebouncerRuntime, Error, Event, EventHandler, Made, PollWatcher, RecursiveMode,
-    Watcher, start_task,
+    Config, DebouncerRuntime, Error, Event, EventHandler, PollWatcher, RecursiveMode, Watcher,
+    WatcherArguments, start_task,
 };
 use std::alloc::Global;
 use std::process::Abort;
@@ -71,7 +71,7 @@ fn use_watcher<R: DebouncerRuntime + AllocGlobal + Abort, W: Watcher<Flagged, R,
     let handler = Flagged {
         dropped: Arc::try_clone(dropped).expect(&rt, "memory"),
     };
-    let made = Made::of(&handler, config);
+    let made = WatcherArguments::of(&handler, config);
     let (mut watcher, task) = W::new(rt, rt.alloc(), handler, config).expect(&rt, "memory");
     check_watches::<R, _>(&rt, &mut watcher);
     start_task(rt, rt.alloc(), task, made).expect(&rt, "a thread");
