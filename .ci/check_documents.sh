@@ -41,7 +41,7 @@ printed() {
     done
     scripts/print/calling Debouncer >"$room/one"
     grep -A3 -F 'Debouncer::finish(' "$room/one" | grep -q '^  ended: ' || echo 'calling: finish without its clauses'
-    for call in stop stop_journal missed outlook catch_up; do
+    for call in stop stop_journal missed outlook take_journal; do
         grep -qF "Running::$call(" "$room/one" || echo "calling: of Debouncer not $call"
     done
     scripts/print/calling notify_watch | grep -qF 'Task::run(self)' || echo 'calling: of notify_watch not Task::run'
