@@ -6,7 +6,7 @@
 ghost use Rattle.std.specs.Prelude.{◌≡◌, ◌++◌, ◌∷◌, [], Ok, true, IfErr, IfOk, OnErr, OnOk};
 ghost use Rattle.std.specs.Arc.{arc_value};
 ghost use Rattle.notify_paths.specs.Errors.{out_of_memory};
-ghost use Rattle.debounce_lock.specs.History.{Begins, picked};
+ghost use Rattle.debounce_lock.specs.History.{picked};
 ghost use Rattle.debounce_model.specs.Command.{RootCommand, UnrootCommand, RootedReply, UnrootedReply};
 ghost use Rattle.debounce_model.specs.State.{State};
 ghost use Rattle.debounce_model.specs.Tick.{IsOutlook};

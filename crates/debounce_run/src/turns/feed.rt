@@ -4,7 +4,7 @@ ghost use Rattle.notify_paths.specs.Errors.{out_of_memory};
 ghost use Rattle.debounce_lock.specs.History.{Begins, picked};
 ghost use Rattle.debounce_run.specs.Access.Adds.{FedNow, FeedsItem, MayRead};
 ghost use Rattle.debounce_run.specs.Access.Happened.{is_fed};
-ghost use Rattle.debounce_run.specs.Access.Stands.{Lasts, StaysButFeeds, feeds_of, seen_by};
+ghost use Rattle.debounce_run.specs.Access.Stands.{StaysButFeeds, feeds_of, seen_by};
 
 use crate::access::locked::BookPass;
 use crate::turns::clock::Stopwatch;
