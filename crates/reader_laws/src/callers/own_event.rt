@@ -22,15 +22,13 @@ pub struct OwnEvent;
 
 /// The work of its thread.
 #[derive(Drop)]
-pub struct OwnEventTask<F: Drop, A: Drop> {
+pub struct OwnEventTask<F: Drop, A: Allocator> {
     alloc: A,
     handler: F,
 }
 
-impl<
-    F: EventHandler<Result<Event<A>, Error<A>>> + Send,
-    A: Allocator + Copy + Drop + Send + 'static,
-> Task for OwnEventTask<F, A> {
+impl<F: EventHandler<Result<Event<A>, Error<A>>> + Send, A: Allocator + Copy + Send + 'static> Task
+    for OwnEventTask<F, A> {
     ghost use Rattle.std.specs.Prelude.{◌≡◌};
     ghost use Rattle.notify_watch.specs.Handler.{IsCalledOn};
     ghost use Rattle.reader_laws.specs.Callers.OwnEvent.{IsCalledOnce};
@@ -71,7 +69,7 @@ fn own_event<A: Allocator + Copy>(alloc: A) -> Result<Event<A>, Error<A>> {
 impl<
     F: EventHandler<Result<Event<A>, Error<A>>> + Send,
     R: Copy,
-    A: Allocator + Copy + Drop + Send + 'static,
+    A: Allocator + Copy + Send + 'static,
 > Watcher<F, R, A> for OwnEvent {
     ghost use Rattle.std.specs.Prelude.{◌≡◌, Ok, false};
     ghost use Rattle.notify_watch.specs.declared.config.WatcherKind.TheVariants.{NullWatcher};
@@ -119,7 +117,7 @@ impl<
 /// Starts a debouncer over such a watcher.
 pub fn start_own_event<
     R: Threads + Wait + Clock + Files + Copy + Send + Sync + 'static,
-    A: Allocator + Copy + Drop + Send + Sync + 'static,
+    A: Allocator + Copy + Send + Sync + 'static,
 >(
     rt: R,
     alloc: A,
@@ -135,7 +133,7 @@ pub fn start_own_event<
 /// Stops it, and returns the book and how much was missed: the event alone was fed, or missed.
 pub fn finish_own_event<
     R: Threads + Wait + Clock + Files + Copy + Send + Sync + 'static,
-    A: Allocator + Copy + Drop + Send + Sync + 'static,
+    A: Allocator + Copy + Send + Sync + 'static,
 >(debouncer: Debouncer<OwnEvent, NoCache, R, A, Called>) -> (Book<NoCache, A>, u64)
     requires { IsUnfed debouncer.made }
     ensures fed { EndsWithOne debouncer.seen debouncer.parts result.0 result.1 }
