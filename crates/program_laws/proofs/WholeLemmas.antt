@@ -12,11 +12,9 @@ use Rattle.debounce_model.specs.State.{State}
 use Rattle.debounce_model.specs.Tick.{IsOutlook}
 use Rattle.debounce_book.specs.Journal.{IsLegal}
 use Rattle.debounce_book.specs.JournalLaws.{replies_of}
-use Rattle.debounce_run.specs.Access.Adds.{FeedsItem}
 use Rattle.debounce_run.specs.Access.Happened.{History, entries_of, is_emitting, missed_in}
 use Rattle.debounce_run.specs.Access.Stands.{HasAllFed, Known}
 use Rattle.poll_listing.specs.Listing.{ListingValue}
-use Rattle.poll_rounds.specs.Reports.{Reported}
 use Rattle.poll_watcher.specs.declared.watcher.LastFound.{LastFound}
 use Rattle.reader_laws.specs.Feeder.{ReaderHasTheLastListing}
 use Rattle.notify_debouncer_full.specs.Emitted.{plain, reports_of}

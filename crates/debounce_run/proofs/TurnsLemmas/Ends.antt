@@ -15,7 +15,7 @@ use Rattle.debounce_run.specs.Access.Ran.{RanTo}
 use Rattle.debounce_run.specs.Access.Stands.{HasAllEmitted, Known, LeadsTo, ToldJournal}
 use Rattle.debounce_run.proofs.AccessLemmas.Aged.{journal_is_aged}
 use Rattle.debounce_run.proofs.AccessLemmas.Runs.{ran_legal, ran_numbers}
-use Rattle.debounce_run.specs.Turns.Ended.{EndsJournal, IsEnded, IsFinished, IsHistory, KeepsLaws}
+use Rattle.debounce_run.specs.Turns.Ended.{EndsJournal, IsFinished, IsHistory, KeepsLaws}
 
 -- a feed stays of its lock, however often it is called
 pub stays_of : {X : Type 0} (handles : Known → X → Known → Type 0)

@@ -1,5 +1,5 @@
 -- What was fed of a watcher that tells of one event.
-use Rattle.std.proofs.Common.{◌≡◌, ◌∙◌, ℕ, Bool, List, [], ◌∷◌, ◌++◌, Result, ap, sym}
+use Rattle.std.proofs.Common.{◌≡◌, ◌∙◌, ℕ, Bool, [], ◌∷◌, ◌++◌, Result, ap, sym}
 use Rattle.notify_paths.specs.Errors.{ErrorValue}
 use Rattle.notify_types.specs.Event.{EventValue}
 use Rattle.notify_watch.specs.declared.config.Config.{Config}
