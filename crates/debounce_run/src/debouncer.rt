@@ -191,7 +191,7 @@ pub fn new_debouncer_opt<
         is_journaled: false,
     };
     let began = Snapshot::of(&NoHandler);
-    start::<F, NoHandler, NoHandler, T, C, R, A>(
+    start_debouncer::<F, NoHandler, NoHandler, T, C, R, A>(
         rt,
         alloc,
         how,
@@ -233,7 +233,7 @@ pub fn new_journaled_debouncer<
         is_journaled: true,
     };
     let began = Snapshot::of(&NoHandler);
-    start::<F, NoHandler, NoHandler, T, C, R, A>(
+    start_debouncer::<F, NoHandler, NoHandler, T, C, R, A>(
         rt,
         alloc,
         how,
@@ -268,11 +268,18 @@ pub fn new_debouncer_returning_handler<
     ensures err { IfErr result (IsStartError T.refuses how.timeout how.tick_rate) }
 {
     let began = Snapshot::of(&event_handler);
-    start::<F, Returned, F, T, C, R, A>(rt, alloc, how, event_handler, began, file_id_cache)
+    start_debouncer::<F, Returned, F, T, C, R, A>(
+        rt,
+        alloc,
+        how,
+        event_handler,
+        began,
+        file_id_cache,
+    )
 }
 
 /// Starts a debouncer. `began` shows what was there of the handler.
-fn start<
+fn start_debouncer<
     F: DebounceEventHandler<DebounceEventResult<A>>,
     E: Ending<F, L> + Send + 'static,
     L: ReturnedHandler,
