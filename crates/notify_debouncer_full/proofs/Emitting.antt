@@ -99,13 +99,15 @@ module _ {A : Type 0} where
       → IsFinished no_numbers ends made last (WasCalled began) left seen parts book count → began.calls ≡ []
       → given ++ rest ≡ put_in left.calls → unsent ≡ min (lost_in left.calls) (2 ^ 64 - 1)
       → FinishesReports ends made last seen parts given rest unsent book count
-  finishes_reports ends made last began left seen parts given rest unsent book count (now, end, e) fresh put lost = (
-    now,
-    end,
-    record {
-      log = e.log;
-      history = e.history;
-      handler = gives_all began left given rest unsent _ e.handler fresh put lost;
-      laws = e.laws;
-    },
-  )
+  finishes_reports ends made last began left seen parts given rest unsent book count finished fresh put lost =
+      let e = finished.ended in
+      record {
+        now = finished.now;
+        work = finished.work;
+        ended = record {
+          log = e.log;
+          history = e.history;
+          handler = gives_all began left given rest unsent _ e.handler fresh put lost;
+          laws = e.laws;
+        };
+      }

@@ -47,16 +47,16 @@ module _ {L : Type 0} (emitted : L → History → Type 0) (left : L) where
       → ((log : History) × IsHistory r seen now.seen parts book count log × HasAllEmitted worker log)
       → emitted left (picked is_emitting worker) → ends begun config now last
       → IsFinished r ends (begun, config) last emitted left seen parts book count
-  finishes ends begun config now last seen worker parts book count (log, history, all) says end = (
-    now,
-    end,
-    record {
+  finishes ends begun config now last seen worker parts book count (log, history, all) says end = record {
+    now = now;
+    work = end;
+    ended = record {
       log = log;
       history = history;
       handler = subst (emitted left) all.1 says;
       laws = keeps_laws parts book count log history.leads history.ran;
-    },
-  )
+    };
+  }
 
   pub ends_journal : {A C : Type 0} (r : Rules C) (seen worker : History)
       (res : Result (ℕ × Vec EntryValue A) ErrorValue)

@@ -42,11 +42,14 @@ pub record IsEnded {C L : Type 0} (rules : Rules C) (emitted : L → History →
   pub handler : emitted left (picked is_emitting log)
   pub laws : KeepsLaws rules book.core (entries_of log)
 
--- the work of its watcher has ended with such a feed, and with what was found last, and the debouncer has ended with it
-abbrev pub IsFinished : {C L Last : Type 0} → Rules C → (Known → Config → Known → Last → Type 0) → Known × Config
-    → Last → (L → History → Type 0) → L → History → List EntryValue → Kept C → ℕ → Type 0
-IsFinished rules ends made last emitted left seen parts book count =
-    (now : Known) × ends made.0 made.1 now last × IsEnded rules emitted left seen now.seen parts book count
+-- the work of its watcher has ended with a feed that has seen this, and with what was found last, and the debouncer has
+-- ended with that feed
+pub record IsFinished {C L Last : Type 0} (rules : Rules C) (ends : Known → Config → Known → Last → Type 0)
+    (made : Known × Config) (last : Last) (emitted : L → History → Type 0) (left : L) (seen : History)
+    (parts : List EntryValue) (book : Kept C) (count : ℕ) : Type 0 where
+  pub now : Known
+  pub work : ends made.0 made.1 now last
+  pub ended : IsEnded rules emitted left seen now.seen parts book count
 
 -- work that ends so leaves a feed of its lock
 abbrev pub StaysOfLock : {Last : Type 0} → (Known → Config → Known → Last → Type 0) → Type 0
