@@ -82,17 +82,6 @@ impl<C: FileIdCache<A> + Drop, A: Allocator + Copy> Access<C, A> {
         Ok(Access { lock, pass })
     }
 
-    /// Another way to the book, which has seen as much, and has no right of its own.
-    pub fn another(&mut self) -> Result<Access<C, A>, AllocError>
-        ensures same { self.new ≡ self.old }
-        ensures other { IfOk result (λ a.
-            (a.lock ≡ self.old.lock) × (a.seen ≡ self.old.seen)) }
-    {
-        let lock = Arc::try_clone(&self.lock)?;
-        let pass = self.lock.another(&mut self.pass);
-        Ok(Access { lock, pass })
-    }
-
     /// Another way to the book, which alone emits from then on.
     pub fn telling(&mut self) -> Result<Access<C, A>, AllocError>
         requires { self.old.tells ≡ true }

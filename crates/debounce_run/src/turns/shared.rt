@@ -86,19 +86,6 @@ impl<C: FileIdCache<A> + Drop, R: Wait + Copy + Drop, A: Allocator + Copy> Share
         })
     }
 
-    /// Another way to the book, which has seen as much.
-    pub fn another(&mut self) -> Result<Access<C, A>, Error<A>>
-        ensures same { self.new.owner ≡ self.old.owner }
-        ensures other { IfOk result (λ a.
-            (a.lock ≡ self.old.owner.lock) × (a.seen ≡ self.old.owner.seen)) }
-        ensures err { IfErr result (λ e. e ≡ out_of_memory) }
-    {
-        match self.owner.another() {
-            Ok(access) => Ok(access),
-            Err(_) => Err(Error::out_of_memory(self.alloc)),
-        }
-    }
-
     /// The worker's way to the book, which alone emits.
     pub fn telling(&mut self) -> Result<Access<C, A>, Error<A>>
         requires { self.old.owner.tells ≡ true }
