@@ -1,12 +1,12 @@
 //! A lock whose contract follows what it guards. The value lies in a slot, and a word says whether it is
 //! there: who takes the value out holds the lock.
 ghost use Rattle.std.specs.Prelude.{◌≡◌, [], true, IfOk};
-ghost use Rattle.debounce_lock.specs.History.{Begins, Gave, MayGive, Took, beside, has, knower, opener, picked, righted, without};
+ghost use Rattle.debounce_lock.specs.History.{Begins, Gave, MayGive, Took, beside, has, opener, picked, righted, without};
 ghost use Rattle.debounce_lock.specs.Rights.{Emits, Feeds, Right};
 ghost use Rattle.debounce_lock.specs.Passes.{IsHolderOf, IsPassOf, view};
 
 use crate::hand::{Change, Hand, Pass, Told};
-use crate::rule::{Beside, Compares, Feeding, Gives, Knowing, Law, Takes, Telling};
+use crate::rule::{Beside, Compares, Feeding, Gives, Law, Takes, Telling};
 use crate::shown::Shown;
 use atomic_table::Table;
 use std::alloc::{AllocError, Allocator};
@@ -86,17 +86,6 @@ impl<T: Told<E> + Drop, E, A: Allocator> Lock<T, E, A> {
         shared.store::<Gives<M>>(pass, PLACE, IN);
         // Only now: who has the mutex next finds the value in its place.
         drop(guard);
-    }
-
-    /// A pass that has seen as much, and has no right.
-    pub fn another(&self, pass: &mut Pass<T, E>) -> Pass<T, E>
-        requires { IsPassOf self.now.table.shared.table_id pass.old }
-        ensures lock { IsPassOf self.now.table.shared.table_id pass.new
-            × IsPassOf self.now.table.shared.table_id result }
-        ensures same { view pass.new ≡ view pass.old }
-        ensures other { view result ≡ knower (view pass.old).seen }
-    {
-        self.table.shared.split_seat::<Knowing>(pass)
     }
 
     /// A pass that has seen as much, and has the right to tell.

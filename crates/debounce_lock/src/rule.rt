@@ -18,17 +18,6 @@ impl<T: Told<E>, E> TableRule<Option<T>, Hand<E>, Shown<T>> for Law<T, E> {
     ghost first = { λ x. opener (T.begins x.value) };
 }
 
-/// A pass that has no right is split off.
-pub struct Knowing;
-
-impl<E> Split<Hand<E>> for Knowing {
-    ghost use Rattle.debounce_lock.specs.History.{knower};
-
-    ghost left = { λ v. v };
-
-    ghost right = { λ v. knower v.seen };
-}
-
 /// The pass that tells is split off.
 pub struct Telling;
 
