@@ -62,6 +62,11 @@ module _ {E : Type 0} where
   still_had Emits w v ended fed h = sym ended ∙ h
   still_had Feeds w v ended fed h = sym fed ∙ h
 
+  -- one without rights
+  none : (right : Right) (xs : List E) → has right (knower xs) ≡ true → ⊥
+  none Emits xs h = off h
+  none Feeds xs h = off h
+
   -- the right of the one beside it
   had_beside : (right : Right) (v u : Hand E) → had_it right (beside v u) ≡ true → has right u ≡ true
   had_beside Emits v u h = h
@@ -303,6 +308,18 @@ module _ {T E : Type 0} (leads : T → List E → List E → Type 0) (pick : Rig
           },
         ),
       )
+
+  knows : (words : List ℕ) (log taken : List E) (holder : ℕ) (entitled : Right → ℕ) (number : ℕ) (xs : List E)
+      → Begins xs log
+      → Fits pick words log taken holder entitled number (knower xs)
+  knows words log taken holder entitled number xs b = record {
+    seen = b;
+    shown = begins_nil log;
+    holds = λ p. absurd (off p);
+    keeps = λ p. absurd (off p);
+    tells = λ right p. absurd (none right xs p);
+    ended = λ right p. absurd (never right (knower xs) refl refl p);
+  }
 
   at_end : (l : List (Hand E)) (a b : Hand E) (j : ℕ) → get_elem? l j ≢ some b → get_elem? (l ++ a ∷ []) j ≡ some b → j
       ≡ length l

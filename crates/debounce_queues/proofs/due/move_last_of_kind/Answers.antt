@@ -7,6 +7,9 @@ use Rattle.debounce_queues.specs.Due.{unless_later}
 use Rattle.debounce_queues.proofs.MoveLemmas.{last_of_back, moved_back}
 use Rattle.debounce_queues.proofs.due.move_last_of_kind.Goals as goal
 
+pub above-requires : goal.above-requires
+above-requires g c = rw c.as_slice.ensures.value (c.pop_above.ensures.bound c.loop-event.invariant.bound)
+
 pub move_unless_later-requires : goal.move_unless_later-requires
 move_unless_later-requires g c =
     let l = c.loop-event in
