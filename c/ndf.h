@@ -132,7 +132,7 @@ typedef struct ndf_attributes {
 
 /* An event as it is told. Its texts stand in the buffer one after the other, none ended by a zero: the first path
  * (`first` bytes), the second (`second`), the info and the source. A length is 0 if there is no such text. */
-typedef struct ndf_told {
+typedef struct ndf_event_record {
     uint32_t kind;
     uint32_t process; /* 0 if it has none */
     bool rescan;
@@ -147,17 +147,17 @@ typedef struct ndf_told {
     size_t second;
     size_t info;
     size_t source;
-} ndf_told;
+} ndf_event_record;
 
 /* An error as it is told. In the buffer stands the text of a generic one (`text` bytes), then its first path. */
-typedef struct ndf_told_error {
+typedef struct ndf_error_record {
     uint32_t kind;
     size_t paths;
     size_t text;
     size_t first;
-} ndf_told_error;
+} ndf_error_record;
 
-/* What an entry of a journal says was done, with the fields of ndf_told_entry that it has. */
+/* What an entry of a journal says was done, with the fields of ndf_entry_record that it has. */
 enum {
     NDF_STEP_EVENT = 0,   /* an event was taken: exists, known, device, inode and moment; it is the entry's event */
     NDF_STEP_ERROR = 1,   /* an error was kept: it is the entry's error */
@@ -169,7 +169,7 @@ enum {
 
 /* An entry of a journal as it is told. In the buffer stands the path that was watched, or watched no longer. A field
  * that the step hasn't is false or 0. */
-typedef struct ndf_told_entry {
+typedef struct ndf_entry_record {
     uint32_t step;
     bool exists;     /* as it was fed */
     bool known;      /* whether the core, where it looked for the file number of an event's path, found one: this one */
@@ -180,7 +180,7 @@ typedef struct ndf_told_entry {
     size_t events;   /* how many events the entry has, */
     size_t errors;   /* how many errors, */
     size_t path;     /* and how many bytes its path */
-} ndf_told_entry;
+} ndf_entry_record;
 
 /* The number of a file: of two paths with one device and one inode each is a name of one file. */
 typedef struct ndf_file_number {
@@ -355,14 +355,14 @@ uint32_t ndf_outlook(ndf_handle *h, size_t *count);
 /* Tells the next event, and writes its texts to the start of the buffer, whose rest stays as it was.
  * NDF_AT_END, exactly if all were read: `told` stays as it was. NDF_TOO_SHORT, exactly if the buffer is shorter
  * than the texts together: `told` says how long they are, and the event can be read again. It never lacks memory. */
-uint32_t ndf_next(ndf_handle *h, ndf_told *told, char *buf, size_t room);
+uint32_t ndf_next(ndf_handle *h, ndf_event_record *told, char *buf, size_t room);
 
 /* The errors that were kept are to be read now, `count` of them, and are kept no longer.
  * NDF_UNREAD, exactly if an error of the call before wasn't read; else NDF_NO_MEMORY, only if a journal is kept. */
 uint32_t ndf_errors(ndf_handle *h, size_t *count);
 
 /* Tells the next error, as ndf_next does of an event, with the same codes. */
-uint32_t ndf_next_error(ndf_handle *h, ndf_told_error *told, char *buf, size_t room);
+uint32_t ndf_next_error(ndf_handle *h, ndf_error_record *told, char *buf, size_t room);
 
 /* A journal begins, if `on`, and is empty; else none is kept any longer. What was kept before is freed. From then on
  * each ndf_event.., ndf_error, ndf_watch, ndf_unwatch, ndf_errors and ndf_tick that answers 0 is an entry, in order;
@@ -374,14 +374,14 @@ uint32_t ndf_journal(ndf_handle *h, bool on);
  * rest stays as it was. Reading an entry leaves it: what was read goes when another ndf_journal begins.
  * NDF_AT_END, exactly if the journal has no such entry, or none is kept: `told` stays as it was. NDF_TOO_SHORT,
  * exactly if the buffer is shorter than the path: `told` says how long it is. It never lacks memory. */
-uint32_t ndf_entry(ndf_handle *h, size_t place, ndf_told_entry *told, char *buf, size_t room);
+uint32_t ndf_entry(ndf_handle *h, size_t place, ndf_entry_record *told, char *buf, size_t room);
 
 /* Tells an event of an entry, the first within it at 0, as ndf_next does, with the same codes; of an event that was
  * taken `time` is the moment that was given. NDF_AT_END, exactly if there is no such entry, or no such event in it. */
-uint32_t ndf_entry_event(ndf_handle *h, size_t place, size_t within, ndf_told *told, char *buf, size_t room);
+uint32_t ndf_entry_event(ndf_handle *h, size_t place, size_t within, ndf_event_record *told, char *buf, size_t room);
 
 /* Tells an error of an entry, as ndf_next_error does, with the same codes. */
-uint32_t ndf_entry_error(ndf_handle *h, size_t place, size_t within, ndf_told_error *told, char *buf, size_t room);
+uint32_t ndf_entry_error(ndf_handle *h, size_t place, size_t within, ndf_error_record *told, char *buf, size_t room);
 
 /* Tells the counts. It never lacks memory. */
 uint32_t ndf_counts(ndf_handle *h, ndf_totals *counts);

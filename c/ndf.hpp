@@ -43,7 +43,7 @@ struct error {
 
 // An entry of a journal: what was done (NDF_STEP_..), with what it has of the rest.
 struct entry {
-    ndf_told_entry told;
+    ndf_entry_record told;
     std::string path;
     std::vector<event> events;
     std::vector<error> errors;
@@ -129,7 +129,7 @@ public:
 
     // The next event of the batch; none if all were read. After std::bad_alloc it can be read again.
     std::optional<event> next() {
-        return event_of([&](ndf_told &told, std::size_t size) { return ndf_next(&handle, &told, room.data(), size); });
+        return event_of([&](ndf_event_record &told, std::size_t size) { return ndf_next(&handle, &told, room.data(), size); });
     }
 
     // The errors that were kept, which are kept no longer. After std::bad_alloc a later call returns them.
@@ -152,11 +152,11 @@ public:
             while (!is_told(ndf_entry(&handle, i, &one.told, room.data(), room.size()), one.told.path)) {}
             one.path = room.substr(0, one.told.path);
             for (std::size_t j = 0; j < one.told.events; j++)
-                one.events.push_back(*event_of([&](ndf_told &told, std::size_t size) {
+                one.events.push_back(*event_of([&](ndf_event_record &told, std::size_t size) {
                     return ndf_entry_event(&handle, i, j, &told, room.data(), size);
                 }));
             for (std::size_t j = 0; j < one.told.errors; j++)
-                one.errors.push_back(*error_of([&](ndf_told_error &told, std::size_t size) {
+                one.errors.push_back(*error_of([&](ndf_error_record &told, std::size_t size) {
                     return ndf_entry_error(&handle, i, j, &told, room.data(), size);
                 }));
             all.push_back(std::move(one));
@@ -201,7 +201,7 @@ private:
     // What the call tells is gone once it is told, so all memory is there before: a first call without room says how
     // much is needed, and takes nothing away, but for what has no texts.
     template <class Call> std::optional<event> event_of(Call call) {
-        ndf_told told{};
+        ndf_event_record told{};
         event one{};
         one.paths.reserve(2);
         std::uint32_t code = call(told, 0);
@@ -229,7 +229,7 @@ private:
 
     // The same of an error.
     template <class Call> std::optional<error> error_of(Call call) {
-        ndf_told_error told{};
+        ndf_error_record told{};
         std::uint32_t code = call(told, 0);
         if (code == NDF_AT_END) return std::nullopt;
         std::string text(told.text, '\0'), path(told.first, '\0');
@@ -245,7 +245,7 @@ private:
     void read_errors() {
         for (;;) {
             if (handed_out.size() == handed_out.capacity()) handed_out.reserve(2 * handed_out.size() + 8);
-            auto one = error_of([&](ndf_told_error &told, std::size_t size) {
+            auto one = error_of([&](ndf_error_record &told, std::size_t size) {
                 return ndf_next_error(&handle, &told, room.data(), size);
             });
             if (!one) return;

@@ -44,7 +44,7 @@ struct number {
 
 /* An event that is to be printed. */
 struct line {
-    ndf_told told;
+    ndf_event_record told;
     char *texts;
     const struct line *other; /* with which it is printed as one move */
     bool is_left_out;
@@ -520,7 +520,7 @@ static void print_path(const char *path, size_t len) {
 
 /* Reads the events that are to be read. */
 static void read_lines(void) {
-    ndf_told told;
+    ndf_event_record told;
     char none;
     uint32_t code;
     while ((code = ndf_next(&debouncer, &told, &none, 0)) != NDF_AT_END) {

@@ -178,7 +178,7 @@ static int node_at(const char *text, size_t len) {
 /* Plays what is to be read. */
 static void play(bool *paths) {
     char buf[64];
-    ndf_told told;
+    ndf_event_record told;
     while (ndf_next(&h, &told, buf, sizeof buf) == NDF_DONE) {
         int i = node_at(buf, told.first);
         if (told.paths != 1) wrong("an event of two paths");

@@ -33,7 +33,7 @@ struct half {
 
 /* What an entry of the journal must tell; of an event that was taken, its kind and its number of paths too. */
 struct written {
-    ndf_told_entry entry;
+    ndf_entry_record entry;
     struct parts path;
     uint32_t kind, paths;
 };
@@ -269,7 +269,7 @@ static void read_next(struct known *k, long before) {
     char buf[512], same[512];
     memset(buf, 'x', sizeof buf);
     memset(same, 'x', sizeof same);
-    ndf_told t, silent;
+    ndf_event_record t, silent;
     memset(&t, 'y', sizeof t);
     silent = t;
     size_t room = one_in(2) ? below(12) : sizeof buf;
@@ -285,7 +285,7 @@ static void read_next(struct known *k, long before) {
     told_events++;
     if (k->batch_entry < k->entries) {
         char copy[512];
-        ndf_told u;
+        ndf_event_record u;
         memset(copy, 'x', sizeof copy);
         memset(&u, 'y', sizeof u);
         if (ndf_entry_event(&k->h, k->batch_entry, k->batch_read++, &u, copy, sizeof copy) != NDF_DONE ||
@@ -322,7 +322,7 @@ static void ask(struct known *k, long before) {
 
 static void read_error(struct known *k, long before) {
     char buf[256];
-    ndf_told_error t = {0};
+    ndf_error_record t = {0};
     size_t room = one_in(2) ? below(12) : sizeof buf;
     uint32_t code = ndf_next_error(&k->h, &t, buf, room);
     uint32_t fault = k->unread_errors == 0 ? NDF_AT_END : t.text + t.first > room ? NDF_TOO_SHORT : NDF_DONE;
@@ -404,7 +404,7 @@ static void read_entry(struct known *k, long before) {
     char buf[256];
     size_t place = below(k->entries + 2), room = one_in(4) ? below(8) : sizeof buf;
     const struct written *w = place < k->entries ? &k->written[place] : NULL;
-    ndf_told_entry e, silent;
+    ndf_entry_record e, silent;
     memset(&e, 'y', sizeof e);
     silent = e;
     uint32_t code = ndf_entry(&k->h, place, &e, buf, room);
@@ -427,7 +427,7 @@ static void read_in_entry(struct known *k, long before) {
     const struct written *w = place < k->entries ? &k->written[place] : NULL;
     if (one_in(3)) {
         size_t within = below((w ? w->entry.errors : 0) + 2);
-        ndf_told_error t = {0};
+        ndf_error_record t = {0};
         uint32_t code = ndf_entry_error(&k->h, place, within, &t, buf, room);
         bool there = w && within < w->entry.errors;
         uint32_t fault = !there ? NDF_AT_END : t.text + t.first > room ? NDF_TOO_SHORT : NDF_DONE;
@@ -435,7 +435,7 @@ static void read_in_entry(struct known *k, long before) {
         return;
     }
     size_t within = below((w ? w->entry.events : 0) + 2);
-    ndf_told t = {0};
+    ndf_event_record t = {0};
     uint32_t code = ndf_entry_event(&k->h, place, within, &t, buf, room);
     bool there = w && within < w->entry.events;
     uint32_t fault = !there ? NDF_AT_END : t.first + t.second + t.info + t.source > room ? NDF_TOO_SHORT : NDF_DONE;

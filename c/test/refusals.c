@@ -47,7 +47,7 @@ static void feed(uint32_t kind, uint64_t moment, uint64_t tracker, const char *p
 
 static size_t read_all(size_t many) {
     char buf[256];
-    ndf_told told;
+    ndf_event_record told;
     size_t events = 0;
     while (ndf_next(&h, &told, buf, sizeof buf) == NDF_DONE) events++;
     if (events != many) fail("not as many events as were told");
@@ -57,9 +57,9 @@ static size_t read_all(size_t many) {
 /* Reads all entries, for which no memory is wanted. */
 static void read_journal(size_t entries, size_t events, size_t errors) {
     char buf[256];
-    ndf_told_entry entry;
-    ndf_told told;
-    ndf_told_error error;
+    ndf_entry_record entry;
+    ndf_event_record told;
+    ndf_error_record error;
     size_t i, seen = 0, known = 0;
     long kept = left;
     left = 0;

@@ -34,7 +34,7 @@ static void feed(uint32_t kind, const char *path, uint64_t moment, bool tracked,
 /* The sum of crates/bench over what is emitted: of each event its time and its last path. */
 static void tick(uint64_t moment) {
     size_t many;
-    ndf_told told;
+    ndf_event_record told;
     char buf[256];
     done(ndf_tick(&h, moment, &many));
     while (ndf_next(&h, &told, buf, sizeof buf) == NDF_DONE) {

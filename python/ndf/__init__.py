@@ -71,7 +71,7 @@ class Attributes(ctypes.Structure):
     ]
 
 
-class Told(ctypes.Structure):
+class EventRecord(ctypes.Structure):
     _fields_ = [
         ("kind", ctypes.c_uint32),
         ("process", ctypes.c_uint32),
@@ -93,7 +93,7 @@ class Told(ctypes.Structure):
         return self.first, self.second, self.info, self.source
 
 
-class ToldError(ctypes.Structure):
+class ErrorRecord(ctypes.Structure):
     _fields_ = [
         ("kind", ctypes.c_uint32),
         ("paths", ctypes.c_size_t),
@@ -105,7 +105,7 @@ class ToldError(ctypes.Structure):
         return self.text, self.first
 
 
-class ToldEntry(ctypes.Structure):
+class EntryRecord(ctypes.Structure):
     _fields_ = [
         ("step", ctypes.c_uint32),
         ("exists", ctypes.c_bool),
@@ -182,13 +182,13 @@ def _load() -> ctypes.CDLL:
         "ndf_known": [*text, ctypes.POINTER(Stands)],
         "ndf_tick": [moment, count],
         "ndf_outlook": [count],
-        "ndf_next": [ctypes.POINTER(Told), *text],
+        "ndf_next": [ctypes.POINTER(EventRecord), *text],
         "ndf_errors": [count],
-        "ndf_next_error": [ctypes.POINTER(ToldError), *text],
+        "ndf_next_error": [ctypes.POINTER(ErrorRecord), *text],
         "ndf_journal": [flag],
-        "ndf_entry": [size, ctypes.POINTER(ToldEntry), *text],
-        "ndf_entry_event": [size, size, ctypes.POINTER(Told), *text],
-        "ndf_entry_error": [size, size, ctypes.POINTER(ToldError), *text],
+        "ndf_entry": [size, ctypes.POINTER(EntryRecord), *text],
+        "ndf_entry_event": [size, size, ctypes.POINTER(EventRecord), *text],
+        "ndf_entry_error": [size, size, ctypes.POINTER(ErrorRecord), *text],
         "ndf_counts": [ctypes.POINTER(Counts)],
     }
     for name, rest in calls.items():
@@ -277,7 +277,7 @@ def _number(name: str, value: int, bits: int = 64) -> int:
 class _Place:
     """Where a call tells something: a record, and a buffer for its texts."""
 
-    def __init__(self, told: Told | ToldError | ToldEntry) -> None:
+    def __init__(self, told: EventRecord | ErrorRecord | EntryRecord) -> None:
         self.told = told
         self.room = ctypes.create_string_buffer(512)
 
@@ -302,8 +302,8 @@ class Debouncer:
         self._thread = threading.get_ident()
         self._handle = Handle()
         # What the library has handed out and was not returned: an exception in the middle of a batch leaves it here.
-        self._told, self._events = _Place(Told(_NO_KIND)), list[Event]()
-        self._told_error, self._errors = _Place(ToldError(_NO_KIND)), list[Error]()
+        self._told, self._events = _Place(EventRecord(_NO_KIND)), list[Event]()
+        self._told_error, self._errors = _Place(ErrorRecord(_NO_KIND)), list[Error]()
         numbers = _number("timeout", timeout), _number("taken", taken), _number("given", given)
         self._code(_lib.ndf_new_with_counts, *numbers)
 
@@ -568,9 +568,9 @@ class Debouncer:
         return [self._entry(number) for number in range(self.counts().entries)]
 
     def _entry(self, number: int) -> Entry:
-        place = self._at(_lib.ndf_entry, _Place(ToldEntry()), number)
+        place = self._at(_lib.ndf_entry, _Place(EntryRecord()), number)
         told, step = place.told, STEPS[place.told.step]
-        event, error = _Place(Told()), _Place(ToldError())
+        event, error = _Place(EventRecord()), _Place(ErrorRecord())
         return Entry(
             step,
             told.moment,

@@ -3,7 +3,7 @@ import ctypes
 
 import ndf
 
-for record in (ndf.Handle, ndf.Change, ndf.Attributes, ndf.Told, ndf.ToldError, ndf.ToldEntry, ndf.Number, ndf.Stands,
+for record in (ndf.Handle, ndf.Change, ndf.Attributes, ndf.EventRecord, ndf.ErrorRecord, ndf.EntryRecord, ndf.Number, ndf.Stands,
                ndf.Counts):
     print(record.__name__, ctypes.sizeof(record))
     for name, kind in record._fields_:

@@ -14,7 +14,7 @@ use Rattle.debounce_model.specs.State.{State, Core, empty_state}
 use Rattle.debounce_model.specs.Step.{IsRefusedFor}
 use Rattle.debounce_model.specs.Tick.{is_due}
 use Rattle.debounce_model.specs.Table.{case_of, taken_as, event_step, raised_event}
-use Rattle.debounce_book.specs.Book.{kept_as, kept_entries, entry_of, Kept, IsFull, IsDone, IsNotDone, IsUnwritten, Ticks}
+use Rattle.debounce_book.specs.Book.{book_as, stored_entries, entry_of, BookValue, IsFull, IsDone, IsNotDone, IsUnwritten, Ticks}
 use Rattle.debounce_book.specs.Journal.{EntryValue, Accepts, Replays, IsLegal, IsJournal, IsPart, LeadsTo}
 
 -- an event keeps the timeout
@@ -138,29 +138,29 @@ module _ {C : Type 0} where
   -- a command that is accepted is done: its entry is the last
   pub IsDone-written : (r : Rules C) (s t : Core C) (whole : Bool) (es : List EntryValue) (from : ℕ) (c : CommandValue)
       (y : ReplyValue) → Step r s c y t →
-      IsDone r (kept_as s whole (Some es)) from c y (kept_as t whole (Some (es ++ entry_of from c y ∷ [])))
+      IsDone r (book_as s whole (Some es)) from c y (book_as t whole (Some (es ++ entry_of from c y ∷ [])))
   IsDone-written r s t true es from c y step = (step, refl, refl)
   IsDone-written r s t false es from c y step = (step, refl, refl)
 
   -- .. and without an entry where none is kept
   pub IsDone-bare : (r : Rules C) (s t : Core C) (whole : Bool) (from : ℕ) (c : CommandValue) (y : ReplyValue) →
-      Step r s c y t → IsDone r (kept_as s whole None) from c y (kept_as t whole None)
+      Step r s c y t → IsDone r (book_as s whole None) from c y (book_as t whole None)
   IsDone-bare r s t true from c y step = (step, refl, refl)
   IsDone-bare r s t false from c y step = (step, refl, refl)
 
   -- a command that the core refuses is not done
   pub IsNotDone-refused : (r : Rules C) (s t : Core C) (whole : Bool) (journal : Option (List EntryValue))
       (c : CommandValue) (error : ErrorValue) → Step r s c (RefusedReply error) t →
-      IsNotDone r (kept_as s whole journal) c error (kept_as t whole journal)
+      IsNotDone r (book_as s whole journal) c error (book_as t whole journal)
   IsNotDone-refused r s t whole journal c error step = inl (step, refl, refl)
 
   -- .. nor is one for whose entry there is no memory, and nothing has changed
   pub IsUnwritten-kept : (s : Core C) (whole : Bool) (es : List EntryValue) (c : CommandValue) (error : ErrorValue) →
       error ≡ out_of_memory → (IsFull s.state c → ⊥) →
-      IsUnwritten (kept_as s whole (Some es)) c error (kept_as s whole (Some es))
+      IsUnwritten (book_as s whole (Some es)) c error (book_as s whole (Some es))
   IsUnwritten-kept s whole es c error is below = (is, by whole, below, refl)
     where
-      by : (w : Bool) → kept_entries (kept_as s w (Some es)) ≡ None → ⊥
+      by : (w : Bool) → stored_entries (book_as s w (Some es)) ≡ None → ⊥
       by true none = cc
       by false none = cc
 
@@ -189,7 +189,7 @@ module _ {C : Type 0} where
       by false n = n refl
 
   -- a tick is done if it has a batch, and not if it has none
-  pub ticks_by : {A : Type 0} (r : Rules C) (old new : Kept C) (now : ℕ) (res : Result (Vec Timed A) ErrorValue) →
+  pub ticks_by : {A : Type 0} (r : Rules C) (old new : BookValue C) (now : ℕ) (res : Result (Vec Timed A) ErrorValue) →
       IfOk res (λ batch. IsDone r old 0 (TickCommand now) (BatchReply batch.items) new) →
       IfErr res (λ e. IsNotDone r old (TickCommand now) e new) → Ticks r old now res new
   ticks_by r old new now (Ok batch) ok err = ok

@@ -2,7 +2,7 @@
 use Rattle.std.proofs.Common.{◌≡◌, List, [], Bool, true, false, Option, Some, None, IfSome, is_some, unwrap_or, refl}
 use Rattle.std.specs.Option.{option_map, option_or}
 use Rattle.debounce_model.specs.State.{State, Core, empty_state}
-use Rattle.debounce_book.specs.Book.{kept_as, kept_entries, whole_of, part_of, written, parted}
+use Rattle.debounce_book.specs.Book.{book_as, stored_entries, whole_of, part_of, written, parted}
 use Rattle.debounce_book.specs.Journal.{EntryValue, IsLegal, IsPart, LeadsTo}
 
 module _ {J : Type 0} (items : J → List EntryValue) where
@@ -38,7 +38,7 @@ module _ {J : Type 0} (items : J → List EntryValue) where
 
   -- entries are shown where some are held
   pub kept-shown : {C : Type 0} (core : Core C) (whole : Bool) (journal : Option J) →
-      is_some journal ≡ is_some (kept_entries (kept_as core whole (option_map items journal)))
+      is_some journal ≡ is_some (stored_entries (book_as core whole (option_map items journal)))
   kept-shown core true None = refl
   kept-shown core true (Some j) = refl
   kept-shown core false None = refl
@@ -46,23 +46,23 @@ module _ {J : Type 0} (items : J → List EntryValue) where
 
 module _ {C : Type 0} (core : Core C) where
   -- the entries that are held are those that are shown
-  pub written-some : (whole : Bool) (es : List EntryValue) → es ≡ written (kept_as core whole (Some es))
+  pub written-some : (whole : Bool) (es : List EntryValue) → es ≡ written (book_as core whole (Some es))
   written-some true es = refl
   written-some false es = refl
 
   -- .. and none are if none are held
-  pub written-none : (whole : Bool) → [] ≡ written (kept_as core whole None)
+  pub written-none : (whole : Bool) → [] ≡ written (book_as core whole None)
   written-none true = refl
   written-none false = refl
 
   -- where entries were taken out, a part begins
   pub parted-some : (whole : Bool) (es : List EntryValue) →
-      kept_as core false (Some []) ≡ parted (kept_as core whole (Some es))
+      book_as core false (Some []) ≡ parted (book_as core whole (Some es))
   parted-some true es = refl
   parted-some false es = refl
 
   -- .. and where none are held, none does
-  pub parted-none : (whole : Bool) → kept_as core whole None ≡ parted (kept_as core whole None)
+  pub parted-none : (whole : Bool) → book_as core whole None ≡ parted (book_as core whole None)
   parted-none true = refl
   parted-none false = refl
 

@@ -16,7 +16,7 @@ use Rattle.debounce_c.specs.Desk.Looks.{Begins, Ends, EndsKnown, Finds, IsFedNex
 use Rattle.debounce_c.specs.Desk.{DeskValue, IsAsked, IsForeseen, IsOpened, IsTicked, entry_at, stepped}
 use Rattle.debounce_c.specs.Desk.Faults.{batch_fault, entry_fault, error_fault, errors_fault, errors_need, event_fault, event_needs, next_error_fault, next_fault, no_fault, text_fault, tick_needs}
 use Rattle.debounce_c.specs.Desk.Said.{error_of, event_of, id_of, mode_of}
-use Rattle.debounce_c.specs.Desk.Tells.{LeavesEntryTold, LeavesErrorTold, LeavesTold, Tells, TellsCounts, TellsEntry, TellsError, TellsNumber, entry_texts, error_in, error_texts, event_in, texts_of, written}
+use Rattle.debounce_c.specs.Desk.Tells.{LeavesEntryRecord, LeavesErrorRecord, LeavesEventRecord, Tells, TellsCounts, TellsEntry, TellsError, TellsNumber, entry_texts, error_in, error_texts, event_in, texts_of, written}
 use Rattle.debounce_c.specs.declared.desk.fault.Fault.{Fault}
 use Rattle.debounce_c.specs.declared.desk.fault.Fault.TheVariants.{NoMemory}
 use Rattle.debounce_c.specs.declared.desk.records.Attributes.{Attributes}
@@ -24,9 +24,9 @@ use Rattle.debounce_c.specs.declared.desk.records.Change.{Change}
 use Rattle.debounce_c.specs.declared.desk.records.Counts.{Counts}
 use Rattle.debounce_c.specs.declared.desk.records.Number.{Number}
 use Rattle.debounce_c.specs.declared.desk.records.Stands.{Stands}
-use Rattle.debounce_c.specs.declared.desk.records.Told.{Told}
-use Rattle.debounce_c.specs.declared.desk.records.ToldEntry.{ToldEntry}
-use Rattle.debounce_c.specs.declared.desk.records.ToldError.{ToldError}
+use Rattle.debounce_c.specs.declared.desk.records.EventRecord.{EventRecord}
+use Rattle.debounce_c.specs.declared.desk.records.EntryRecord.{EntryRecord}
+use Rattle.debounce_c.specs.declared.desk.records.ErrorRecord.{ErrorRecord}
 
 -- a new debouncer, whatever was held before; or the fault's code, or NO_MEMORY, and what was held is held
 abbrev pub IsMade : ℕ → Option Fault → ℕ → ℕ → ℕ → Option DeskValue → Option DeskValue → Type 0
@@ -46,8 +46,8 @@ IsUnwatched code path = Answers code (λ s. text_fault path) (λ s. true)
     (Makes (Unwatches (parts_of path))) (λ f. ⊤)
 
 -- the mode of a path was told
-abbrev pub IsModeTold : ℕ → List ℕ → Bool → Bool → Option DeskValue → Option DeskValue → Type 0
-IsModeTold code path before after = Answers code (λ s. text_fault path) (λ s. true) (λ s t.
+abbrev pub IsModeWritten : ℕ → List ℕ → Bool → Bool → Option DeskValue → Option DeskValue → Type 0
+IsModeWritten code path before after = Answers code (λ s. text_fault path) (λ s. true) (λ s t.
     (mode_of after ≡ recursive_mode s.core.state (parts_of path)) × (t ≡ s)) (λ f. after ≡ before)
 
 -- the path has this file number
@@ -61,8 +61,8 @@ IsForgotten code path = Answers code (λ s. text_fault path) (λ s. true)
     (Makes (Forgets (parts_of path))) (λ f. ⊤)
 
 -- the file number of a path was told
-abbrev pub IsNumberTold : ℕ → List ℕ → Number → Number → Option DeskValue → Option DeskValue → Type 0
-IsNumberTold code path before after = Answers code (λ s. text_fault path) (λ s. true) (λ s t.
+abbrev pub IsNumberWritten : ℕ → List ℕ → Number → Number → Option DeskValue → Option DeskValue → Type 0
+IsNumberWritten code path before after = Answers code (λ s. text_fault path) (λ s. true) (λ s t.
     TellsNumber (number_at s.core.cache (parts_of path)) after × (t ≡ s)) (λ f. after ≡ before)
 
 -- the event was taken: what `Makes` says of one that is fed, written out
@@ -111,8 +111,8 @@ IsNextFed code now = Answers code feed_fault (λ s. true)
     (λ s t. (event : EventValue) × IsFedNext s event now t) (λ f. ⊤)
 
 -- what is known at the path was told
-abbrev pub IsKnownTold : ℕ → List ℕ → Stands → Stands → Option DeskValue → Option DeskValue → Type 0
-IsKnownTold code path before after = Answers code (λ s. text_fault path) (λ s. true) (λ s t.
+abbrev pub IsKnownWritten : ℕ → List ℕ → Stands → Stands → Option DeskValue → Option DeskValue → Type 0
+IsKnownWritten code path before after = Answers code (λ s. text_fault path) (λ s. true) (λ s t.
     TellsStands (at_path s.looker.known (parts_of path)) after × (t ≡ s)) (λ f. after ≡ before)
 
 -- the error was kept
@@ -146,29 +146,31 @@ next_error_of None = None
 next_error_of (Some s) = slice_get s.errors s.errors_read
 
 -- the next event was told, and its texts stand in the buffer
-abbrev pub IsTold : ℕ → Told → Told → List ℕ → List ℕ → Option DeskValue → Option DeskValue → Type 0
-IsTold code silent told before after old =
+abbrev pub IsEventWritten : ℕ → EventRecord → EventRecord → List ℕ → List ℕ → Option DeskValue → Option DeskValue
+    → Type 0
+IsEventWritten code silent told before after old =
     Answers code (λ s. next_fault (length before) (slice_get s.batch s.read)) (λ s. false) (λ s t.
     (x : Timed) × (slice_get s.batch s.read ≡ Some x) × Tells x told × (after ≡ written (texts_of x) before)
     × (t ≡ record s { read = s.read + 1 }))
-    (λ f. (after ≡ before) × LeavesTold f (next_of old) silent told) old
+    (λ f. (after ≡ before) × LeavesEventRecord f (next_of old) silent told) old
 
 -- the next error was told, and its texts stand in the buffer
-abbrev pub IsErrorTold : ℕ → ToldError → ToldError → List ℕ → List ℕ → Option DeskValue → Option DeskValue → Type 0
-IsErrorTold code silent told before after old =
+abbrev pub IsErrorWritten : ℕ → ErrorRecord → ErrorRecord → List ℕ → List ℕ → Option DeskValue → Option DeskValue
+    → Type 0
+IsErrorWritten code silent told before after old =
     Answers code (λ s. next_error_fault (length before) (slice_get s.errors s.errors_read)) (λ s. false) (λ s t.
     (e : ErrorValue) × (slice_get s.errors s.errors_read ≡ Some e) × TellsError e told
     × (after ≡ written (error_texts e) before) × (t ≡ record s { errors_read = s.errors_read + 1 }))
-    (λ f. (after ≡ before) × LeavesErrorTold f (next_error_of old) silent told) old
+    (λ f. (after ≡ before) × LeavesErrorRecord f (next_error_of old) silent told) old
 
 -- the counts were told
-abbrev pub AreCountsTold : ℕ → Counts → Counts → Option DeskValue → Option DeskValue → Type 0
-AreCountsTold code before after = Answers code no_fault (λ s. false) (λ s t.
+abbrev pub AreCountsWritten : ℕ → Counts → Counts → Option DeskValue → Option DeskValue → Type 0
+AreCountsWritten code before after = Answers code no_fault (λ s. false) (λ s t.
     TellsCounts s after × (t ≡ s)) (λ f. after ≡ before)
 
 -- a journal has begun, or none is kept
-abbrev pub IsJournalKept : ℕ → Bool → Option DeskValue → Option DeskValue → Type 0
-IsJournalKept code on = Answers code no_fault (λ s. false) (Makes (Keeps on)) (λ f. ⊤)
+abbrev pub IsJournalSwitched : ℕ → Bool → Option DeskValue → Option DeskValue → Type 0
+IsJournalSwitched code on = Answers code no_fault (λ s. false) (Makes (Keeps on)) (λ f. ⊤)
 
 -- the entry at this place, if a debouncer is held that has one
 abbrev pub entry_of_held : Option DeskValue → ℕ → Option EntryValue
@@ -176,28 +178,28 @@ entry_of_held None place = None
 entry_of_held (Some s) place = entry_at s place
 
 -- the entry was told, and its path stands in the buffer
-abbrev pub IsEntryTold : ℕ → ℕ → ToldEntry → ToldEntry → List ℕ → List ℕ → Option DeskValue → Option DeskValue
+abbrev pub IsEntryWritten : ℕ → ℕ → EntryRecord → EntryRecord → List ℕ → List ℕ → Option DeskValue → Option DeskValue
     → Type 0
-IsEntryTold code place silent told before after old =
+IsEntryWritten code place silent told before after old =
     Answers code (λ s. entry_fault (length before) (entry_at s place)) (λ s. false) (λ s t.
     (e : EntryValue) × (entry_at s place ≡ Some e) × TellsEntry e told × (after ≡ written (entry_texts e) before)
     × (t ≡ s))
-    (λ f. (after ≡ before) × LeavesEntryTold f (entry_of_held old place) silent told) old
+    (λ f. (after ≡ before) × LeavesEntryRecord f (entry_of_held old place) silent told) old
 
 -- the event of an entry was told, and its texts stand in the buffer
-abbrev pub IsEntryEventTold : ℕ → ℕ → ℕ → Told → Told → List ℕ → List ℕ → Option DeskValue → Option DeskValue
-    → Type 0
-IsEntryEventTold code place within silent told before after old =
+abbrev pub IsEntryEventWritten : ℕ → ℕ → ℕ → EventRecord → EventRecord → List ℕ → List ℕ → Option DeskValue
+    → Option DeskValue → Type 0
+IsEntryEventWritten code place within silent told before after old =
     Answers code (λ s. next_fault (length before) (event_in (entry_at s place) within)) (λ s. false) (λ s t.
     (x : Timed) × (event_in (entry_at s place) within ≡ Some x) × Tells x told
     × (after ≡ written (texts_of x) before) × (t ≡ s))
-    (λ f. (after ≡ before) × LeavesTold f (event_in (entry_of_held old place) within) silent told) old
+    (λ f. (after ≡ before) × LeavesEventRecord f (event_in (entry_of_held old place) within) silent told) old
 
 -- the error of an entry was told, and its texts stand in the buffer
-abbrev pub IsEntryErrorTold : ℕ → ℕ → ℕ → ToldError → ToldError → List ℕ → List ℕ → Option DeskValue
+abbrev pub IsEntryErrorWritten : ℕ → ℕ → ℕ → ErrorRecord → ErrorRecord → List ℕ → List ℕ → Option DeskValue
     → Option DeskValue → Type 0
-IsEntryErrorTold code place within silent told before after old =
+IsEntryErrorWritten code place within silent told before after old =
     Answers code (λ s. next_error_fault (length before) (error_in (entry_at s place) within)) (λ s. false) (λ s t.
     (e : ErrorValue) × (error_in (entry_at s place) within ≡ Some e) × TellsError e told
     × (after ≡ written (error_texts e) before) × (t ≡ s))
-    (λ f. (after ≡ before) × LeavesErrorTold f (error_in (entry_of_held old place) within) silent told) old
+    (λ f. (after ≡ before) × LeavesErrorRecord f (error_in (entry_of_held old place) within) silent told) old

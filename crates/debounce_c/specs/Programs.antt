@@ -21,10 +21,10 @@ use Rattle.debounce_c.specs.declared.desk.records.Change.{Change}
 use Rattle.debounce_c.specs.declared.desk.records.Counts.{Counts}
 use Rattle.debounce_c.specs.declared.desk.records.Number.{Number}
 use Rattle.debounce_c.specs.declared.desk.records.Stands.{Stands}
-use Rattle.debounce_c.specs.declared.desk.records.Told.{Told}
-use Rattle.debounce_c.specs.declared.desk.records.ToldEntry.{ToldEntry}
-use Rattle.debounce_c.specs.declared.desk.records.ToldError.{ToldError}
-use Rattle.debounce_c.specs.Exports.{AreCountsTold, IsChanged, IsEntryErrorTold, IsEntryEventTold, IsEntryTold, IsErrorTold, IsErrorsAnswered, IsFed, IsForgotten, IsFound, IsJournalKept, IsKept, IsKnownTold, IsLookBegun, IsLookEnded, IsLookKnown, IsLost, IsModeTold, IsNextFed, IsNoted, IsNumbered, IsNumberTold, IsOutlookAnswered, IsTickAnswered, IsTold, IsUnwatched, IsWatched}
+use Rattle.debounce_c.specs.declared.desk.records.EventRecord.{EventRecord}
+use Rattle.debounce_c.specs.declared.desk.records.EntryRecord.{EntryRecord}
+use Rattle.debounce_c.specs.declared.desk.records.ErrorRecord.{ErrorRecord}
+use Rattle.debounce_c.specs.Exports.{AreCountsWritten, IsChanged, IsEntryErrorWritten, IsEntryEventWritten, IsEntryWritten, IsErrorWritten, IsErrorsAnswered, IsFed, IsForgotten, IsFound, IsJournalSwitched, IsKept, IsKnownWritten, IsLookBegun, IsLookEnded, IsLookKnown, IsLost, IsModeWritten, IsNextFed, IsNoted, IsNumbered, IsNumberWritten, IsOutlookAnswered, IsTickAnswered, IsEventWritten, IsUnwatched, IsWatched}
 
 -- a call of an export but ndf_new.. and ndf_free, with what it was given; of ndf_look_known also what is known then,
 -- and of ndf_look_feed the event that was the next, if it answered 0
@@ -71,25 +71,25 @@ next_held (Some s) = next_told s
 abbrev pub IsAnswered : ExportValue → ℕ → Option DeskValue → Option DeskValue → Type 0
 IsAnswered (CallsWatch path recursive) code old new = IsWatched code path recursive old new
 IsAnswered (CallsUnwatch path) code old new = IsUnwatched code path old new
-IsAnswered (CallsMode path) code old new = (b c : Bool) × IsModeTold code path b c old new
+IsAnswered (CallsMode path) code old new = (b c : Bool) × IsModeWritten code path b c old new
 IsAnswered (CallsNumber path device inode) code old new = IsNumbered code path device inode old new
 IsAnswered (CallsForget path) code old new = IsForgotten code path old new
-IsAnswered (CallsNumberOf path) code old new = (b c : Number) × IsNumberTold code path b c old new
+IsAnswered (CallsNumberOf path) code old new = (b c : Number) × IsNumberWritten code path b c old new
 IsAnswered (CallsEvent c a first second info source) code old new = IsFed code c a first second info source old new
 IsAnswered (CallsError kind has_path text path) code old new = IsNoted code kind has_path text path old new
 IsAnswered (CallsTick now) code old new = (b c : ℕ) × IsTickAnswered code now b c old new
 IsAnswered CallsOutlook code old new = (b c : ℕ) × IsOutlookAnswered code b c old new
-IsAnswered CallsNext code old new = (b c : Told) × (m n : List ℕ) × IsTold code b c m n old new
+IsAnswered CallsNext code old new = (b c : EventRecord) × (m n : List ℕ) × IsEventWritten code b c m n old new
 IsAnswered CallsErrors code old new = (b c : ℕ) × IsErrorsAnswered code b c old new
-IsAnswered CallsNextError code old new = (b c : ToldError) × (m n : List ℕ) × IsErrorTold code b c m n old new
-IsAnswered (CallsJournal on) code old new = IsJournalKept code on old new
+IsAnswered CallsNextError code old new = (b c : ErrorRecord) × (m n : List ℕ) × IsErrorWritten code b c m n old new
+IsAnswered (CallsJournal on) code old new = IsJournalSwitched code on old new
 IsAnswered (CallsEntry place) code old new =
-    (b c : ToldEntry) × (m n : List ℕ) × IsEntryTold code place b c m n old new
+    (b c : EntryRecord) × (m n : List ℕ) × IsEntryWritten code place b c m n old new
 IsAnswered (CallsEntryEvent place within) code old new =
-    (b c : Told) × (m n : List ℕ) × IsEntryEventTold code place within b c m n old new
+    (b c : EventRecord) × (m n : List ℕ) × IsEntryEventWritten code place within b c m n old new
 IsAnswered (CallsEntryError place within) code old new =
-    (b c : ToldError) × (m n : List ℕ) × IsEntryErrorTold code place within b c m n old new
-IsAnswered CallsCounts code old new = (b c : Counts) × AreCountsTold code b c old new
+    (b c : ErrorRecord) × (m n : List ℕ) × IsEntryErrorWritten code place within b c m n old new
+IsAnswered CallsCounts code old new = (b c : Counts) × AreCountsWritten code b c old new
 IsAnswered CallsLookBegin code old new = IsLookBegun code old new
 IsAnswered (CallsFound path stands) code old new = IsFound code path stands old new
 IsAnswered (CallsGone path) code old new = IsLost code path old new
@@ -99,7 +99,7 @@ IsAnswered CallsLookEnd code old new = (b c : ℕ) × IsLookEnded code b c old n
 IsAnswered (CallsLookKnown known) code old new = (code ≡ 0 → Knows known new) × IsLookKnown code old new
 IsAnswered (CallsLookFeed event now) code old new =
     (code ≡ 0 → next_held old ≡ Some event) × IsNextFed code now old new
-IsAnswered (CallsKnown path) code old new = (b c : Stands) × IsKnownTold code path b c old new
+IsAnswered (CallsKnown path) code old new = (b c : Stands) × IsKnownWritten code path b c old new
 
 -- what a call is that answers 0
 abbrev pub call_of : ExportValue → CallValue

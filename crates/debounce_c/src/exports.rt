@@ -1,12 +1,12 @@
 //! The functions that C calls.
 ghost use Rattle.std.specs.Prelude.{◌≡◌, [], None, Some};
-ghost use Rattle.debounce_c.specs.Exports.{AreCountsTold, IsChanged, IsEntryErrorTold, IsEntryEventTold, IsEntryTold, IsErrorTold, IsErrorsAnswered, IsFed, IsForgotten, IsFound, IsJournalKept, IsKept, IsKnownTold, IsLookBegun, IsLookEnded, IsLookKnown, IsLost, IsMade, IsModeTold, IsNextFed, IsNoted, IsNumberTold, IsNumbered, IsOutlookAnswered, IsTickAnswered, IsTold, IsUnwatched, IsWatched};
+ghost use Rattle.debounce_c.specs.Exports.{AreCountsWritten, IsChanged, IsEntryErrorWritten, IsEntryEventWritten, IsEntryWritten, IsErrorWritten, IsErrorsAnswered, IsFed, IsForgotten, IsFound, IsJournalSwitched, IsKept, IsKnownWritten, IsLookBegun, IsLookEnded, IsLookKnown, IsLost, IsMade, IsModeWritten, IsNextFed, IsNoted, IsNumberWritten, IsNumbered, IsOutlookAnswered, IsTickAnswered, IsEventWritten, IsUnwatched, IsWatched};
 ghost use Rattle.debounce_c.specs.Desk.Faults.{counts_fault};
 ghost use Rattle.debounce_c.specs.Desk.Said.{no_attributes};
 
 use crate::desk::fault::{Fault, code_of};
 use crate::desk::records::{
-    Attributes, Change, Counts, Number, Stands, Told, ToldEntry, ToldError,
+    Attributes, Change, Counts, EntryRecord, ErrorRecord, EventRecord, Number, Stands,
 };
 use crate::desk::{Desk, calls, looks};
 use crate::handle::Handle;
@@ -87,7 +87,7 @@ pub extern "C" fn ndf_unwatch(h: &mut Handle, alloc: Global, path: &[u8]) -> u32
 /// Tells whether a path is watched with what is below it.
 #[unsafe(no_mangle)]
 pub extern "C" fn ndf_mode(h: &mut Handle, alloc: Global, path: &[u8], recursive: &mut bool) -> u32
-    ensures { IsModeTold result path.now recursive.old recursive.new h.old.sealed.desk
+    ensures { IsModeWritten result path.now recursive.old recursive.new h.old.sealed.desk
         h.new.sealed.desk }
 {
     let Some(mut desk) = h.take(alloc) else {
@@ -138,7 +138,8 @@ pub extern "C" fn ndf_number_of(
     path: &[u8],
     told: &mut Number,
 ) -> u32
-    ensures { IsNumberTold result path.now told.old told.new h.old.sealed.desk h.new.sealed.desk }
+    ensures { IsNumberWritten result path.now told.old told.new h.old.sealed.desk
+        h.new.sealed.desk }
 {
     let Some(mut desk) = h.take(alloc) else {
         return Fault::Empty.code();
@@ -318,7 +319,7 @@ pub extern "C" fn ndf_look_feed(h: &mut Handle, alloc: Global, moment: u64) -> u
 /// Tells what is known at the path.
 #[unsafe(no_mangle)]
 pub extern "C" fn ndf_known(h: &mut Handle, alloc: Global, path: &[u8], stands: &mut Stands) -> u32
-    ensures { IsKnownTold result path.now stands.old stands.new h.old.sealed.desk
+    ensures { IsKnownWritten result path.now stands.old stands.new h.old.sealed.desk
         h.new.sealed.desk }
 {
     let Some(mut desk) = h.take(alloc) else {
@@ -378,8 +379,14 @@ pub extern "C" fn ndf_outlook(h: &mut Handle, alloc: Global, count: &mut usize) 
 /// Tells the next event, and writes its texts to the start of the buffer. If that is too short, the event
 /// isn't read, and `told` says how long they are.
 #[unsafe(no_mangle)]
-pub extern "C" fn ndf_next(h: &mut Handle, alloc: Global, told: &mut Told, buf: &mut [u8]) -> u32
-    ensures { IsTold result told.old told.new buf.old buf.new h.old.sealed.desk h.new.sealed.desk }
+pub extern "C" fn ndf_next(
+    h: &mut Handle,
+    alloc: Global,
+    told: &mut EventRecord,
+    buf: &mut [u8],
+) -> u32
+    ensures { IsEventWritten result told.old told.new buf.old buf.new h.old.sealed.desk
+        h.new.sealed.desk }
 {
     let Some(mut desk) = h.take(alloc) else {
         return Fault::Empty.code();
@@ -407,10 +414,10 @@ pub extern "C" fn ndf_errors(h: &mut Handle, alloc: Global, count: &mut usize) -
 pub extern "C" fn ndf_next_error(
     h: &mut Handle,
     alloc: Global,
-    told: &mut ToldError,
+    told: &mut ErrorRecord,
     buf: &mut [u8],
 ) -> u32
-    ensures { IsErrorTold result told.old told.new buf.old buf.new h.old.sealed.desk
+    ensures { IsErrorWritten result told.old told.new buf.old buf.new h.old.sealed.desk
         h.new.sealed.desk }
 {
     let Some(mut desk) = h.take(alloc) else {
@@ -424,7 +431,7 @@ pub extern "C" fn ndf_next_error(
 /// A journal begins, and is empty; or none is kept any longer. What was kept before is freed.
 #[unsafe(no_mangle)]
 pub extern "C" fn ndf_journal(h: &mut Handle, alloc: Global, on: bool) -> u32
-    ensures { IsJournalKept result on h.old.sealed.desk h.new.sealed.desk }
+    ensures { IsJournalSwitched result on h.old.sealed.desk h.new.sealed.desk }
 {
     let Some(mut desk) = h.take(alloc) else {
         return Fault::Empty.code();
@@ -440,10 +447,10 @@ pub extern "C" fn ndf_entry(
     h: &mut Handle,
     alloc: Global,
     place: usize,
-    told: &mut ToldEntry,
+    told: &mut EntryRecord,
     buf: &mut [u8],
 ) -> u32
-    ensures { IsEntryTold result place told.old told.new buf.old buf.new h.old.sealed.desk
+    ensures { IsEntryWritten result place told.old told.new buf.old buf.new h.old.sealed.desk
         h.new.sealed.desk }
 {
     let Some(desk) = h.take(alloc) else {
@@ -461,10 +468,10 @@ pub extern "C" fn ndf_entry_event(
     alloc: Global,
     place: usize,
     within: usize,
-    told: &mut Told,
+    told: &mut EventRecord,
     buf: &mut [u8],
 ) -> u32
-    ensures { IsEntryEventTold result place within told.old told.new buf.old buf.new
+    ensures { IsEntryEventWritten result place within told.old told.new buf.old buf.new
         h.old.sealed.desk h.new.sealed.desk }
 {
     let Some(desk) = h.take(alloc) else {
@@ -482,10 +489,10 @@ pub extern "C" fn ndf_entry_error(
     alloc: Global,
     place: usize,
     within: usize,
-    told: &mut ToldError,
+    told: &mut ErrorRecord,
     buf: &mut [u8],
 ) -> u32
-    ensures { IsEntryErrorTold result place within told.old told.new buf.old buf.new
+    ensures { IsEntryErrorWritten result place within told.old told.new buf.old buf.new
         h.old.sealed.desk h.new.sealed.desk }
 {
     let Some(desk) = h.take(alloc) else {
@@ -499,7 +506,7 @@ pub extern "C" fn ndf_entry_error(
 /// Tells the counts.
 #[unsafe(no_mangle)]
 pub extern "C" fn ndf_counts(h: &mut Handle, alloc: Global, counts: &mut Counts) -> u32
-    ensures { AreCountsTold result counts.old counts.new h.old.sealed.desk h.new.sealed.desk }
+    ensures { AreCountsWritten result counts.old counts.new h.old.sealed.desk h.new.sealed.desk }
 {
     let Some(desk) = h.take(alloc) else {
         return Fault::Empty.code();

@@ -5,7 +5,7 @@ use lib.ListN.{get_elem?}
 use Rattle.atomic_table.specs.Table.{State, Me, Allows, Splits, Joins, keeps, takes, gives, opening, put_back, rest}
 use Rattle.atomic_table.proofs.Lists.{at_set, at_snoc, set_again}
 use Rattle.debounce_lock.specs.declared.hand.Hand.{Hand}
-use Rattle.debounce_lock.specs.History.{Begins, picked, opener, has, had_it, knower, righted, without, beside, MayGive}
+use Rattle.debounce_lock.specs.History.{Begins, picked, opener, has, had_it, knower, righted, without, compared_with, MayGive}
 use Rattle.debounce_lock.specs.Rights.{Right, Emits, Feeds}
 use Rattle.debounce_lock.specs.Rule.{Fits, IsKept, TakesIt, GivesIt, Learns}
 
@@ -68,7 +68,7 @@ module _ {E : Type 0} where
   none Feeds xs h = off h
 
   -- the right of the one beside it
-  had_beside : (right : Right) (v u : Hand E) → had_it right (beside v u) ≡ true → has right u ≡ true
+  had_beside : (right : Right) (v u : Hand E) → had_it right (compared_with v u) ≡ true → has right u ≡ true
   had_beside Emits v u h = h
   had_beside Feeds v u h = h
 
@@ -408,10 +408,10 @@ module _ {T E : Type 0} (leads : T → List E → List E → Type 0) (pick : Rig
 
   -- a pass that has the value is shown what another has seen
   pub joins : (id : ℕ) (v : Hand E) (other : ℕ) (u : Hand E) → v.holds ≡ true
-      → Joins Kept id v other u (beside v u) (knower [])
+      → Joins Kept id v other u (compared_with v u) (knower [])
   joins id v other u holds s h at two at' =
       let mine = h.fits id v at in
-      let both : Hand E = beside v u in
+      let both : Hand E = compared_with v u in
       let vs : List (Hand E) = set s.views id both in
       let was : get_elem? s.views other ≡ some u = ⊎_elim (λ x. absurd (two x.0)) (λ x. x.1)
       (at_set s.views id other both u at') in

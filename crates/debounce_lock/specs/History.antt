@@ -56,8 +56,8 @@ module _ {E : Type 0} where
   had_it Feeds v = v.fed
 
   -- this pass beside what another has seen, which has rights or doesn't
-  abbrev pub beside : Hand E → Hand E → Hand E
-  beside v u = record v { shown = u.seen; ended = u.tells; fed = u.feeds }
+  abbrev pub compared_with : Hand E → Hand E → Hand E
+  compared_with v u = record v { shown = u.seen; ended = u.tells; fed = u.feeds }
 
 module _ {T E : Type 0} where
   -- the pass took the value out: it has now seen the whole history, which leads to the value

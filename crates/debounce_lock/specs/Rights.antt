@@ -7,6 +7,6 @@ pub data Right : Type 0 where
   Feeds : Right
 
 -- what each right tells where one pass adds all: its right tells of each entry, the other of none
-abbrev pub told_by_one : {T : Type 0} → Right → T → Bool
-told_by_one Emits entry = true
-told_by_one Feeds entry = false
+abbrev pub reserved_for_one : {T : Type 0} → Right → T → Bool
+reserved_for_one Emits entry = true
+reserved_for_one Feeds entry = false

@@ -6,7 +6,7 @@ use atomic_table::Seat;
 use std::collections::LinkedList;
 
 /// A value with a history.
-pub trait Told<E> {
+pub trait HasHistory<E> {
     /// The history with which the value begins.
     ghost begins: { Self → List E };
 
@@ -15,7 +15,7 @@ pub trait Told<E> {
     ghost stands: { Self → List E → List E → Type 0 };
 
     /// Which entries the one pass alone may add that has this right.
-    ghost told: { Right → E → Bool };
+    ghost reserved: { Right → E → Bool };
 }
 
 /// How a history goes on when the value is put back: from the history and what was taken out, with the

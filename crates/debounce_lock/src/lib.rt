@@ -11,14 +11,14 @@ mod hand;
 mod lock;
 mod reports;
 mod rule;
-mod shown;
 mod slot;
 mod slot_thread;
+mod witness;
 
-pub use hand::{Change, Hand, Pass, Told, Unchanged};
+pub use hand::{Change, Hand, HasHistory, Pass, Unchanged};
 pub use lock::Lock;
 pub use reports::queue::{QueueRest, ReportQueue, report_queue};
 pub use reports::sender::ReportSender;
-pub use shown::Shown;
 pub use slot::{Filled, Filler, Held, Puts, Slot, empty_slot};
 pub use slot_thread::{SlotHandle, Unstarted, spawn_into_slot};
+pub use witness::Witness;

@@ -1,13 +1,13 @@
 //! A lock whose contract follows what it guards. The value lies in a slot, and a word says whether it is
 //! there: who takes the value out holds the lock.
 ghost use Rattle.std.specs.Prelude.{◌≡◌, [], true, IfOk};
-ghost use Rattle.debounce_lock.specs.History.{Begins, Gave, MayGive, Took, beside, has, opener, picked, righted, without};
+ghost use Rattle.debounce_lock.specs.History.{Begins, Gave, MayGive, Took, compared_with, has, opener, picked, righted, without};
 ghost use Rattle.debounce_lock.specs.Rights.{Emits, Feeds, Right};
 ghost use Rattle.debounce_lock.specs.Passes.{IsHolderOf, IsPassOf, view};
 
-use crate::hand::{Change, Hand, Pass, Told};
-use crate::rule::{Beside, Compares, Feeding, Gives, Law, Takes, Telling};
-use crate::shown::Shown;
+use crate::hand::{Change, Hand, HasHistory, Pass};
+use crate::rule::{Compares, Feeding, Gives, Joining, Law, Takes, Telling};
+use crate::witness::Witness;
 use atomic_table::Table;
 use std::alloc::{AllocError, Allocator};
 use std::sync::{Mutex, MutexGuard, Wait};
@@ -24,20 +24,20 @@ const OUT: u64 = 1;
 
 /// A lock. Threads share it, and each has a pass.
 #[derive(Drop)]
-pub struct Lock<T: Told<E>, E, A: Allocator> {
+pub struct Lock<T: HasHistory<E>, E, A: Allocator> {
     mutex: Mutex<()>,
-    table: Table<Option<T>, Hand<E>, Shown<T>, Law<T, E>, A>,
+    table: Table<Option<T>, Hand<E>, Witness<T>, Law<T, E>, A>,
     ghost single: { (table.shared.table_id.words ≡ 1) × (table.shared.table_id.slots ≡ 1) },
 }
 
-impl<T: Told<E> + Drop, E, A: Allocator + Copy> Lock<T, E, A> {
+impl<T: HasHistory<E> + Drop, E, A: Allocator + Copy> Lock<T, E, A> {
     /// Makes a lock over a value, with the history with which it begins, and the pass that has all rights.
     pub fn new(alloc: A, value: T) -> Result<(Lock<T, E, A>, Pass<T, E>), AllocError>
         requires { T.stands value [] (T.begins value) }
         ensures lock { IfOk result (λ r. IsPassOf r.0.table.shared.table_id r.1) }
         ensures begun { IfOk result (λ r. view r.1 ≡ opener (T.begins value)) }
     {
-        let about = Shown::of(&value);
+        let about = Witness::of(&value);
         let mut slots = Vec::with_capacity(alloc, 1)?;
         slots.push(Some(value))?;
         match Table::new(alloc, &[IN], slots, &about) {
@@ -53,14 +53,14 @@ impl<T: Told<E> + Drop, E, A: Allocator + Copy> Lock<T, E, A> {
     }
 }
 
-impl<T: Told<E> + Drop, E, A: Allocator> Lock<T, E, A> {
+impl<T: HasHistory<E> + Drop, E, A: Allocator> Lock<T, E, A> {
     /// Takes the value out. The mutex makes threads wait, and the table says what the value's history is.
     /// Whoever has the mutex finds the value in its place at once, which the proof doesn't know: hence the
     /// loop.
     pub fn take<'a, R: Wait>(&'a self, rt: &R, pass: &mut Pass<T, E>) -> (MutexGuard<'a, ()>, T)
         requires { IsPassOf self.now.table.shared.table_id pass.old }
         ensures lock { IsHolderOf self.now.table.shared.table_id pass.new }
-        ensures took { Took T.stands T.told (view pass.old) result.1 (view pass.new) }
+        ensures took { Took T.stands T.reserved (view pass.old) result.1 (view pass.new) }
     {
         let guard = self.mutex.lock(rt);
         for _ in rt.forever() {
@@ -76,7 +76,7 @@ impl<T: Told<E> + Drop, E, A: Allocator> Lock<T, E, A> {
     /// Puts the value back, and lets the mutex go.
     pub fn give<M: Change<T, E>>(&self, guard: MutexGuard<'_, ()>, pass: &mut Pass<T, E>, value: T)
         requires lock { IsHolderOf self.now.table.shared.table_id pass.old }
-        requires may { MayGive T.stands T.told M.makes (view pass.old) value }
+        requires may { MayGive T.stands T.reserved M.makes (view pass.old) value }
         ensures lock { IsPassOf self.now.table.shared.table_id pass.new }
         ensures gave { Gave T.stands M.makes (view pass.old) value (view pass.new) }
     {
@@ -119,13 +119,13 @@ impl<T: Told<E> + Drop, E, A: Allocator> Lock<T, E, A> {
             × IsPassOf self.now.table.shared.table_id other }
         requires holds { (view pass.old).holds ≡ true }
         ensures lock { IsHolderOf self.now.table.shared.table_id pass.new }
-        ensures same { view pass.new ≡ beside (view pass.old) (view other) }
+        ensures same { view pass.new ≡ compared_with (view pass.old) (view other) }
         ensures begins { Begins (view other).seen (view pass.old).seen }
         ensures told { (right : Right) → has right (view other) ≡ true
-            → picked (T.told right) (view other).seen
-            ≡ picked (T.told right) (view pass.old).seen }
+            → picked (T.reserved right) (view other).seen
+            ≡ picked (T.reserved right) (view pass.old).seen }
     {
-        self.table.shared.join_seat::<Beside>(pass, other);
+        self.table.shared.join_seat::<Joining>(pass, other);
         self.table.shared.load::<Compares>(pass, PLACE);
     }
 }

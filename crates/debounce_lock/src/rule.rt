@@ -1,6 +1,6 @@
 //! The rule of a lock, and what each step on its table makes of a pass. These types are for the proofs alone.
-use crate::hand::{Change, Hand, Told};
-use crate::shown::Shown;
+use crate::hand::{Change, Hand, HasHistory};
+use crate::witness::Witness;
 use atomic_table::{Join, Play, Split, TableRule};
 use std::marker::PhantomData;
 
@@ -9,11 +9,11 @@ pub struct Law<T, E> {
     of: PhantomData<(T, E)>,
 }
 
-impl<T: Told<E>, E> TableRule<Option<T>, Hand<E>, Shown<T>> for Law<T, E> {
+impl<T: HasHistory<E>, E> TableRule<Option<T>, Hand<E>, Witness<T>> for Law<T, E> {
     ghost use Rattle.debounce_lock.specs.History.{opener};
     ghost use Rattle.debounce_lock.specs.Rule.{IsKept};
 
-    ghost holds = { λ _. IsKept T.stands T.told };
+    ghost holds = { λ _. IsKept T.stands T.reserved };
 
     ghost first = { λ x. opener (T.begins x.value) };
 }
@@ -43,13 +43,13 @@ impl<E> Split<Hand<E>> for Feeding {
 }
 
 /// A pass is joined by what another has seen.
-pub struct Beside;
+pub struct Joining;
 
-impl<E> Join<Hand<E>> for Beside {
+impl<E> Join<Hand<E>> for Joining {
     ghost use Rattle.std.specs.Prelude.{[]};
-    ghost use Rattle.debounce_lock.specs.History.{beside, knower};
+    ghost use Rattle.debounce_lock.specs.History.{compared_with, knower};
 
-    ghost both = { λ v u. beside v u };
+    ghost both = { λ v u. compared_with v u };
 
     ghost spent = { knower [] };
 }
@@ -57,10 +57,10 @@ impl<E> Join<Hand<E>> for Beside {
 /// A pass takes the value, if it is there.
 pub struct Takes;
 
-impl<T: Told<E>, E> Play<Option<T>, Hand<E>> for Takes {
+impl<T: HasHistory<E>, E> Play<Option<T>, Hand<E>> for Takes {
     ghost use Rattle.debounce_lock.specs.Rule.{TakesIt};
 
-    ghost then = { λ _ me found now. TakesIt T.stands T.told me found now };
+    ghost then = { λ _ me found now. TakesIt T.stands T.reserved me found now };
 }
 
 /// A pass puts the value back.
@@ -68,7 +68,7 @@ pub struct Gives<M> {
     of: PhantomData<M>,
 }
 
-impl<T: Told<E>, E, M: Change<T, E>> Play<Option<T>, Hand<E>> for Gives<M> {
+impl<T: HasHistory<E>, E, M: Change<T, E>> Play<Option<T>, Hand<E>> for Gives<M> {
     ghost use Rattle.debounce_lock.specs.Rule.{GivesIt};
 
     ghost then = { λ _ me _ now. GivesIt T.stands M.makes me now };
@@ -77,8 +77,8 @@ impl<T: Told<E>, E, M: Change<T, E>> Play<Option<T>, Hand<E>> for Gives<M> {
 /// A pass that has the value learns of what another has seen.
 pub struct Compares;
 
-impl<T: Told<E>, E> Play<Option<T>, Hand<E>> for Compares {
+impl<T: HasHistory<E>, E> Play<Option<T>, Hand<E>> for Compares {
     ghost use Rattle.debounce_lock.specs.Rule.{Learns};
 
-    ghost then = { λ _ me _ now. Learns T.told me now };
+    ghost then = { λ _ me _ now. Learns T.reserved me now };
 }

@@ -8,9 +8,9 @@
 //! ```
 ghost use Rattle.std.specs.Prelude.{◌≡◌, IfOk};
 
-use crate::hand::{Change, Pass, Told};
+use crate::hand::{Change, HasHistory, Pass};
 use crate::lock::Lock;
-use crate::shown::Shown;
+use crate::witness::Witness;
 use std::alloc::{AllocError, Allocator, Global};
 use std::marker::Model;
 use std::sync::{Arc, Wait};
@@ -22,16 +22,16 @@ pub struct Held<T> {
 }
 
 /// The history of a slot is what was put into it.
-impl<T> Told<T> for Held<T> {
+impl<T> HasHistory<T> for Held<T> {
     ghost use Rattle.std.specs.Prelude.{[]};
-    ghost use Rattle.debounce_lock.specs.Rights.{told_by_one};
+    ghost use Rattle.debounce_lock.specs.Rights.{reserved_for_one};
     ghost use Rattle.debounce_lock.specs.Slot.{IsHeld};
 
     ghost begins = { λ _. [] };
 
     ghost stands = { λ h out log. IsHeld h.value out log };
 
-    ghost told = { told_by_one };
+    ghost reserved = { reserved_for_one };
 }
 
 /// The history goes on by what lies in the slot now.
@@ -71,7 +71,7 @@ impl<T: Drop, A: Allocator> Model for Filler<T, A> {
 #[derive(Drop)]
 pub struct Filled<T> {
     pass: Pass<Held<T>, T>,
-    value: Shown<T>,
+    value: Witness<T>,
 }
 
 impl<T> Model for Filled<T> {
@@ -135,7 +135,7 @@ impl<T: Drop, A: Allocator> Filler<T, A> {
         ensures { (result.slot ≡ self) × (result.value ≡ value) }
     {
         let Filler { lock, mut pass } = self;
-        let shown = Shown::of(&value);
+        let shown = Witness::of(&value);
         let (guard, _empty) = lock.take(rt, &mut pass);
         lock.give::<Puts>(guard, &mut pass, Held { value: Some(value) });
         Filled { pass, value: shown }

@@ -14,17 +14,17 @@ ghost use Rattle.debounce_book.specs.Journal.{IsJournal, IsLegal, IsPart};
 ghost use Rattle.debounce_book.specs.JournalLaws.{LosesNoChange, GivesRawPaths, InventsNoRename};
 ghost use Rattle.debounce_run.specs.Access.Adds.{Adds, AddsTick, CommandMakes, GainsFed, GainsOne, GainsTick};
 ghost use Rattle.debounce_run.specs.Access.Happened.{History, Missed, accepted, entries_of, is_emitting, is_fed, journal_of};
-ghost use Rattle.debounce_run.specs.Access.Stands.{GoesOn, HasAllEmitted, IsFresh, Lasts, StaysButFeeds, StaysButTells, ToldJournal, feeds_of, opening, seen_by, tells_of};
+ghost use Rattle.debounce_run.specs.Access.Stands.{GoesOn, HasAllEmitted, IsFresh, Lasts, StaysButFeeds, StaysButTells, IsCompleteJournal, feeds_of, opening, known_history, tells_of};
 ghost use Rattle.debounce_run.specs.Turns.Ended.{IsHistory};
 
+pub mod last_step;
 pub mod locked;
-pub mod made;
 
+use crate::access::last_step::LastStep;
 use crate::access::locked::{BookLock, BookPass, Goes, Locked, TakesOut};
-use crate::access::made::Made;
 use debounce_book::{Book, Entry, Ticked, feed_step, root_step, tick_step, unroot_step};
 use debounce_cache::FileIdCache;
-use debounce_lock::{Lock, Shown, Unchanged};
+use debounce_lock::{Lock, Unchanged, Witness};
 use notify_paths::{Error, PathBuf};
 use notify_types::{DebouncedEvent, Event, Moment, RecursiveMode};
 use std::alloc::{AllocError, Allocator};
@@ -49,13 +49,13 @@ impl<C: FileIdCache<A> + Drop, A: Allocator> Drop for Access<C, A> {
 impl<C: FileIdCache<A> + Drop, A: Allocator> Model for Access<C, A> {
     ghost use Rattle.std.specs.Arc.{arc_value};
     ghost use Rattle.debounce_lock.specs.Passes.{IsPassOf};
-    ghost use Rattle.debounce_run.specs.Access.Stands.{Reach, feeds_of, keeps_of, seen_by, taken_by, tells_of};
+    ghost use Rattle.debounce_run.specs.Access.Stands.{Reach, feeds_of, keeps_of, known_history, taken_by, tells_of};
 
     ghost Value = { Reach };
 
     ghost view = { λ a. record {
       lock = a.pass.table_id;
-      seen = seen_by a.pass;
+      seen = known_history a.pass;
       out = taken_by a.pass;
       keeps = keeps_of a.pass;
       tells = tells_of a.pass;
@@ -75,7 +75,7 @@ impl<C: FileIdCache<A> + Drop, A: Allocator + Copy> Access<C, A> {
         let held = Locked {
             book: Box::new(alloc, book)?,
             missed: 0,
-            made: Shown::of(&Made::Nothing),
+            made: Witness::of(&LastStep::Nothing),
         };
         let (lock, pass) = Lock::new(alloc, held)?;
         let lock = Arc::new(alloc, lock)?;
@@ -112,7 +112,7 @@ impl<C: FileIdCache<A> + Drop, A: Allocator> Access<C, A> {
     pub fn into_pass(self) -> BookPass<C, A>
         ensures lock { result.table_id ≡ self.lock }
         ensures free { result.me.1 ≡ [] }
-        ensures same { (seen_by result ≡ self.seen) × (tells_of result ≡ self.tells)
+        ensures same { (known_history result ≡ self.seen) × (tells_of result ≡ self.tells)
             × (feeds_of result ≡ self.feeds) }
     {
         let Access { lock: _, pass } = self;
@@ -128,7 +128,7 @@ impl<C: FileIdCache<A> + Drop, A: Allocator> Access<C, A> {
         let Access { lock, pass } = self;
         let (guard, mut held) = lock.take(rt, pass);
         held.missed = held.missed.saturating_add(1);
-        held.made = Shown::of(&Made::Missed);
+        held.made = Witness::of(&LastStep::Missed);
         lock.give::<Goes>(guard, pass, held);
     }
 }
@@ -150,10 +150,10 @@ impl<C: FileIdCache<A> + Drop, A: Allocator + Copy> Access<C, A> {
     {
         let Access { lock, pass } = self;
         let (guard, mut held) = lock.take(rt, pass);
-        let fed = Shown::of(&item);
+        let fed = Witness::of(&item);
         let answer = feed_step(&mut held.book, item, now, exists);
-        let made = Made::Fed(fed, now, exists, Shown::of(&answer));
-        held.made = Shown::of(&made);
+        let made = LastStep::Fed(fed, now, exists, Witness::of(&answer));
+        held.made = Witness::of(&made);
         lock.give::<Goes>(guard, pass, held);
         answer
     }
@@ -170,8 +170,8 @@ impl<C: FileIdCache<A> + Drop, A: Allocator + Copy> Access<C, A> {
         let Access { lock, pass } = self;
         let (guard, mut held) = lock.take(rt, pass);
         let ticked = tick_step(&mut held.book, now);
-        let made = Made::Ticked(now, Shown::of(&ticked));
-        held.made = Shown::of(&made);
+        let made = LastStep::Ticked(now, Witness::of(&ticked));
+        held.made = Witness::of(&made);
         lock.give::<Goes>(guard, pass, held);
         ticked
     }
@@ -191,8 +191,8 @@ impl<C: FileIdCache<A> + Drop, A: Allocator + Copy> Access<C, A> {
         let Access { lock, pass } = self;
         let (guard, mut held) = lock.take(rt, pass);
         let answer = root_step(&mut held.book, path, mode);
-        let made = Made::Rooted(Shown::of(path), mode, Shown::of(&answer));
-        held.made = Shown::of(&made);
+        let made = LastStep::Rooted(Witness::of(path), mode, Witness::of(&answer));
+        held.made = Witness::of(&made);
         lock.give::<Goes>(guard, pass, held);
         answer
     }
@@ -207,8 +207,8 @@ impl<C: FileIdCache<A> + Drop, A: Allocator + Copy> Access<C, A> {
         let Access { lock, pass } = self;
         let (guard, mut held) = lock.take(rt, pass);
         let answer = unroot_step(&mut held.book, path);
-        let made = Made::Unrooted(Shown::of(path), Shown::of(&answer));
-        held.made = Shown::of(&made);
+        let made = LastStep::Unrooted(Witness::of(path), Witness::of(&answer));
+        held.made = Witness::of(&made);
         lock.give::<Goes>(guard, pass, held);
         answer
     }
@@ -257,7 +257,7 @@ impl<C: FileIdCache<A> + Drop, A: Allocator + Copy> Access<C, A> {
         requires tells { tells_of teller ≡ true }
         ensures left { self.old.keeps ≡ true → self.old.out ≡ [] →
             IfOk result (λ r.
-            ToldJournal C.rules self.old.seen (seen_by teller) r.0 r.1.items) }
+            IsCompleteJournal C.rules self.old.seen (known_history teller) r.0 r.1.items) }
         ensures legal { IfOk result (λ r. IsJournal r.0 r.1.items) }
         ensures kept { IfOk result (λ r. LosesNoChange r.0 r.1.items) }
         ensures raw { IfOk result (λ r. GivesRawPaths r.0 r.1.items) }
@@ -286,8 +286,8 @@ impl<C: FileIdCache<A> + Drop, A: Allocator + Copy> Access<C, A> {
         requires tells { tells_of worker ≡ true }
         requires feeds { feeds_of feed ≡ true }
         ensures history { (log : History)
-            × IsHistory C.rules self.seen (seen_by feed) (entries_of self.out) result.0 result.1 log
-            × HasAllEmitted (seen_by worker) log }
+            × IsHistory C.rules self.seen (known_history feed) (entries_of self.out) result.0
+            result.1 log × HasAllEmitted (known_history worker) log }
     {
         let Access { lock, mut pass } = self;
         let lock = wait_for_last(rt, lock);

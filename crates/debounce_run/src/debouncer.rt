@@ -99,9 +99,9 @@ impl<
     ghost use Rattle.std.specs.Prelude.{◌≡◌, true};
     ghost use Rattle.debounce_run.specs.Access.Happened.{entries_of, is_nil};
     ghost use Rattle.debounce_run.specs.Turns.Ended.{StaysOfLock};
-    ghost use Rattle.debounce_run.specs.Turns.Running.{Shown};
+    ghost use Rattle.debounce_run.specs.Turns.Running.{RunningValue};
 
-    ghost Value = { Shown T L };
+    ghost Value = { RunningValue T L };
 
     ghost view = { λ d. record {
       watcher = d.watcher;

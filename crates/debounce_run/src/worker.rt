@@ -4,7 +4,7 @@ ghost use Rattle.notify_paths.specs.Errors.{out_of_memory};
 ghost use Rattle.notify_watch.specs.Config.{not_started};
 ghost use Rattle.debounce_lock.specs.History.{picked};
 ghost use Rattle.debounce_run.specs.Access.Happened.{is_emitting};
-ghost use Rattle.debounce_run.specs.Access.Stands.{StaysButTells, seen_by, tells_of};
+ghost use Rattle.debounce_run.specs.Access.Stands.{StaysButTells, known_history, tells_of};
 ghost use Rattle.debounce_run.specs.Turns.Handed.{Handed, LeavesAll};
 
 use crate::access::Access;
@@ -36,11 +36,11 @@ impl<C: FileIdCache<A> + Drop, L: ReturnedHandler, A: Allocator> Promise<(BookPa
     ghost use Rattle.std.specs.Prelude.{◌≡◌, true, []};
     ghost use Rattle.debounce_lock.specs.History.{picked};
     ghost use Rattle.debounce_run.specs.Access.Happened.{is_emitting};
-    ghost use Rattle.debounce_run.specs.Access.Stands.{seen_by, tells_of};
+    ghost use Rattle.debounce_run.specs.Access.Stands.{known_history, tells_of};
 
     ghost kept_by = { λ p r. (r.0.table_id ≡ p.access.value.lock) × (r.0.me.1 ≡ [])
         × (tells_of r.0 ≡ true)
-        × L.emitted p.began.value r.1 (picked is_emitting (seen_by r.0)) };
+        × L.emitted p.began.value r.1 (picked is_emitting (known_history r.0)) };
 }
 
 /// The debouncer's own thread, which ends with the pass by which it emitted and what comes back of the handler.
@@ -113,7 +113,7 @@ fn spawned<
         ensures pass { (result.0.table_id ≡ access.lock) × (result.0.me.1 ≡ [])
             × (tells_of result.0 ≡ true) }
         ensures told { (last : H)
-            × Handed H.handles handler (picked is_emitting (seen_by result.0)) last
+            × Handed H.handles handler (picked is_emitting (known_history result.0)) last
             × E.ends last result.1 }
     {
         let (pass, left, _clock) = turns::<H, E, L, C, R, A>(

@@ -9,7 +9,7 @@ use crate::NAME;
 use crate::documents::Documents;
 use notify_debouncer_full::{DebounceEventResult, DebouncedEvent, DebouncerRuntime};
 use program_frame::{Fault, write_errors, write_missed, write_watching};
-use program_logic::words::{KeptIndex, asks_anew};
+use program_logic::words::{FollowingIndex, asks_anew};
 use program_reports::FolderReports;
 use std::alloc::Global;
 use std::io::Write;
@@ -19,7 +19,7 @@ use std::time::Duration;
 #[derive(Drop)]
 pub(crate) struct Indexer<R: Drop, E: Drop> {
     pub(crate) documents: Documents<R>,
-    pub(crate) kept: KeptIndex,
+    pub(crate) kept: FollowingIndex,
     pub(crate) err: E,
 }
 
@@ -30,7 +30,7 @@ impl<R: DebouncerRuntime + AllocGlobal, E: Write + Drop> Indexer<R, E> {
     {
         Indexer {
             documents,
-            kept: KeptIndex::new(alloc),
+            kept: FollowingIndex::new(alloc),
             err,
         }
     }

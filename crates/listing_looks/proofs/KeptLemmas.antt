@@ -24,7 +24,7 @@ use Rattle.poll_listing.proofs.ParentLemmas.{all_from, each_there}
 use Rattle.poll_listing.proofs.PrefixLemmas.{prefix-trans}
 use Rattle.poll_listing.proofs.UpdateLemmas.{Ascends}
 use Rattle.poll_listing.proofs.WalkLemmas.{has_entry-some}
-use Rattle.listing_looks.specs.Looks.{IsLooker, LookerValue, Says, has_place, is_lost, kept_in, said, said_of, within}
+use Rattle.listing_looks.specs.Looks.{IsLooker, LookerValue, Says, has_place, is_lost, restored_in, said, said_of, within}
 use Rattle.listing_looks.proofs.SaidLemmas.{found_outside, lost-push, outside-finds, outside-sorted, place-folders, said-finds, said-sorted, said_at}
 
 -- what is known at and below a path
@@ -45,7 +45,7 @@ within-sorted es p s = sorted-filter path_cmp_total (λ e. is_prefix p e.0) es s
 
 -- what is known stands at and below the path, and elsewhere what stands there
 kept-finds : (es : ListingValue) (p : PathValue) (known : ListingValue) → Ascends known → (q : PathValue) →
-    entry_at (kept_in es p known) q ≡ (if is_prefix p q then entry_at known q else entry_at es q)
+    entry_at (restored_in es p known) q ≡ (if is_prefix p q then entry_at known q else entry_at es q)
 kept-finds es p known s q =
     merged (outside es p) (within known p) (within-sorted known p s) q
     ∙ (ap (λ o. option_or o (entry_at (outside es p) q)) (within-finds known p q)
@@ -60,9 +60,9 @@ kept-finds es p known s q =
 
 -- .. and is there
 kept-has : (es : ListingValue) (p : PathValue) (known : ListingValue) → Ascends known → (q : PathValue) →
-    has_entry (kept_in es p known) q ≡ (if is_prefix p q then has_entry known q else has_entry es q)
+    has_entry (restored_in es p known) q ≡ (if is_prefix p q then has_entry known q else has_entry es q)
 kept-has es p known s q =
-    has_entry-some (kept_in es p known) q
+    has_entry-some (restored_in es p known) q
     ∙ (ap is_some (kept-finds es p known s q)
     ∙ (by (is_prefix p q) (entry_at known q) (entry_at es q)
     ∙ (ap (λ k. if is_prefix p q then k else is_some (entry_at es q)) (sym (has_entry-some known q))
@@ -75,10 +75,10 @@ kept-has es p known s q =
 -- where nothing that was said of a path counts, what is known stands at and below it
 pub kept_said : (known : ListingValue) (lost : List (PathValue × Bool)) (found : ListingValue) (p : PathValue) →
     Ascends known → Ascends found →
-    said_of known (lost ++ (p, false) ∷ []) (found_outside found p) ≡ kept_in (said_of known lost found) p known
+    said_of known (lost ++ (p, false) ∷ []) (found_outside found p) ≡ restored_in (said_of known lost found) p known
 kept_said known lost found p k s =
     same_entries path_cmp_total same_path (said_of known (lost ++ (p, false) ∷ []) (found_outside found p))
-    (kept_in (said_of known lost found) p known)
+    (restored_in (said_of known lost found) p known)
     (said-sorted known (lost ++ (p, false) ∷ []) (found_outside found p) k)
     (sorted_over (outside (said_of known lost found) p) (within known p)
     (outside-sorted (said_of known lost found) p (said-sorted known lost found k)))
@@ -117,16 +117,16 @@ module _ (es : ListingValue) (p : PathValue) (known : ListingValue) (law : IsLis
     (place : has_place es p ≡ true) where
   -- the folders of a path that is known at or below the place
   folders-known : (q : PathValue) → is_prefix p q ≡ true → has_entry known q ≡ true →
-      has_folders (keys_of (kept_in es p known)) q ≡ true
+      has_folders (keys_of (restored_in es p known)) q ≡ true
   folders-known q i h =
-      all_above (has_path (keys_of (kept_in es p known))) q
+      all_above (has_path (keys_of (restored_in es p known))) q
       (λ f x s n e. by f x s n e (is_prefix p f) refl)
     where
       folders : has_folders (keys_of known) q ≡ true
       folders = each_there (has_folders (keys_of known)) (keys_of known) there.closed q h
 
       by : (f : PathValue) (x : PartValue) (s : PathValue) → is_nonempty f ≡ true → q ≡ f ++ x ∷ s →
-          (b : Bool) → is_prefix p f ≡ b → has_entry (kept_in es p known) f ≡ true
+          (b : Bool) → is_prefix p f ≡ b → has_entry (restored_in es p known) f ≡ true
       by f x s n e true k =
           kept-has es p known there.ordered f
           ∙ (ap (λ b. if b then has_entry known f else has_entry es f) k
@@ -140,9 +140,9 @@ module _ (es : ListingValue) (p : PathValue) (known : ListingValue) (law : IsLis
 
   -- .. and of one elsewhere
   folders-elsewhere : (q : PathValue) → is_prefix p q ≡ false → has_entry es q ≡ true →
-      has_folders (keys_of (kept_in es p known)) q ≡ true
+      has_folders (keys_of (restored_in es p known)) q ≡ true
   folders-elsewhere q i h =
-      all_above (has_path (keys_of (kept_in es p known))) q
+      all_above (has_path (keys_of (restored_in es p known))) q
       (λ f x s n e.
       kept-has es p known there.ordered f
       ∙ (ap (λ b. if b then has_entry known f else has_entry es f) (out f x s e (is_prefix p f) refl)
@@ -162,24 +162,25 @@ module _ (es : ListingValue) (p : PathValue) (known : ListingValue) (law : IsLis
   each_kept : (t : PathValue → Bool) →
       ((q : PathValue) → is_prefix p q ≡ true → has_entry known q ≡ true → t q ≡ true) →
       ((q : PathValue) → is_prefix p q ≡ false → has_entry es q ≡ true → t q ≡ true) →
-      list_all t (keys_of (kept_in es p known)) ≡ true
+      list_all t (keys_of (restored_in es p known)) ≡ true
   each_kept t inside elsewhere =
-      all_from (has_path (keys_of (kept_in es p known))) t
+      all_from (has_path (keys_of (restored_in es p known))) t
       (λ q h. by q (is_prefix p q) refl (sym (kept-has es p known there.ordered q) ∙ h))
-      (keys_of (kept_in es p known))
-      (all-passes (has_path (keys_of (kept_in es p known))) (kept_in es p known) (each-there (kept_in es p known)))
+      (keys_of (restored_in es p known))
+      (all-passes (has_path (keys_of (restored_in es p known))) (restored_in es p known)
+      (each-there (restored_in es p known)))
     where
       by : (q : PathValue) (b : Bool) → is_prefix p q ≡ b →
           (if b then has_entry known q else has_entry es q) ≡ true → t q ≡ true
       by q true i h = inside q i h
       by q false i h = elsewhere q i h
 
-  pub kept_listing : IsListing (kept_in es p known)
+  pub kept_listing : IsListing (restored_in es p known)
   kept_listing = record {
     ordered = sorted_over (outside es p) (within known p) (outside-sorted es p law.ordered);
     nonempty = each_kept is_nonempty (λ q i. each_there is_nonempty (keys_of known) there.nonempty q)
         (λ q i. each_there is_nonempty (keys_of es) law.nonempty q);
-    closed = each_kept (has_folders (keys_of (kept_in es p known))) folders-known folders-elsewhere;
+    closed = each_kept (has_folders (keys_of (restored_in es p known))) folders-known folders-elsewhere;
   }
 
 -- where what was said of a place doesn't count, a looker says so
@@ -187,9 +188,9 @@ pub kept_looker : (l : LookerValue) → IsLooker l → (p : PathValue) (lost : L
     (found : ListingValue) → has_place (said l) p ≡ true → lost ≡ l.lost ++ (p, false) ∷ [] →
     found ≡ found_outside l.found p →
     IsLooker (record l { lost = lost; found = found })
-    × (said (record l { lost = lost; found = found }) ≡ kept_in (said l) p l.known)
+    × (said (record l { lost = lost; found = found }) ≡ restored_in (said l) p l.known)
 kept_looker l law p lost found place stays left =
-    let is : said (record l { lost = lost; found = found }) ≡ kept_in (said l) p l.known =
+    let is : said (record l { lost = lost; found = found }) ≡ restored_in (said l) p l.known =
     ap (λ ps. said_of l.known ps found) stays ∙ (ap (said_of l.known (l.lost ++ (p, false) ∷ [])) left
     ∙ kept_said l.known l.lost l.found p law.known.ordered law.found) in (
       record {
@@ -205,7 +206,7 @@ kept_looker l law p lost found place stays left =
 pub kept_says : (l old : LookerValue) → IsLooker l → l ≡ old → (p : PathValue) (lost : List (PathValue × Bool))
     (found : ListingValue) → has_place (said l) p ≡ true → lost ≡ l.lost ++ (p, false) ∷ [] →
     found ≡ found_outside l.found p →
-    Says old (kept_in (said old) p old.known) (record l { lost = lost; found = found })
+    Says old (restored_in (said old) p old.known) (record l { lost = lost; found = found })
 kept_says l old law is p lost found place stays left =
-    subst (λ v. Says v (kept_in (said v) p v.known) (record l { lost = lost; found = found })) is
+    subst (λ v. Says v (restored_in (said v) p v.known) (record l { lost = lost; found = found })) is
     (record { said = (kept_looker l law p lost found place stays left).1; rest = refl })

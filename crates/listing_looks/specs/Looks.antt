@@ -9,7 +9,7 @@ use Rattle.notify_types.specs.Event.{EventValue}
 use Rattle.poll_listing.specs.Changes.{is_of_kind}
 use Rattle.poll_listing.specs.Listing.{IsListing, ListingValue, entry_at, is_nonempty, is_same_kind}
 use Rattle.poll_listing.specs.MergedListings.{put_over}
-use Rattle.poll_listing.specs.Moves.{told_changes, trackers_after}
+use Rattle.poll_listing.specs.Moves.{reported_changes, trackers_after}
 use Rattle.poll_listing.specs.Near.{outside}
 use Rattle.poll_listing.specs.declared.entry.EntryKind.TheVariants.{File}
 use Rattle.poll_listing.specs.declared.entry.Found.{Found}
@@ -79,8 +79,8 @@ abbrev pub within : ListingValue → PathValue → ListingValue
 within entries path = filter (λ entry. is_prefix path entry.0) entries
 
 -- the listing once at and below the path there stands what is known there, and nothing else
-abbrev pub kept_in : ListingValue → PathValue → ListingValue → ListingValue
-kept_in listing path known = put_over (outside listing path) (within known path)
+abbrev pub restored_in : ListingValue → PathValue → ListingValue → ListingValue
+restored_in listing path known = put_over (outside listing path) (within known path)
 
 -- only what was said in the look has changed: it says this listing now
 pub record Says (old : LookerValue) (listing : ListingValue) (new : LookerValue) : Type 0 where
@@ -106,16 +106,16 @@ abbrev pub unsaid : LookerValue → LookerValue
 unsaid l = record l { lost = []; found = [] }
 
 -- the look has ended, and nothing is told of it
-abbrev pub ended_untold : LookerValue → LookerValue
-ended_untold l = record (unsaid l) { known = said l; begun = true }
+abbrev pub ended_silently : LookerValue → LookerValue
+ended_silently l = record (unsaid l) { known = said l; begun = true }
 
 -- what a look that ends now tells
 abbrev pub news : LookerValue → List EventValue
-news l = told_changes l.trackers l.known (said l)
+news l = reported_changes l.trackers l.known (said l)
 
 -- the look has ended: what it tells is to be handed on
 abbrev pub ended : LookerValue → LookerValue
-ended l = record (ended_untold l) {
+ended l = record (ended_silently l) {
   trackers = trackers_after l.trackers (length (news l));
   told = news l;
   handed = 0;

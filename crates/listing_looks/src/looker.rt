@@ -9,7 +9,7 @@ ghost use Rattle.poll_listing.specs.Changes.{LeadsTo};
 ghost use Rattle.poll_listing.specs.Listing.{IsListing, entry_at};
 ghost use Rattle.poll_listing.specs.Near.{outside};
 ghost use Rattle.poll_listing.specs.declared.entry.Found.{Found};
-ghost use Rattle.listing_looks.specs.Looks.{IsLooker, Says, ended, ended_untold, found_in, has_place, is_of_other_kind, kept_in, may_hold, new_looker, news, said, unmeasured, unsaid, written_in};
+ghost use Rattle.listing_looks.specs.Looks.{IsLooker, Says, ended, ended_silently, found_in, has_place, is_of_other_kind, restored_in, may_hold, new_looker, news, said, unmeasured, unsaid, written_in};
 
 use crate::said::{is_lost, said_updates};
 use notify_paths::{Error, PathBuf};
@@ -194,7 +194,7 @@ impl<A: Allocator + Copy> Looker<A> {
     pub fn keep(&mut self, path: &PathBuf<A>) -> Result<(), Error<A>>
         requires { has_place (said self.old) path.now ≡ true }
         ensures ok { OnOk result
-            (Says self.old (kept_in (said self.old) path.now self.old.known) self.new) }
+            (Says self.old (restored_in (said self.old) path.now self.old.known) self.new) }
         ensures unchanged { OnErr result (self.new ≡ self.old) }
         ensures err { IfErr result (λ e. e ≡ out_of_memory) }
     {
@@ -259,8 +259,8 @@ impl<A: Allocator + Copy> Looker<A> {
     }
 
     /// The first look ends: what was said is known, and nothing is told of it.
-    pub fn end_untold(&mut self) -> Result<(), Error<A>>
-        ensures ok { OnOk result (self.new ≡ ended_untold self.old) }
+    pub fn end_silently(&mut self) -> Result<(), Error<A>>
+        ensures ok { OnOk result (self.new ≡ ended_silently self.old) }
         ensures law { OnOk result (IsListing (said self.old)) }
         ensures unchanged { OnErr result (self.new ≡ self.old) }
         ensures err { IfErr result (λ e. e ≡ out_of_memory) }

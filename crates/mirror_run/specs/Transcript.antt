@@ -10,7 +10,7 @@ use Rattle.debounce_model.specs.Run.{Run}
 use Rattle.debounce_model.specs.State.{State, Core, counted_state, waiting}
 use Rattle.debounce_model.specs.Tick.{IsOutlook}
 use Rattle.reader_paths.specs.Played.{with_paths, reader_paths}
-use Rattle.reader_paths.specs.Clock.{clock_kept}
+use Rattle.reader_paths.specs.Clock.{moments_never_fall}
 use Rattle.reader_paths.specs.Stream.{is_honest}
 use Rattle.mirror_run.specs.Script.{ScriptValue, Reads, script_of}
 use Rattle.mirror_run.specs.declared.script.fault.Fault.{Fault}
@@ -48,7 +48,7 @@ abbrev pub check_lines : Report → PlayedValue → List ℕ
 check_lines Plain p = []
 check_lines Check p =
     answer_line (codes "honest") (is_honest p.start p.commands p.replies)
-    ++ answer_line (codes "clock") (clock_kept p.commands p.replies)
+    ++ answer_line (codes "clock") (moments_never_fall p.commands p.replies)
 
 -- what a run prints after the replies
 abbrev pub ending_lines : Report → PlayedValue → List ℕ

@@ -24,5 +24,5 @@ pub use crate::script::Fault;
 pub use form::{Form, usage_ok};
 pub use output::{write_full, write_last};
 pub use print::{push_error_lines, push_events};
-pub use reader_paths::{PathSet, clock_kept, is_honest};
+pub use reader_paths::{PathSet, is_honest, moments_never_fall};
 pub use run::{check_run, end_run, script_run};

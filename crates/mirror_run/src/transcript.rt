@@ -14,7 +14,7 @@ use debounce_cache::NoCache;
 use debounce_core::DebounceDataInner;
 use debounce_model::{Command, Reply};
 use notify_types::DebouncedEvent;
-use reader_paths::{PathSet, clock_kept, is_honest};
+use reader_paths::{PathSet, is_honest, moments_never_fall};
 use std::alloc::Allocator;
 use std::io::Write;
 
@@ -163,6 +163,6 @@ fn push_checks<A: Allocator + Copy>(
     }
     let honest = is_honest(played.start, played.commands, played.replies)?;
     push_answer(text, "honest", honest)?;
-    let kept = clock_kept(played.commands, played.replies);
+    let kept = moments_never_fall(played.commands, played.replies);
     Ok(push_answer(text, "clock", kept)?)
 }

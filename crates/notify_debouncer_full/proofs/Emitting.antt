@@ -2,7 +2,7 @@
 use Rattle.std.proofs.Common.{◌≡◌, ℕ, ◌+◌, ◌-◌, ◌^◌, min, Bool, true, false, if◌then◌else◌, List, [], ◌∷◌, ◌++◌, map, Ok, Err, sym, refl, ap, ◌∙◌, subst, append_assoc, append-nil, arith}
 use Rattle.notify_watch.specs.Handler.{Outcome}
 use Rattle.notify_watch.specs.declared.config.Config.{Config}
-use Rattle.debounce_book.specs.Book.{Kept}
+use Rattle.debounce_book.specs.Book.{BookValue}
 use Rattle.debounce_book.specs.Journal.{EntryValue}
 use Rattle.debounce_model.specs.Cache.{no_numbers}
 use Rattle.debounce_model.specs.Command.{ReplyValue, ErrorsReply, BatchReply}
@@ -95,7 +95,7 @@ module _ {A : Type 0} where
   -- .. at the end
   pub finishes_reports : {C Last : Type 0} (ends : Known → Config → Known → Last → Type 0) (made : Known × Config)
       (last : Last) (began left : Sending (Outcome A)) (seen : History) (parts : List EntryValue)
-      (given rest : List (Outcome A)) (unsent : ℕ) (book : Kept C) (count : ℕ)
+      (given rest : List (Outcome A)) (unsent : ℕ) (book : BookValue C) (count : ℕ)
       → IsFinished no_numbers ends made last (WasCalled began) left seen parts book count → began.calls ≡ []
       → given ++ rest ≡ put_in left.calls → unsent ≡ min (lost_in left.calls) (2 ^ 64 - 1)
       → FinishesReports ends made last seen parts given rest unsent book count

@@ -6,7 +6,7 @@ use Rattle.notify_watch.specs.Handler.{Outcome}
 use Rattle.notify_watch.specs.declared.config.Config.{Config}
 use Rattle.debounce_model.specs.Cache.{no_numbers}
 use Rattle.debounce_model.specs.Command.{ReplyValue, ErrorsReply, BatchReply}
-use Rattle.debounce_book.specs.Book.{Kept}
+use Rattle.debounce_book.specs.Book.{BookValue}
 use Rattle.debounce_book.specs.Journal.{EntryValue}
 use Rattle.debounce_run.specs.Access.Happened.{HappenedValue, History, Accepted}
 use Rattle.debounce_run.specs.Access.Stands.{Known}
@@ -85,7 +85,7 @@ module _ {A : Type 0} where
   -- a debouncer has ended whose cache has no numbers, with its watcher's work and what was found last, and what was
   -- emitted was given or is left
   abbrev pub FinishesReports : {C Last : Type 0} → (Known → Config → Known → Last → Type 0) → Known × Config
-      → Last → History → List EntryValue → List (Outcome A) → List (Outcome A) → ℕ → Kept C → ℕ → Type 0
+      → Last → History → List EntryValue → List (Outcome A) → List (Outcome A) → ℕ → BookValue C → ℕ → Type 0
   FinishesReports ends made last seen parts given left unsent book count =
       IsFinished no_numbers ends made last
       (λ (rest : List (Outcome A) × ℕ) emitted. IsGiven given rest.0 rest.1 emitted) (left, unsent) seen parts book

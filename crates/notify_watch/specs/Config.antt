@@ -12,7 +12,7 @@ pub record IsDefaultConfig (config : Config) : Type 0 where
   pub times : config.modified_times ≡ true
   pub silent : config.initial_events ≡ false
   pub links : config.root_links ≡ false
-  pub closed : config.closed_kept ≡ false
+  pub closed : config.unreadable_unchanged ≡ false
   pub moves : config.moves ≡ false
 
 -- a thread could not be started

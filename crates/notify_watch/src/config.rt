@@ -11,7 +11,7 @@ pub struct Config {
     modified_times: bool,
     initial_events: bool,
     root_links: bool,
-    closed_kept: bool,
+    unreadable_unchanged: bool,
     moves: bool,
 }
 
@@ -26,7 +26,7 @@ impl Default for Config {
             modified_times: true,
             initial_events: false,
             root_links: false,
-            closed_kept: false,
+            unreadable_unchanged: false,
             moves: false,
         }
     }
@@ -112,20 +112,20 @@ impl Config {
     /// closes the path: then nothing at that path or below it is reported until a look goes well again, and the rest is
     /// reported as always. The round says which path and why by an error with this path, once, and again if the cause
     /// changes. Without it, what permission closes counts as missing, and another failure of a look fails the round.
-    pub fn with_closed_kept(self, kept: bool) -> Config
-        ensures { result ≡ record self { closed_kept = kept } }
+    pub fn with_unreadable_unchanged(self, kept: bool) -> Config
+        ensures { result ≡ record self { unreadable_unchanged = kept } }
     {
         Config {
-            closed_kept: kept,
+            unreadable_unchanged: kept,
             ..self
         }
     }
 
     /// Returns whether a polling watcher keeps what it has shown of a path at which its look fails.
-    pub fn closed_kept(&self) -> bool
-        ensures { result ≡ self.now.closed_kept }
+    pub fn unreadable_unchanged(&self) -> bool
+        ensures { result ≡ self.now.unreadable_unchanged }
     {
-        self.closed_kept
+        self.unreadable_unchanged
     }
 
     /// Sets whether a polling watcher also reads the numbers that the file system has for files and folders, and tells

@@ -11,7 +11,7 @@ use Rattle.debounce_model.specs.Honest.{are_honest, is_honest_event}
 use Rattle.poll_listing.specs.declared.entry.Found.{Found}
 use Rattle.poll_listing.specs.Listing.{ListingValue, IsListing, entry_at}
 use Rattle.poll_listing.specs.Changes.{LeadsTo, changes, created, creation, removal, removed, rewrite, rewritten}
-use Rattle.poll_listing.specs.Moves.{move_of, own_move, told_changes, tracked, tracked_changes, tracker_of, with_tracker}
+use Rattle.poll_listing.specs.Moves.{move_of, own_move, reported_changes, tracked, tracked_changes, tracker_of, with_tracker}
 use Rattle.poll_listing.proofs.HonestLemmas.{changes_lead}
 
 -- the two events have the same kind, paths and flag
@@ -83,7 +83,7 @@ like-changes first old new =
 
 -- what is told leads from the old paths to the new ones
 pub told_lead : (trackers : Option ℕ) (old new : ListingValue) → IsListing old → IsListing new →
-    LeadsTo (keys_of old) (keys_of new) (told_changes trackers old new)
+    LeadsTo (keys_of old) (keys_of new) (reported_changes trackers old new)
 told_lead None old new o n = changes_lead old new o n
 told_lead (Some first) old new o n =
     let leads = changes_lead old new o n in

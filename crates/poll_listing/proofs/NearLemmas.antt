@@ -14,7 +14,7 @@ use Rattle.debounce_model.specs.Play.{has_path}
 use Rattle.debounce_model.specs.Honest.{has_folders, folders_of}
 use Rattle.debounce_model.proofs.Entries.{each-filter, sorted-filter}
 use Rattle.poll_listing.specs.Listing.{ListingValue, is_nonempty, IsListing}
-use Rattle.poll_listing.specs.Near.{is_name_part, are_names, depth_of, is_near, is_seen, seen, outside}
+use Rattle.poll_listing.specs.Near.{is_name_part, are_names, depth_of, is_near, roots_cover, covered_entries, outside}
 use Rattle.poll_listing.proofs.PrefixLemmas.{prefix-trans}
 use Rattle.poll_listing.proofs.BehindLemmas.{prefix-append}
 use Rattle.poll_listing.proofs.WalkLemmas.{keys_of-filter, has-filter}
@@ -112,16 +112,16 @@ near_above root mode f x s h = by (is_prefix (f ++ x ∷ s) root) refl h
 
 -- what the roots show has its folders shown by them
 seen_above : (roots : List (PathValue × RecursiveMode)) (f : PathValue) (x : PartValue) (s : PathValue) →
-    is_seen roots (f ++ x ∷ s) ≡ true → is_seen roots f ≡ true
+    roots_cover roots (f ++ x ∷ s) ≡ true → roots_cover roots f ≡ true
 seen_above [] f x s h = absurd (true≢false (sym h))
 seen_above (root ∷ roots) f x s h =
     by (is_nonempty root.0) (is_near root.0 root.1 (f ++ x ∷ s)) refl h (seen_above roots f x s)
   where
-    by : (n b : Bool) → is_near root.0 root.1 (f ++ x ∷ s) ≡ b → ((n && b) || is_seen roots (f ++ x ∷ s))
-        ≡ true → (is_seen roots (f ++ x ∷ s) ≡ true → is_seen roots f ≡ true) →
-        ((n && is_near root.0 root.1 f) || is_seen roots f) ≡ true
+    by : (n b : Bool) → is_near root.0 root.1 (f ++ x ∷ s) ≡ b → ((n && b) || roots_cover roots (f ++ x ∷ s))
+        ≡ true → (roots_cover roots (f ++ x ∷ s) ≡ true → roots_cover roots f ≡ true) →
+        ((n && is_near root.0 root.1 f) || roots_cover roots f) ≡ true
     by true true e h more = rw (near_above root.0 root.1 f x s e) refl
-    by true false e h more = or_right (is_near root.0 root.1 f) (is_seen roots f) (more h)
+    by true false e h more = or_right (is_near root.0 root.1 f) (roots_cover roots f) (more h)
     by false b e h more = more h
 
 -- of a listing, what passes a test is one, if the test is passed above each path that passes it
@@ -170,8 +170,8 @@ passing_listing t above es law = record {
 
 -- of a listing, what the roots show is one
 pub seen_listing : (es : ListingValue) (roots : List (PathValue × RecursiveMode)) → IsListing es →
-    IsListing (seen es roots)
-seen_listing es roots law = passing_listing (is_seen roots) (seen_above roots) es law
+    IsListing (covered_entries es roots)
+seen_listing es roots law = passing_listing (roots_cover roots) (seen_above roots) es law
 
 -- .. and what lies outside a path
 pub outside_listing : (es : ListingValue) (path : PathValue) → IsListing es → IsListing (outside es path)

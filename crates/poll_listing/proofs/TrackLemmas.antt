@@ -22,7 +22,7 @@ use Rattle.poll_listing.specs.Changes.{changes, created, creation, creation_of, 
 use Rattle.poll_listing.specs.Updates.{IsUpdate, UpdatesValue, after, update_at, updated}
 use Rattle.poll_listing.specs.Moves.{along, comes_along, having, is_one_file, is_still, move_of, moved_at, moved_from, number_of, own_move, place_of, tracked, tracked_changes}
 use Rattle.poll_listing.specs.Holders.{HoldersValue, TellMoves, place_with}
-use Rattle.poll_listing.specs.Tracked.{MoverValue, ToldValue, above, along_first, came_along, folders_after, folders_created, folders_found, mover_at, own_place, path_told, place_created, place_found, place_of_event, places_from, put_trackers, track}
+use Rattle.poll_listing.specs.Tracked.{MoverValue, TrackingValue, above, along_first, came_along, folders_after, folders_created, folders_found, mover_at, own_place, path_told, place_created, place_found, place_of_event, places_from, put_trackers, track}
 use Rattle.poll_listing.proofs.HonestLemmas.{each-filter, each-passes}
 use Rattle.poll_listing.proofs.HolderLemmas.{each-above, has}
 use Rattle.poll_listing.proofs.PairLemmas.{at_itself, turned_less}
@@ -198,7 +198,7 @@ module _ (old new : ListingValue) where
 -- ---- what is told
 
 -- what has these holders, after the changes to a new listing
-abbrev told_by : ListingValue → ListingValue → UpdatesValue → HoldersValue → ToldValue
+abbrev told_by : ListingValue → ListingValue → UpdatesValue → HoldersValue → TrackingValue
 told_by old new us hs = record { last = old; updates = us; events = changes old new; holders = hs }
 
 module _ (old : ListingValue) (us : UpdatesValue) (hs : HoldersValue) (law : IsListing old) (up : IsUpdate old us)
@@ -206,7 +206,7 @@ module _ (old : ListingValue) (us : UpdatesValue) (hs : HoldersValue) (law : IsL
   abbrev new : ListingValue
   new = updated old us
 
-  abbrev told : ToldValue
+  abbrev told : TrackingValue
   told = told_by old new us hs
 
   -- the removals

@@ -103,6 +103,6 @@ tracked_changes first old new =
     (rewritten old new))
 
 -- what is told: the changes, with trackers if they are given
-abbrev pub told_changes : Option ℕ → ListingValue → ListingValue → List EventValue
-told_changes None old new = changes old new
-told_changes (Some first) old new = tracked_changes first old new
+abbrev pub reported_changes : Option ℕ → ListingValue → ListingValue → List EventValue
+reported_changes None old new = changes old new
+reported_changes (Some first) old new = tracked_changes first old new

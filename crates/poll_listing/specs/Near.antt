@@ -32,12 +32,12 @@ is_near root mode path =
     is_prefix path root || (is_prefix root path && are_names (depth_of mode) (drop (length root) path))
 
 -- one of the roots, which isn't empty, is near the path
-abbrev pub is_seen : List (PathValue × RecursiveMode) → PathValue → Bool
-is_seen roots path = list_any (λ root. is_nonempty root.0 && is_near root.0 root.1 path) roots
+abbrev pub roots_cover : List (PathValue × RecursiveMode) → PathValue → Bool
+roots_cover roots path = list_any (λ root. is_nonempty root.0 && is_near root.0 root.1 path) roots
 
 -- the entries that these roots show, as far as the paths tell
-abbrev pub seen : ListingValue → List (PathValue × RecursiveMode) → ListingValue
-seen listing roots = filter (λ entry. is_seen roots entry.0) listing
+abbrev pub covered_entries : ListingValue → List (PathValue × RecursiveMode) → ListingValue
+covered_entries listing roots = filter (λ entry. roots_cover roots entry.0) listing
 
 -- how many parts below a root are looked at after these, if these are looked at
 abbrev pub levels_left : ℕ → List PartValue → Option ℕ

@@ -18,7 +18,7 @@ pub record MoverValue : Type 0 where
   pub place : ℕ
 
 -- what was told, and who has the numbers of what was removed
-pub record ToldValue : Type 0 where
+pub record TrackingValue : Type 0 where
   pub last : ListingValue
   pub updates : UpdatesValue
   pub events : List EventValue
@@ -36,12 +36,12 @@ along_first last path found (folder ∷ folders) =
     if came_along last path found folder then Some folder.place else along_first last path found folders
 
 -- what the event tells of: what stood at the path, if it was removed, and else what stands there
-abbrev pub found_told : ToldValue → EventValue → PathValue → Option Found
+abbrev pub found_told : TrackingValue → EventValue → PathValue → Option Found
 found_told told event path = if is_removal event.kind then entry_at told.last path
     else after (update_at told.updates path) (entry_at told.last path)
 
 -- the place of the removal of what was found, if it moved by itself
-abbrev pub own_place : ToldValue → Found → Option ℕ
+abbrev pub own_place : TrackingValue → Found → Option ℕ
 own_place told found = option_and_then (place_with told.holders) (number_of found.number)
 
 -- the path of the event with this place
@@ -49,7 +49,7 @@ abbrev pub path_told : List EventValue → ℕ → Option PathValue
 path_told events place = option_and_then (λ event. slice_get event.paths 0) (slice_get events place)
 
 -- the folder at the path, if it moved
-abbrev pub mover_at : ToldValue → PathValue → ℕ → Option MoverValue
+abbrev pub mover_at : TrackingValue → PathValue → ℕ → Option MoverValue
 mover_at told path place =
     option_map (λ from. record { from = from; to = path; place = place }) (path_told told.events place)
 
@@ -63,35 +63,35 @@ place_created last path found folders (Some place) = Some place
 place_created last path found folders None = along_first last path found (above path folders)
 
 -- the folders above the path, and it, if it moved by itself
-abbrev pub folders_created : ToldValue → PathValue → List MoverValue → Option ℕ → List MoverValue
+abbrev pub folders_created : TrackingValue → PathValue → List MoverValue → Option ℕ → List MoverValue
 folders_created told path folders own =
     above path folders ++ option_to_list (option_and_then (mover_at told path) own)
 
 -- the place of the removal of what was found at the event's path
-abbrev pub place_found : ToldValue → EventValue → PathValue → List MoverValue → Option Found → Option ℕ
+abbrev pub place_found : TrackingValue → EventValue → PathValue → List MoverValue → Option Found → Option ℕ
 place_found told event path folders None = None
 place_found told event path folders (Some found) =
     if is_creation event.kind then place_created told.last path found folders (own_place told found)
     else own_place told found
 
 -- the place of the removal that belongs to the event, if it tells of a move
-abbrev pub place_of_event : ToldValue → List MoverValue → EventValue → Option PathValue → Option ℕ
+abbrev pub place_of_event : TrackingValue → List MoverValue → EventValue → Option PathValue → Option ℕ
 place_of_event told folders event None = None
 place_of_event told folders event (Some path) = place_found told event path folders (found_told told event path)
 
 -- the folders that moved and that later events can tell of, after what was found
-abbrev pub folders_found : ToldValue → EventValue → PathValue → List MoverValue → Option Found → List MoverValue
+abbrev pub folders_found : TrackingValue → EventValue → PathValue → List MoverValue → Option Found → List MoverValue
 folders_found told event path folders None = folders
 folders_found told event path folders (Some found) =
     if is_creation event.kind then folders_created told path folders (own_place told found) else folders
 
 -- the folders that moved and that later events can tell of, after the event
-abbrev pub folders_after : ToldValue → List MoverValue → EventValue → Option PathValue → List MoverValue
+abbrev pub folders_after : TrackingValue → List MoverValue → EventValue → Option PathValue → List MoverValue
 folders_after told folders event None = folders
 folders_after told folders event (Some path) = folders_found told event path folders (found_told told event path)
 
 -- the places of the removals that belong to the events
-abbrev pub places_from : ToldValue → List MoverValue → List EventValue → List (Option ℕ)
+abbrev pub places_from : TrackingValue → List MoverValue → List EventValue → List (Option ℕ)
 places_from told folders [] = []
 places_from told folders (event ∷ events) =
     place_of_event told folders event (slice_get event.paths 0)

@@ -10,12 +10,12 @@ ghost use Rattle.notify_paths.specs.Path.{PathValue, path_cmp};
 ghost use Rattle.debounce_model.specs.Honest.{has_folders};
 ghost use Rattle.poll_listing.specs.Listing.{IsListing, entry_at, has_entry, is_nonempty, listing_of, put_all, HasLast};
 ghost use Rattle.poll_listing.specs.MergedListings.{IsMerged, put_over};
-ghost use Rattle.poll_listing.specs.Near.{outside, seen};
+ghost use Rattle.poll_listing.specs.Near.{outside, covered_entries};
 ghost use Rattle.poll_listing.specs.Parents.{has_parent, have_parents};
 ghost use Rattle.poll_listing.specs.Updates.{IsUpdate, updated};
 
 use crate::entry::{EntryKind, FileNumber, Found};
-use crate::near::is_seen;
+use crate::near::roots_cover;
 use crate::updates::{Updates, add_each, change_each, drop_each_added};
 use notify_paths::{Error, PathBuf};
 use notify_types::RecursiveMode;
@@ -150,10 +150,10 @@ impl<A: Allocator> Listing<A> {
 
     /// Keeps what these roots show: each root that isn't empty, what lies above it, and what lies
     /// below it, by names alone, 64 levels deep or, if it isn't recursive, one level.
-    pub fn keep_seen(&mut self, roots: &[(PathBuf<A>, RecursiveMode)])
-        ensures { self.new ≡ seen self.old roots.now }
+    pub fn retain_covered(&mut self, roots: &[(PathBuf<A>, RecursiveMode)])
+        ensures { self.new ≡ covered_entries self.old roots.now }
     {
-        self.entries.retain(|path, _found| is_seen(roots, path));
+        self.entries.retain(|path, _found| roots_cover(roots, path));
     }
 
     /// Drops what stands at and below the path.

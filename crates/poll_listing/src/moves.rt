@@ -5,7 +5,7 @@ ghost use Rattle.std.specs.Map.{keys_of};
 ghost use Rattle.notify_paths.specs.Errors.{out_of_memory};
 ghost use Rattle.poll_listing.specs.Changes.{LeadsTo, changes};
 ghost use Rattle.poll_listing.specs.Listing.{IsListing};
-ghost use Rattle.poll_listing.specs.Moves.{told_changes, tracked_changes, trackers_after};
+ghost use Rattle.poll_listing.specs.Moves.{reported_changes, tracked_changes, trackers_after};
 ghost use Rattle.poll_listing.specs.Tracked.{above, along_first, came_along, folders_after, folders_created, found_told, mover_at, own_place, place_created, place_of_event, places_from, put_trackers, track};
 ghost use Rattle.poll_listing.specs.Updates.{IsUpdate, updated};
 
@@ -32,7 +32,7 @@ pub fn compare_moves<A: Allocator + Copy>(
 ) -> Result<Vec<Event<A>, A>, Error<A>>
     requires { IsUpdate old.now updates.now.entries }
     ensures ok { IfOk result (λ events. events.items
-        ≡ told_changes trackers old.now (updated old.now updates.now.entries)) }
+        ≡ reported_changes trackers old.now (updated old.now updates.now.entries)) }
     // Who plays the events on the old paths has the new ones.
     ensures honest { IfOk result (λ events.
         LeadsTo (keys_of old.now) (keys_of (updated old.now updates.now.entries)) events.items) }
@@ -91,7 +91,7 @@ fn find_places<A: Allocator + Copy>(
     if holders.is_empty() {
         return Ok(Vec::new(alloc));
     }
-    let told = Told {
+    let told = Tracking {
         last: old,
         updates,
         events,
@@ -162,17 +162,17 @@ fn keep_above<A: Allocator>(folders: &mut Vec<Mover<'_, A>, A>, path: &PathBuf<A
 
 /// What was told, and who has the numbers of what was removed.
 #[derive(Drop)]
-struct Told<'a, A: Allocator> {
+struct Tracking<'a, A: Allocator> {
     last: &'a Listing<A>,
     updates: &'a Updates<A>,
     events: &'a [Event<A>],
     holders: Holders<A>,
 }
 
-impl<'a, A: Allocator> Model for Told<'a, A> {
-    ghost use Rattle.poll_listing.specs.Tracked.{ToldValue};
+impl<'a, A: Allocator> Model for Tracking<'a, A> {
+    ghost use Rattle.poll_listing.specs.Tracked.{TrackingValue};
 
-    ghost Value = { ToldValue };
+    ghost Value = { TrackingValue };
 
     ghost view = { λ a. record {
       last = a.last.now;
@@ -182,7 +182,7 @@ impl<'a, A: Allocator> Model for Told<'a, A> {
     } };
 }
 
-impl<'a, A: Allocator + Copy> Told<'a, A> {
+impl<'a, A: Allocator + Copy> Tracking<'a, A> {
     /// Returns for each event the place of the removal of what it tells of, if that moved.
     fn places(&self, alloc: A) -> Result<Vec<Option<usize>, A>, AllocError>
         ensures { IfOk result (λ places. places.items ≡ places_from self.now [] self.now.events) }

@@ -4,7 +4,7 @@ ghost use Rattle.std.specs.Path.{components_remaining, IsWellFormedComponent};
 ghost use Rattle.notify_paths.specs.PathText.{part_of};
 ghost use Rattle.notify_paths.specs.PathView.{component_part};
 ghost use Rattle.poll_listing.specs.Listing.{is_nonempty};
-ghost use Rattle.poll_listing.specs.Near.{are_names, depth_of, is_name_part, is_near, is_seen, levels_left};
+ghost use Rattle.poll_listing.specs.Near.{are_names, depth_of, is_name_part, is_near, roots_cover, levels_left};
 
 use notify_paths::PathBuf;
 use notify_types::RecursiveMode;
@@ -22,11 +22,11 @@ pub fn depth_of(mode: RecursiveMode) -> u32
 }
 
 /// Whether one of the roots shows the path.
-pub(crate) fn is_seen<A: Allocator>(
+pub(crate) fn roots_cover<A: Allocator>(
     roots: &[(PathBuf<A>, RecursiveMode)],
     path: &PathBuf<A>,
 ) -> bool
-    ensures { result ≡ is_seen roots.now path.now }
+    ensures { result ≡ roots_cover roots.now path.now }
 {
     for (root, mode) in roots {
         if !root.is_empty() && is_near(root, *mode, path) {

@@ -23,7 +23,7 @@ use Rattle.poll_listing.proofs.UpdateLemmas.{Ascends, updated-finds, updated-sor
 use Rattle.poll_listing.proofs.WalkLemmas.{has_entry-some}
 use Rattle.notify_types.specs.declared.event.RecursiveMode.{RecursiveMode}
 use Rattle.poll_rounds.specs.Closed.{ClosedValue, IsKept, LookKeeps, RoundKeeps, is_kept, keeps}
-use Rattle.poll_rounds.specs.Folders.{IsTree, shown}
+use Rattle.poll_rounds.specs.Folders.{IsTree, reachable}
 use Rattle.poll_rounds.specs.Parts.{LooksEach}
 
 -- what holds of each entry's path that is there
@@ -243,11 +243,11 @@ whole closed last us new fewer none =
 pub round-keeps : {U E : Type 0} (entries : U → UpdatesValue) (walk : Result U E) (told told_then : Option ListingValue)
     (roots : List (PathValue × RecursiveMode)) (closed noted : ClosedValue) (last new : ListingValue) →
     noted ≡ closed → told_then ≡ told →
-    IfSome told_then (λ tree. IsTree tree → IfOk walk (λ u. updated last (entries u) ≡ shown tree roots)) →
+    IfSome told_then (λ tree. IsTree tree → IfOk walk (λ u. updated last (entries u) ≡ reachable tree roots)) →
     IsOkAnd walk (λ u. IsKept noted last (updated last (entries u)) new) → RoundKeeps told roots closed last new
 round-keeps entries (Ok u) told told_then roots closed noted last new same alike shows k = (
   updated last (entries u),
-  subst (λ o. IfSome o (λ tree. IsTree tree → updated last (entries u) ≡ shown tree roots)) alike shows,
+  subst (λ o. IfSome o (λ tree. IsTree tree → updated last (entries u) ≡ reachable tree roots)) alike shows,
   subst (λ cs. IsKept cs last (updated last (entries u)) new) same k,
 )
 round-keeps entries (Err e) told told_then roots closed noted last new same alike shows k = absurd k

@@ -6,7 +6,7 @@ use Rattle.notify_types.specs.declared.event.RecursiveMode.{RecursiveMode}
 use Rattle.poll_listing.specs.Listing.{ListingValue, IsListing}
 use Rattle.poll_listing.specs.Updates.{UpdatesValue, updated}
 use Rattle.poll_rounds.specs.Beside.{BesideValue, put_in}
-use Rattle.poll_rounds.specs.Folders.{IsTree, shown}
+use Rattle.poll_rounds.specs.Folders.{IsTree, reachable}
 use Rattle.poll_rounds.proofs.RootLemmas.{HasListed, listed-shown}
 
 -- they lead to what is shown
@@ -14,7 +14,7 @@ pub updates-shown : {U E : Type 0} (o : Option ListingValue) (roots : List (Path
     (r : Result U E) (entries : U → UpdatesValue) (last : ListingValue) (v : BesideValue) → v.last ≡ last →
     IfOk r (λ updates. updated v.last (entries updates) ≡ put_in v) → IsListing (put_in v) →
     HasListed o roots (put_in v) →
-    IfSome o (λ tree. IsTree tree → IfOk r (λ updates. updated last (entries updates) ≡ shown tree roots))
+    IfSome o (λ tree. IsTree tree → IfOk r (λ updates. updated last (entries updates) ≡ reachable tree roots))
 updates-shown None roots r entries last v same is law h = tt
 updates-shown (Some tree) roots (Err e) entries last v same is law h = λ t. tt
 updates-shown (Some tree) roots (Ok updates) entries last v same is law h = λ t.

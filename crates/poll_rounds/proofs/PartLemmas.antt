@@ -22,7 +22,7 @@ use Rattle.poll_listing.proofs.HonestLemmas.{and_both}
 use Rattle.poll_listing.proofs.NearLemmas.{all_above, above_passes}
 use Rattle.poll_listing.proofs.BehindLemmas.{prefix-append, prefix-rest, longer_no_prefix, at-same}
 use Rattle.poll_listing.proofs.WalkLemmas.{has_entry-some, keys_of-filter, has-filter}
-use Rattle.poll_rounds.specs.Folders.{IsTree, is_passable, shows, shown, reach, reaches, Adds}
+use Rattle.poll_rounds.specs.Folders.{IsTree, is_passable, shows, reachable, reach, reaches, Adds}
 use Rattle.poll_rounds.specs.Parts.{has_folder, passes, shows_in, has_root_below, LooksAt, IsTop}
 use Rattle.poll_rounds.proofs.ReachLemmas.{Adds-alike, Adds-then, Adds-none}
 use Rattle.poll_rounds.proofs.ShownLemmas.{way, folders-split, reach-is, way-folders, all-push, prefix-shorter, near_behind, is_folder_at, entry_at-shown}
@@ -340,12 +340,12 @@ entry_at-outside es p q =
 -- all roots were listed
 pub looks-all : (o : Option ListingValue) (roots : List (PathValue × RecursiveMode)) (p : PathValue)
     (es fs : ListingValue) → has_root_below roots p ≡ true →
-    IfSome o (λ tree. IsTree tree → fs ≡ shown tree roots) →
+    IfSome o (λ tree. IsTree tree → fs ≡ reachable tree roots) →
     IfSome o (λ tree. IsTree tree → LooksAt tree roots p es fs)
 looks-all None roots p es fs h k = tt
 looks-all (Some tree) roots p es fs h k = λ t q.
     ap (λ gs. entry_at gs q) (k t)
-    ∙ ap (λ b. if b || is_prefix p q then entry_at (shown tree roots) q else entry_at es q) (sym h)
+    ∙ ap (λ b. if b || is_prefix p q then entry_at (reachable tree roots) q else entry_at es q) (sym h)
 
 -- what they show at the path and below it was put in the place of what was there
 pub looks-part : (o : Option ListingValue) (roots : List (PathValue × RecursiveMode)) (p : PathValue)
@@ -354,7 +354,7 @@ pub looks-part : (o : Option ListingValue) (roots : List (PathValue × Recursive
 looks-part None roots p es fs h k = tt
 looks-part (Some tree) roots p es fs h k = λ t q.
     k q ∙ (by q (is_prefix p q) (entry_at-outside es p q)
-    ∙ ap (λ b. if b || is_prefix p q then entry_at (shown tree roots) q else entry_at es q) (sym h))
+    ∙ ap (λ b. if b || is_prefix p q then entry_at (reachable tree roots) q else entry_at es q) (sym h))
   where
     none : (q : PathValue) (rs : List (PathValue × RecursiveMode)) → list_any (λ root. false && shows tree root q) rs
         ≡ false
@@ -363,7 +363,7 @@ looks-part (Some tree) roots p es fs h k = λ t q.
 
     by : (q : PathValue) (b : Bool) → entry_at (outside es p) q ≡ cond (not b) (entry_at es q) None →
         (if list_any (λ root. b && shows tree root q) roots then entry_at tree q else entry_at (outside es p) q)
-        ≡ (if b then entry_at (shown tree roots) q else entry_at es q)
+        ≡ (if b then entry_at (reachable tree roots) q else entry_at es q)
     by q true e =
         ap (λ o. if list_any (λ root. shows tree root q) roots then entry_at tree q else o) e
         ∙ entry_at-shown tree roots q

@@ -7,15 +7,15 @@ use Rattle.notify_types.specs.Event.{EventValue}
 use Rattle.notify_watch.proofs.CallLemmas.{called-none, called-once, called-then}
 use Rattle.notify_watch.specs.Handler.{IsCalledOn}
 use Rattle.poll_listing.specs.Listing.{ListingValue, IsListing}
-use Rattle.poll_listing.specs.Moves.{told_changes}
-use Rattle.poll_rounds.specs.Reports.{Tells, ReportAll, Begins, GoesOn, left_by}
+use Rattle.poll_listing.specs.Moves.{reported_changes}
+use Rattle.poll_rounds.specs.Reports.{ReportsChanges, ReportAll, Begins, GoesOn, left_by}
 use Rattle.poll_rounds.specs.Rounds.{HandsEach}
 
 -- one more step after others
 report-push : {H : Type 0} (handles : H → Result EventValue ErrorValue → H → Type 0) (old : ListingValue) (before : H)
     (steps : List (ListingValue × H)) (next : ListingValue) (later : H) (trackers : Option ℕ) →
     ReportAll handles old before steps → IsListing next →
-    Tells handles trackers (left_by old before steps).0 next (left_by old before steps).1 later →
+    ReportsChanges handles trackers (left_by old before steps).0 next (left_by old before steps).1 later →
     ReportAll handles old before (steps ++ (next, later) ∷ [])
     × (left_by old before (steps ++ (next, later) ∷ []) ≡ (next, later))
 report-push handles old before [] next later trackers h law r = ((law, (trackers, r), tt), refl)
@@ -32,7 +32,7 @@ pub goes_on : {H : Type 0} (handles : H → Result EventValue ErrorValue → H �
 goes_on {H} handles = λ begun last now next later trackers reported law r.
     let steps = reported.0 in
     let more = report-push handles [] begun steps next later trackers reported.1 law
-    (subst (λ (e : ListingValue × H). Tells handles trackers e.0 next e.1 later) (sym reported.2) r) in
+    (subst (λ (e : ListingValue × H). ReportsChanges handles trackers e.0 next e.1 later) (sym reported.2) r) in
     (steps ++ (next, later) ∷ [], more.0, more.1)
 
 -- events that are handed on one by one are calls
@@ -46,10 +46,10 @@ called-each handles (e ∷ es) before after h =
 
 -- .. and so is all that a step does
 pub called-step : {H : Type 0} (handles : H → Result EventValue ErrorValue → H → Type 0) (trackers : Option ℕ)
-    (old new : ListingValue) (before after : H) → Tells handles trackers old new before after →
+    (old new : ListingValue) (before after : H) → ReportsChanges handles trackers old new before after →
     IsCalledOn handles before after
 called-step handles trackers old new before after (inl each) =
-    called-each handles (told_changes trackers old new) before after each
+    called-each handles (reported_changes trackers old new) before after each
 called-step handles trackers old new before after (inr (same, inl quiet)) =
     subst (λ h. IsCalledOn handles before h) (sym quiet) (called-none handles before)
 called-step handles trackers old new before after (inr (same, inr (e, refused))) =

@@ -15,7 +15,7 @@ use Rattle.poll_listing.specs.declared.entry.Found.{Found}
 use Rattle.poll_listing.specs.Listing.{ListingValue, entry_at, has_entry, is_nonempty, is_same_kind, IsListing}
 use Rattle.poll_listing.specs.Changes.{is_of_kind}
 use Rattle.poll_listing.specs.Near.{depth_of}
-use Rattle.poll_rounds.specs.Folders.{IsTree, reaches, Adds, shows, shown, is_passable}
+use Rattle.poll_rounds.specs.Folders.{IsTree, reaches, Adds, shows, reachable, is_passable}
 use Rattle.poll_listing.proofs.WalkLemmas.{or_false, has_entry-some}
 use Rattle.poll_listing.proofs.ListingLemmas.{folders_of-push}
 use Rattle.poll_listing.proofs.BehindLemmas.{longer_no_prefix}
@@ -273,16 +273,16 @@ listed-roots o roots i fs l h = subst (λ rs. HasListed o rs fs) (take_all i roo
 
 -- the listing is what is shown
 pub listed-shown : (o : Option ListingValue) (roots : List (PathValue × RecursiveMode)) (fs : ListingValue) →
-    IsListing fs → HasListed o roots fs → IfSome o (λ tree. IsTree tree → fs ≡ shown tree roots)
+    IsListing fs → HasListed o roots fs → IfSome o (λ tree. IsTree tree → fs ≡ reachable tree roots)
 listed-shown None roots fs law h = tt
 listed-shown (Some tree) roots fs law h = λ t.
-    same_entries path_cmp_total same_path fs (shown tree roots) law.ordered (sorted-shown tree roots t.ordered)
+    same_entries path_cmp_total same_path fs (reachable tree roots) law.ordered (sorted-shown tree roots t.ordered)
     (λ q. h t q ∙ entry_at-shown tree roots q)
 
 -- one root alone
 pub listed-one : (o : Option ListingValue) (root : PathValue × RecursiveMode) (fs : ListingValue) →
     IsListing fs → IfSome o (λ tree. IsTree tree → Adds tree (shows tree root) [] fs) →
-    IfSome o (λ tree. IsTree tree → fs ≡ shown tree (root ∷ []))
+    IfSome o (λ tree. IsTree tree → fs ≡ reachable tree (root ∷ []))
 listed-one o root fs law h =
     listed-shown o (root ∷ []) fs law
     (listed-roots o (root ∷ []) 1 fs (omega arith)

@@ -6,7 +6,7 @@ use Rattle.notify_types.specs.declared.event.RecursiveMode.{RecursiveMode}
 use Rattle.notify_paths.specs.Path.{PathValue}
 use Rattle.poll_listing.specs.Listing.{ListingValue}
 use Rattle.poll_listing.specs.Updates.{UpdatesValue, updated}
-use Rattle.poll_rounds.specs.Folders.{IsRefusal, IsTree, shown}
+use Rattle.poll_rounds.specs.Folders.{IsRefusal, IsTree, reachable}
 use Rattle.poll_rounds.specs.Parts.{LooksEach}
 use Rattle.poll_rounds.specs.Rounds.{HandsEach, HandsError, HandsRefusal}
 
@@ -32,15 +32,15 @@ refusal {U = U} handles walk failed failed_then failed_now before after same err
 -- a round that went well has what the folders show
 pub round-shows : {U E : Type 0} (entries : U → UpdatesValue) (walk : Result U E) (told : Option ListingValue)
     (roots : List (PathValue × RecursiveMode)) (last new : ListingValue) (well : Bool) →
-    IfSome told (λ tree. IsTree tree → IfOk walk (λ u. updated last (entries u) ≡ shown tree roots)) →
+    IfSome told (λ tree. IsTree tree → IfOk walk (λ u. updated last (entries u) ≡ reachable tree roots)) →
     (well ≡ true → IsOkAnd walk (λ u. new ≡ updated last (entries u))) →
-    IfSome told (λ tree. IsTree tree → well ≡ true → new ≡ shown tree roots)
+    IfSome told (λ tree. IsTree tree → well ≡ true → new ≡ reachable tree roots)
 round-shows entries walk None roots last new well shows is = tt
 round-shows {U} {E} entries walk (Some tree) roots last new well shows is =
     λ honest went. by walk (shows honest) (is went)
   where
-    by : (walk : Result U E) → IfOk walk (λ u. updated last (entries u) ≡ shown tree roots) →
-        IsOkAnd walk (λ u. new ≡ updated last (entries u)) → new ≡ shown tree roots
+    by : (walk : Result U E) → IfOk walk (λ u. updated last (entries u) ≡ reachable tree roots) →
+        IsOkAnd walk (λ u. new ≡ updated last (entries u)) → new ≡ reachable tree roots
     by (Ok u) shows is = is ∙ shows
     by (Err e) shows is = absurd is
 

@@ -21,7 +21,7 @@ use Rattle.poll_listing.specs.declared.entry.Found.{Found}
 use Rattle.poll_listing.specs.Listing.{ListingValue, entry_at, has_entry, is_nonempty}
 use Rattle.poll_listing.specs.Changes.{is_of_kind}
 use Rattle.poll_listing.specs.Near.{is_name_part, are_names, depth_of, is_near}
-use Rattle.poll_rounds.specs.Folders.{is_passable, shows_at, shown, shows, reach, reaches}
+use Rattle.poll_rounds.specs.Folders.{is_passable, shows_at, reachable, shows, reach, reaches}
 use Rattle.poll_listing.proofs.PrefixLemmas.{prefix-trans}
 use Rattle.poll_listing.proofs.PairLemmas.{at_itself}
 use Rattle.poll_listing.proofs.WalkLemmas.{or_false, has_entry-some}
@@ -358,10 +358,10 @@ module _ (tree : ListingValue) where
 -- what is looked up in what is shown
 pub entry_at-shown : (tree : ListingValue) (roots : List (PathValue × RecursiveMode)) (q : PathValue) →
     (if list_any (λ root. shows tree root q) roots then entry_at tree q else None)
-    ≡ entry_at (shown tree roots) q
+    ≡ entry_at (reachable tree roots) q
 entry_at-shown tree roots q = by (has_entry tree q) refl (list_any (λ root. shows_at tree root q) roots) refl
   where
-    kept : entry_at (shown tree roots) q
+    kept : entry_at (reachable tree roots) q
         ≡ cond (list_any (λ root. shows_at tree root q) roots) (entry_at tree q) None
     kept = lookup-filter-keys (is_at (path_cmp q)) (λ k. list_any (λ root. shows_at tree root k) roots)
         (list_any (λ root. shows_at tree root q) roots)
@@ -386,7 +386,7 @@ entry_at-shown tree roots q = by (has_entry tree q) refl (list_any (λ root. sho
 
     by : (b : Bool) → has_entry tree q ≡ b → (c : Bool) → list_any (λ root. shows_at tree root q) roots ≡ c →
         (if list_any (λ root. shows tree root q) roots then entry_at tree q else None)
-        ≡ entry_at (shown tree roots) q
+        ≡ entry_at (reachable tree roots) q
     by true h c e = ap (λ b. if b then entry_at tree q else None) (always roots h)
         ∙ (choose (list_any (λ root. shows_at tree root q) roots) ∙ sym kept)
     by false h c e =
@@ -395,6 +395,6 @@ entry_at-shown tree roots q = by (has_entry tree q) refl (list_any (λ root. sho
 
 -- what is shown ascends as the tree does
 pub sorted-shown : (tree : ListingValue) (roots : List (PathValue × RecursiveMode)) →
-    IsStrictlySortedBy path_cmp (keys_of tree) → IsStrictlySortedBy path_cmp (keys_of (shown tree roots))
+    IsStrictlySortedBy path_cmp (keys_of tree) → IsStrictlySortedBy path_cmp (keys_of (reachable tree roots))
 sorted-shown tree roots s = sorted-filter path_cmp_total (λ e. list_any (λ root. shows_at tree root e.0) roots)
     tree s

@@ -5,7 +5,7 @@ use Rattle.std.specs.declared.io.ErrorKind.{ErrorKind}
 use Rattle.notify_paths.specs.Path.{PathValue, is_below, is_prefix}
 use Rattle.notify_types.specs.declared.event.RecursiveMode.{RecursiveMode}
 use Rattle.poll_listing.specs.Listing.{ListingValue, entry_at}
-use Rattle.poll_rounds.specs.Folders.{IsTree, shown}
+use Rattle.poll_rounds.specs.Folders.{IsTree, reachable}
 use Rattle.poll_rounds.specs.Parts.{LooksEach}
 
 -- paths at which calls failed, and why
@@ -29,7 +29,7 @@ IsKept closed last found new = (path : PathValue) →
 abbrev pub RoundKeeps : Option ListingValue → List (PathValue × RecursiveMode) → ClosedValue → ListingValue →
     ListingValue → Type 0
 RoundKeeps told roots closed last new =
-    (found : ListingValue) × IfSome told (λ tree. IsTree tree → found ≡ shown tree roots)
+    (found : ListingValue) × IfSome told (λ tree. IsTree tree → found ≡ reachable tree roots)
     × IsKept closed last found new
 
 -- the new listing of a look at these paths: the last one where that is kept, and elsewhere what the folders show

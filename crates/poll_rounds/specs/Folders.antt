@@ -38,8 +38,8 @@ shows_at tree root path =
     is_nonempty root.0 && (is_near root.0 root.1 path && list_all (is_passable tree root.0) (folders_of path))
 
 -- what the tree shows at the roots
-abbrev pub shown : ListingValue → List (PathValue × RecursiveMode) → ListingValue
-shown tree roots = filter (λ e. list_any (λ root. shows_at tree root e.0) roots) tree
+abbrev pub reachable : ListingValue → List (PathValue × RecursiveMode) → ListingValue
+reachable tree roots = filter (λ e. list_any (λ root. shows_at tree root e.0) roots) tree
 
 -- the tree has the path and shows it at this root
 abbrev pub shows : ListingValue → PathValue × RecursiveMode → PathValue → Bool

@@ -8,7 +8,7 @@ use Rattle.poll_listing.specs.declared.entry.EntryKind.TheVariants.{File, Folder
 use Rattle.poll_listing.specs.declared.entry.Found.{Found}
 use Rattle.poll_listing.specs.Changes.{is_of_kind}
 use Rattle.poll_listing.specs.Listing.{ListingValue, entry_at}
-use Rattle.poll_rounds.specs.Folders.{Adds, IsTree, shown, shows}
+use Rattle.poll_rounds.specs.Folders.{Adds, IsTree, reachable, shows}
 
 -- what was found at a folder on the way lets it be passed
 abbrev pub passes : PathValue → PathValue → Option Found → Bool
@@ -40,7 +40,7 @@ IsTop last path top =
 -- what is looked at is as the tree shows it at the roots, and what isn't is as it was
 abbrev pub LooksAt : ListingValue → List (PathValue × RecursiveMode) → PathValue → ListingValue → ListingValue
     → Type 0
-LooksAt tree roots top old new = Adds (shown tree roots) (is_looked_at roots top) old new
+LooksAt tree roots top old new = Adds (reachable tree roots) (is_looked_at roots top) old new
 
 -- the path that was named was looked at, or the first above it that the last listing doesn't have as a folder
 abbrev pub Looks : Option ListingValue → List (PathValue × RecursiveMode) → PathValue → ListingValue →

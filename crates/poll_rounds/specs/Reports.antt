@@ -3,28 +3,28 @@ use Rattle.std.specs.Prelude.{◌≡◌, ℕ, List, [], ◌∷◌, ◌++◌, Opt
 use Rattle.notify_paths.specs.Errors.{ErrorValue}
 use Rattle.notify_types.specs.Event.{EventValue}
 use Rattle.poll_listing.specs.Listing.{ListingValue, IsListing}
-use Rattle.poll_listing.specs.Moves.{told_changes}
+use Rattle.poll_listing.specs.Moves.{reported_changes}
 use Rattle.poll_rounds.specs.Rounds.{HandsEach}
 
 -- a step hands on just what it changes of the last listing, and of moves the trackers from this one on, if there is
 -- one; or, refused, it changes nothing, and hands on nothing or one error
-abbrev pub Tells : {H : Type 0} → (H → Result EventValue ErrorValue → H → Type 0) → Option ℕ → ListingValue →
+abbrev pub ReportsChanges : {H : Type 0} → (H → Result EventValue ErrorValue → H → Type 0) → Option ℕ → ListingValue →
     ListingValue → H → H → Type 0
-Tells handles trackers old new before after =
-    HandsEach handles (told_changes trackers old new) before after
+ReportsChanges handles trackers old new before after =
+    HandsEach handles (reported_changes trackers old new) before after
     ⊎ ((new ≡ old) × ((after ≡ before) ⊎ ((e : ErrorValue) × handles before (Err e) after)))
 
 -- a step tells what it changes, and no moves
 abbrev pub Reports : {H : Type 0} → (H → Result EventValue ErrorValue → H → Type 0) → ListingValue →
     ListingValue → H → H → Type 0
-Reports handles old new before after = Tells handles None old new before after
+Reports handles old new before after = ReportsChanges handles None old new before after
 
 -- steps one after the other, which may tell moves: what each leaves as the last listing, and of the handler
 abbrev pub ReportAll : {H : Type 0} → (H → Result EventValue ErrorValue → H → Type 0) → ListingValue → H →
     List (ListingValue × H) → Type 0
 ReportAll handles old before [] = Unit {0}
 ReportAll handles old before (step ∷ steps) =
-    IsListing step.0 × ((trackers : Option ℕ) × Tells handles trackers old step.0 before step.1)
+    IsListing step.0 × ((trackers : Option ℕ) × ReportsChanges handles trackers old step.0 before step.1)
     × ReportAll handles step.0 step.1 steps
 
 -- what the last step leaves
@@ -48,7 +48,7 @@ GoesOn {H} handles =
     (begun : H) (last : ListingValue) (now : H) (next : ListingValue) (later : H) (trackers : Option ℕ) →
     Reported handles begun last now →
     IsListing next →
-    Tells handles trackers last next now later →
+    ReportsChanges handles trackers last next now later →
     Reported handles begun next later
 
 -- the handler's notes are the events that it was given, in order

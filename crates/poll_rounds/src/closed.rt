@@ -1,7 +1,7 @@
 //! Rounds and looks that keep what can't be looked at.
 ghost use Rattle.std.specs.Prelude.{◌≡◌, ◌≤◌, ◌⊎◌, [], length, true, false, IfErr, IfOk, IsErrOf, IsOkAnd, OnErr, OnOk};
 ghost use Rattle.notify_paths.specs.Errors.{out_of_memory};
-ghost use Rattle.poll_listing.specs.Moves.{told_changes, trackers_after};
+ghost use Rattle.poll_listing.specs.Moves.{reported_changes, trackers_after};
 ghost use Rattle.poll_listing.specs.Updates.{IsUpdate, updated};
 ghost use Rattle.poll_rounds.specs.Closed.{ClosedValue, IsKept, LookKeeps, RoundKeeps, is_kept, keeps};
 ghost use Rattle.poll_rounds.specs.Rounds.{HandsEach, HandsRefusal};
@@ -84,7 +84,8 @@ pub(crate) fn settle<A: Allocator + Copy>(
         IsKept closed.now last.old (updated last.old updates.entries) last.new)) }
     ensures whole { closed.now ≡ [] → OnOk result (IsOkAnd found (λ updates.
         last.new ≡ updated last.old updates.entries)) }
-    ensures ok { IfOk result (λ events. events.items ≡ told_changes trackers last.old last.new) }
+    ensures ok { IfOk result (λ events.
+        events.items ≡ reported_changes trackers last.old last.new) }
     ensures unchanged { OnErr result (last.new ≡ last.old) }
     ensures err { IfErr result (λ e. (e ≡ out_of_memory) ⊎ IsErrOf found e) }
 {
@@ -116,9 +117,10 @@ pub fn kept_round<
     requires { H.ready handler.old }
     ensures again { H.ready handler.new }
     ensures given { result ≡ true →
-        HandsEach H.handles (told_changes trackers.old last.old last.new) handler.old handler.new }
+        HandsEach H.handles (reported_changes trackers.old last.old last.new) handler.old
+        handler.new }
     ensures trackers { result ≡ true → trackers.new ≡ trackers_after trackers.old
-        (length (told_changes trackers.old last.old last.new)) }
+        (length (reported_changes trackers.old last.old last.new)) }
     ensures untold { result ≡ false → trackers.new ≡ trackers.old }
     ensures kept { result ≡ true →
         RoundKeeps (D.told folders.old) roots.now (D.closed folders.new) last.old last.new }
@@ -151,9 +153,10 @@ pub fn kept_look<
     requires { H.ready handler.old }
     ensures again { H.ready handler.new }
     ensures given { result ≡ true →
-        HandsEach H.handles (told_changes trackers.old last.old last.new) handler.old handler.new }
+        HandsEach H.handles (reported_changes trackers.old last.old last.new) handler.old
+        handler.new }
     ensures trackers { result ≡ true → trackers.new ≡ trackers_after trackers.old
-        (length (told_changes trackers.old last.old last.new)) }
+        (length (reported_changes trackers.old last.old last.new)) }
     ensures untold { result ≡ false → trackers.new ≡ trackers.old }
     ensures kept { result ≡ true → LookKeeps (D.told folders.old) roots.now paths.now
         (D.closed folders.new) last.old last.new }

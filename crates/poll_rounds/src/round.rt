@@ -1,9 +1,9 @@
 //! One round of polling.
 ghost use Rattle.std.specs.Prelude.{◌≡◌, ◌≤◌, [], true, false, length, IfOk, IfSome, IsOkAnd};
 ghost use Rattle.poll_rounds.specs.Closed.{IsKept};
-ghost use Rattle.poll_rounds.specs.Folders.{IsTree, shown};
+ghost use Rattle.poll_rounds.specs.Folders.{IsTree, reachable};
 ghost use Rattle.poll_listing.specs.Changes.{changes};
-ghost use Rattle.poll_listing.specs.Moves.{told_changes, trackers_after};
+ghost use Rattle.poll_listing.specs.Moves.{reported_changes, trackers_after};
 ghost use Rattle.poll_listing.specs.Updates.{IsUpdate, updated};
 ghost use Rattle.poll_rounds.specs.Rounds.{HandsEach, HandsError, HandsRefusal};
 
@@ -45,13 +45,14 @@ pub(crate) fn pass_on<A: Allocator + Copy, H: EventHandler<Result<Event<A>, Erro
     requires update { IfOk found (λ updates. IsUpdate last.old updates.entries) }
     ensures again { H.ready handler.new }
     ensures given { result ≡ true →
-        HandsEach H.handles (told_changes trackers.old last.old last.new) handler.old handler.new }
+        HandsEach H.handles (reported_changes trackers.old last.old last.new) handler.old
+        handler.new }
     ensures kept { result ≡ true → IsOkAnd found (λ updates.
         IsKept closed.now last.old (updated last.old updates.entries) last.new) }
     ensures whole { closed.now ≡ [] → result ≡ true → IsOkAnd found (λ updates.
         last.new ≡ updated last.old updates.entries) }
     ensures trackers { result ≡ true → trackers.new ≡ trackers_after trackers.old
-        (length (told_changes trackers.old last.old last.new)) }
+        (length (reported_changes trackers.old last.old last.new)) }
     ensures untold { result ≡ false → trackers.new ≡ trackers.old }
     ensures unchanged { result ≡ false → last.new ≡ last.old }
     ensures refused { result ≡ false → HandsError H.handles found handler.old handler.new }
@@ -85,7 +86,7 @@ pub fn poll_round<A: Allocator + Copy, D: Folders<A>, H: EventHandler<Result<Eve
     ensures given { result ≡ true →
         HandsEach H.handles (changes last.old last.new) handler.old handler.new }
     ensures shown { IfSome (D.told folders.old) (λ tree. IsTree tree → result ≡ true → last.new
-        ≡ shown tree roots.now) }
+        ≡ reachable tree roots.now) }
     ensures unchanged { result ≡ false → last.new ≡ last.old }
     ensures refused { result ≡ false →
         HandsRefusal H.handles (D.failed folders.old) (D.failed folders.new) handler.old

@@ -10,7 +10,7 @@ ghost use Rattle.notify_paths.specs.Path.{PathValue};
 ghost use Rattle.debounce_model.specs.Honest.{has_folders};
 ghost use Rattle.poll_listing.specs.Listing.{has_entry, is_nonempty};
 ghost use Rattle.poll_listing.specs.Updates.{IsUpdate, updated};
-ghost use Rattle.poll_rounds.specs.Folders.{Adds, IsRefusal, IsTree, NamesOf, reaches, shown, shows};
+ghost use Rattle.poll_rounds.specs.Folders.{Adds, IsRefusal, IsTree, NamesOf, reaches, reachable, shows};
 
 use crate::beside::Beside;
 use crate::entries::Entries;
@@ -29,7 +29,7 @@ pub fn list<A: Allocator + Copy, D: Folders<A>>(
     roots: &[(PathBuf<A>, RecursiveMode)],
 ) -> Result<Listing<A>, Error<A>>
     ensures shown { IfSome (D.told folders.old) (λ tree. IsTree tree →
-        IfOk result (λ r. r ≡ shown tree roots.now)) }
+        IfOk result (λ r. r ≡ reachable tree roots.now)) }
     ensures same { D.told folders.new ≡ D.told folders.old }
     ensures counted { D.failed folders.old ≤ D.failed folders.new }
     ensures err { IfErr result (λ e. IsRefusal e (D.failed folders.old) (D.failed folders.new)) }
@@ -47,7 +47,7 @@ pub(crate) fn list_beside<A: Allocator + Copy, D: Folders<A>>(
     last: &Listing<A>,
 ) -> Result<Updates<A>, Error<A>>
     ensures shown { IfSome (D.told folders.old) (λ tree. IsTree tree →
-        IfOk result (λ updates. updated last.now updates.entries ≡ shown tree roots.now)) }
+        IfOk result (λ updates. updated last.now updates.entries ≡ reachable tree roots.now)) }
     ensures update { IfOk result (λ updates. IsUpdate last.now updates.entries) }
     ensures same { D.told folders.new ≡ D.told folders.old }
     ensures counted { D.failed folders.old ≤ D.failed folders.new }

@@ -11,9 +11,9 @@ use Rattle.notify_watch.specs.declared.config.Config.{Config}
 use Rattle.poll_listing.specs.Listing.{IsListing, ListingValue}
 use Rattle.poll_rounds.proofs.ReportLemmas.{begins, called-step, goes_on}
 use Rattle.poll_rounds.specs.Closed.{ClosedValue}
-use Rattle.poll_rounds.specs.Reports.{Reported, Tells}
+use Rattle.poll_rounds.specs.Reports.{Reported, ReportsChanges}
 use Rattle.poll_watcher.proofs.RootsLemmas.SaidLemmas.{called-round, reported-round}
-use Rattle.poll_watcher.specs.Roots.Said.{TellsAndSays}
+use Rattle.poll_watcher.specs.Roots.Said.{ReportsWithErrors}
 use Rattle.poll_watcher.specs.Work.{FindsTree, IsUnbegun, LedToOwn, ReportsFromNothing, Works, WorksLast, exchanged, last_of}
 
 -- the handler is called, and what was reported leads on from the one listing to the other
@@ -24,7 +24,7 @@ pub record Leads {H : Type 0} (handles : H → Result EventValue ErrorValue → 
 
 -- a step does so
 pub step : {H : Type 0} (handles : H → Result EventValue ErrorValue → H → Type 0) (trackers : Option ℕ)
-    (old new : ListingValue) (before after : H) → IsListing new → Tells handles trackers old new before after →
+    (old new : ListingValue) (before after : H) → IsListing new → ReportsChanges handles trackers old new before after →
     Leads handles old new before after
 step handles trackers old new before after law tells = record {
   called = called-step handles trackers old new before after tells;
@@ -34,8 +34,8 @@ step handles trackers old new before after law tells = record {
 -- .. and a round, that went well or not
 pub round : {H : Type 0} (handles : H → Result EventValue ErrorValue → H → Type 0) (trackers : Option ℕ)
     (old new : ListingValue) (closed : ClosedValue) (before after : H) (went_well : Bool) → IsListing new →
-    (went_well ≡ true → TellsAndSays handles trackers old new closed before after) →
-    (went_well ≡ false → Tells handles trackers old new before after) → Leads handles old new before after
+    (went_well ≡ true → ReportsWithErrors handles trackers old new closed before after) →
+    (went_well ≡ false → ReportsChanges handles trackers old new before after) → Leads handles old new before after
 round handles trackers old new closed before after true law said told = record {
   called = called-round handles trackers old new closed before after (said refl);
   leads = λ begun reported. reported-round handles begun trackers old new closed before after law reported (said refl);

@@ -16,8 +16,8 @@ until None now other = other
 until (Some moment) now other = instant_nanos moment - now
 
 -- how long it is until the next round: the interval's, or the one that follows a hint, if that comes first
-abbrev pub left_until : Option Instant → Option Instant → ℕ → ℕ → ℕ
-left_until due echo interval now = min (until due now interval) (until echo now (until due now interval))
+abbrev pub time_to_round : Option Instant → Option Instant → ℕ → ℕ → ℕ
+time_to_round due echo interval now = min (until due now interval) (until echo now (until due now interval))
 
 -- how long after a hint its round is made, after a round that took so long: twenty times that, a second at least
 abbrev pub echo_of : ℕ → ℕ

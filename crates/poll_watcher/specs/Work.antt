@@ -8,7 +8,7 @@ use Rattle.notify_watch.specs.Handler.{IsCalledOn}
 use Rattle.notify_watch.specs.declared.config.Config.{Config}
 use Rattle.poll_listing.specs.Listing.{ListingValue}
 use Rattle.poll_rounds.specs.Reports.{Reported}
-use Rattle.poll_watcher.specs.Roots.Polled.{Shows}
+use Rattle.poll_watcher.specs.Roots.Polled.{IsFullListing}
 
 -- what was found last: the thread's own listing, if it has one, and else that under the lock
 abbrev pub last_of : Option ListingValue → ListingValue → ListingValue
@@ -60,4 +60,4 @@ EndsPolling handles begun config now found =
 
 -- a round that went well found what the tree shows at the roots, if there is one
 abbrev pub FindsTree : Option ListingValue → Bool → List (PathValue × RecursiveMode) → ListingValue → Type 0
-FindsTree tree went_well roots found = went_well ≡ true → Shows tree roots found
+FindsTree tree went_well roots found = went_well ≡ true → IsFullListing tree roots found

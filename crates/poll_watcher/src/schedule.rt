@@ -2,7 +2,7 @@
 ghost use Rattle.std.specs.Prelude.{◌≡◌, ◌⊎◌, ◌↔◌, ◌^◌, ◌-◌, max, true, false, None, IsSome, IfSome};
 ghost use Rattle.std.specs.Duration.{as_nanos};
 ghost use Rattle.std.specs.Time.{instant_nanos};
-ghost use Rattle.poll_watcher.specs.Schedule.{HasCome, IsAfter, echo_of, left_until, until};
+ghost use Rattle.poll_watcher.specs.Schedule.{HasCome, IsAfter, echo_of, time_to_round, until};
 
 use std::time::{Clock, Duration, Instant};
 
@@ -59,7 +59,7 @@ impl Schedule {
 
     /// How long it is from now until the next whole round.
     fn left_at(&self, now: Instant) -> Duration
-        ensures left { as_nanos result ≡ left_until self.now.due self.now.echo
+        ensures left { as_nanos result ≡ time_to_round self.now.due self.now.echo
             (as_nanos self.now.interval) (instant_nanos now) }
     {
         let left = until(self.due, now).unwrap_or(self.interval);
@@ -77,7 +77,7 @@ impl Schedule {
     /// Whether it is time for a whole round now.
     fn is_due_at(&self, now: Option<Instant>) -> bool
         ensures unread { now ≡ None → result ≡ true }
-        ensures due { IfSome now (λ n. (result ≡ true) ↔ (left_until self.now.due self.now.echo
+        ensures due { IfSome now (λ n. (result ≡ true) ↔ (time_to_round self.now.due self.now.echo
             (as_nanos self.now.interval) (instant_nanos n) ≡ 0)) }
     {
         match now {

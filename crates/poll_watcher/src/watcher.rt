@@ -37,7 +37,7 @@ use std::time::{Clock, Duration, Instant};
 /// Its thread waits the interval of its [`Config`] between two rounds, a millisecond at least. While a
 /// round lasts, with the calls of the handler, `watch` and `unwatch` wait.
 ///
-/// With [`Config::with_closed_kept`] what was shown at a path that can't be looked at, and below it, is kept, and the
+/// With [`Config::with_unreadable_unchanged`] what was shown at a path that can't be looked at, and below it, is kept, and the
 /// rest is reported as always. A round hands the handler an error with this path, once, and again if the cause changed or
 /// the path was open meanwhile. A closed folder that is new is shown, and nothing below it. The first listing of a path
 /// keeps nothing, since nothing was shown: the first round says what is closed there.
@@ -639,7 +639,7 @@ impl<R: Wait + Copy + Drop, A: Allocator + Copy> PollWatcher<R, A> {
     /// listings of the paths that `watch` and `watch_listed` took as known since. A name counts for each watched
     /// path that would show it. What is looked at by hints and a round that is refused leave the number as it
     /// was. Until the first round with [`Config::with_initial_events`] it is 0. The call waits for no round.
-    pub fn names_left_out(&self) -> u64 {
+    pub fn names_skipped(&self) -> u64 {
         self.shared.left_out.load(Ordering::SeqCst)
     }
 
@@ -652,7 +652,7 @@ impl<R: Wait + Copy + Drop, A: Allocator + Copy> PollWatcher<R, A> {
     }
 
     /// Returns what tells, also after the watcher has ended, how many paths its last round that went well couldn't look
-    /// at, of which what was shown is kept: with [`Config::with_closed_kept`], and else none.
+    /// at, of which what was shown is kept: with [`Config::with_unreadable_unchanged`], and else none.
     pub fn closed_count(&self) -> Result<ClosedCount<A>, Error<A>>
         ensures { IfErr result (λ e. e ≡ out_of_memory) }
     {
@@ -736,7 +736,7 @@ impl<R: Wait + Copy + Drop, A: Allocator + Copy> PollWatcher<R, A> {
         ensures { result.numbers ≡ self.now.config.moves }
     {
         let mut folders = self.folders();
-        if self.config.closed_kept() {
+        if self.config.unreadable_unchanged() {
             folders.note_closed();
         }
         folders

@@ -70,8 +70,8 @@ abbrev pub watching_line : List ℕ → List ℕ → List ℕ
 watching_line program watched = program ++ (codes ": watching " ++ (watched ++ (10 ∷ [])))
 
 -- the line of a program that leaves out so many names; there is none if it leaves out none
-abbrev pub left_out_line : List ℕ → ℕ → List ℕ
-left_out_line program names =
+abbrev pub names_skipped_line : List ℕ → ℕ → List ℕ
+names_skipped_line program names =
     if names == 0 then []
     else (if names == 1 then program ++ codes ": 1 name is not UTF-8 and is left out\n"
     else program ++ (codes ": " ++ (decimal names ++ codes " names are not UTF-8 and are left out\n")))

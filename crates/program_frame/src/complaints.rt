@@ -3,7 +3,7 @@ ghost use Rattle.std.specs.Prelude.{◌≡◌, ◌||◌, ◌==◌, true, false, 
 ghost use Rattle.program_frame.specs.Faults.{said_fault};
 
 use crate::closed::ClosedPaths;
-use crate::ends::{write_left_out, write_too_deep};
+use crate::ends::{write_names_skipped, write_too_deep};
 use crate::fault::Fault;
 use std::io::Write;
 
@@ -68,7 +68,7 @@ impl<'n, E: Write + Drop> Complaints<'n, E> {
         fault.say_watched(self.program, folder, &mut self.err)
     }
 
-    /// Says by [`write_left_out`] how many names are left out, the first time that any is.
+    /// Says by [`write_names_skipped`] how many names are left out, the first time that any is.
     pub fn leave_out(&mut self, names: u64)
         ensures none { names ≡ 0 → self.new ≡ self.old }
         ensures once { self.old.has_left_out ≡ true → self.new ≡ self.old }
@@ -80,7 +80,7 @@ impl<'n, E: Write + Drop> Complaints<'n, E> {
         }
         self.has_left_out = true;
         // If the line can't be written, there is nobody to tell.
-        let _ = write_left_out(names, self.program, &mut self.err);
+        let _ = write_names_skipped(names, self.program, &mut self.err);
     }
 
     /// Says by [`write_too_deep`] how many folders aren't looked into, the first time that any isn't.

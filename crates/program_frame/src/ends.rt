@@ -1,7 +1,7 @@
 //! What a program says on standard error, and how it ends.
 ghost use Rattle.std.specs.Prelude.{◌≡◌, [], OnOk};
 ghost use Rattle.std.specs.Io.KnownBytes.{Appends};
-ghost use Rattle.program_frame.specs.Faults.{end_status, left_out_line, too_deep_line, watching_line};
+ghost use Rattle.program_frame.specs.Faults.{end_status, names_skipped_line, too_deep_line, watching_line};
 
 use crate::fault::Fault;
 use crate::field::push_field;
@@ -89,10 +89,10 @@ pub fn write_too_deep<E: Write>(folders: u64, program: &str, err: &mut E) -> io:
 }
 
 /// Writes how many names are left out, if any is: `NAME: 3 names are not UTF-8 and are left out`.
-pub fn write_left_out<E: Write>(names: u64, program: &str, err: &mut E) -> io::Result<()>
+pub fn write_names_skipped<E: Write>(names: u64, program: &str, err: &mut E) -> io::Result<()>
     ensures none { names ≡ 0 → E.contents err.new ≡ E.contents err.old }
     ensures line { OnOk result (Appends (E.contents err.old) (E.contents err.new)
-        (left_out_line program.now names)) }
+        (names_skipped_line program.now names)) }
 {
     if names == 0 {
         return Ok(());

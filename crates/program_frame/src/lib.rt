@@ -33,7 +33,9 @@ mod words;
 pub use crate::pace::{HintWords, Pace, hints_of, milliseconds_of, number_of, pace_of};
 pub use closed::ClosedPaths;
 pub use complaints::Complaints;
-pub use ends::{end, write_errors, write_left_out, write_missed, write_too_deep, write_watching};
+pub use ends::{
+    end, write_errors, write_missed, write_names_skipped, write_too_deep, write_watching,
+};
 pub use fault::Fault;
 pub use field::push_field;
 pub use output::write_now;

@@ -13,5 +13,5 @@ mod taker;
 pub use batch_taker::BatchTaker;
 pub use batches::{Places, Taken, TakesBatches};
 pub use follow::{hand_on, take_rest};
-pub use source::{Given, GivesReports, Rest};
+pub use source::{GivesReports, Rest, WaitResult};
 pub use taker::TakesReports;

@@ -8,7 +8,7 @@ use Rattle.notify_watch.specs.declared.config.Config.{Config}
 use Rattle.debounce_model.specs.PathsLaw.{read_paths}
 use Rattle.debounce_model.specs.Play.{Paths, events_of, play}
 use Rattle.debounce_model.specs.Tick.{IsOutlook}
-use Rattle.debounce_book.specs.Book.{Kept}
+use Rattle.debounce_book.specs.Book.{BookValue}
 use Rattle.debounce_book.specs.Journal.{EntryValue}
 use Rattle.debounce_book.specs.JournalLaws.{EndsInRawPaths, LosesNoChange, replies_of}
 use Rattle.debounce_lock.specs.History.{Begins, picked}
@@ -48,7 +48,7 @@ LeadsToLast made found log =
 pub record TookAllOf (s : Followed) (steps : List Step) (lost : ℕ) : Type 0 where
   pub log : History
   pub goes_on : Begins s.seen log
-  pub book : Kept NoCache
+  pub book : BookValue NoCache
   pub missed : ℕ
   pub parts : List EntryValue
   pub leads : LeadsTo book missed parts log

@@ -1,7 +1,7 @@
 //! An index of documents by their words, kept up to date by batches of file events.
 //!
 //! A [`index::DocumentIndex`] holds the words of each document, and answers which documents have a
-//! word. For a batch, read anew what its events name, and hand over what was read. A [`KeptIndex`]
+//! word. For a batch, read anew what its events name, and hand over what was read. A [`FollowingIndex`]
 //! does that, and reads again what was missing. What a batch tells as moved keeps its words, if who reads finds that
 //! it is as it was: [`Before`] has them.
 //!
@@ -24,7 +24,7 @@ mod missing;
 pub use answer::write_answer;
 pub use before::Before;
 use caseless::default_case_fold_str;
-pub use kept::{KeptIndex, ReadsDocuments, asks_anew};
+pub use kept::{FollowingIndex, ReadsDocuments, asks_anew};
 use poll_listing::Found;
 use std::alloc::{AllocError, Allocator, Global};
 use std::collections::BTreeSet;

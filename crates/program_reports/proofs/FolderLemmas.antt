@@ -4,25 +4,25 @@ use Rattle.std.specs.Prelude.{ℕ, Option, Result, Ok, Err, MatchResult, OnOk}
 use Rattle.std.specs.declared.time.Duration.{Duration}
 use Rattle.program_frame.specs.declared.pace.Pace.{Pace}
 use Rattle.program_frame.specs.declared.fault.Fault.{Fault}
-use Rattle.program_frame.specs.declared.reports.source.Given.{Given}
+use Rattle.program_frame.specs.declared.reports.source.WaitResult.{WaitResult}
 use Rattle.program_frame.specs.declared.reports.source.Rest.{Rest}
 use Rattle.program_frame.specs.Reports.Loop.{Answer, DoesAll, Follows, Gives, Program, Step, TakesRest}
 use Rattle.program_frame.proofs.ReportsLemmas.SourceLemmas.{all_said}
 use Rattle.notify_paths.specs.Path.{PathValue}
 use Rattle.notify_types.specs.declared.event.RecursiveMode.{RecursiveMode}
-use Rattle.debounce_run.specs.Turns.Running.{Shown}
+use Rattle.debounce_run.specs.Turns.Running.{RunningValue}
 use Rattle.program_reports.specs.Folders.Start.{Followed, followed}
 use Rattle.program_reports.specs.Folders.Waits.{Awaited, GivesOne}
 use Rattle.program_reports.specs.FollowsFolder.{FollowsFolder, OfReports, folder_source}
 
 -- what gives reports as a wait for a folder's does
 abbrev pub Says : Gives Awaited → Type 0
-Says gives = (s s' : Awaited) (pause : Option Duration) (given : Given) → gives s pause given s' →
+Says gives = (s s' : Awaited) (pause : Option Duration) (given : WaitResult) → gives s pause given s' →
     GivesOne s pause given s'
 
 -- the program began, and was called until it answered a fault
 pub failed_on : {P T L : Type 0} (gives : Gives Awaited) (program : Program P) → Says gives → (whole : Followed) →
-    (debouncer : Shown T L) (s s' : Awaited) → followed debouncer s ≡ whole → (p p1 p' : P) (fault : Fault) →
+    (debouncer : RunningValue T L) (s s' : Awaited) → followed debouncer s ≡ whole → (p p1 p' : P) (fault : Fault) →
     (answer : Result ℕ Fault) → program.begins p (Ok tt) p1 →
     ((steps : List Step) × DoesAll gives program steps s p1 (Err fault) s' p') → answer ≡ Err fault →
     Follows folder_source program whole p answer p'
@@ -44,7 +44,7 @@ failed_on gives program says whole debouncer s s' same p p1 p' fault answer begu
 
 -- the program began, was called until the life was over, and took what was left
 pub went_on : {P T L : Type 0} (gives : Gives Awaited) (program : Program P) → Says gives → (whole : Followed) →
-    (debouncer : Shown T L) (s s' : Awaited) → followed debouncer s ≡ whole → (p p1 p2 p' : P)
+    (debouncer : RunningValue T L) (s s' : Awaited) → followed debouncer s ≡ whole → (p p1 p2 p' : P)
     (rest : Result Rest Fault) (answer : Result ℕ Fault) → program.begins p (Ok tt) p1 →
     ((steps : List Step) × DoesAll gives program steps s p1 (Ok tt) s' p2) →
     folder_source.ends (followed debouncer s') rest → TakesRest program rest p2 answer p' →
@@ -81,7 +81,7 @@ after_both (Err fault) More Stops more stops h = stops fault h
 
 -- what no wait changes is as it was after all steps
 pub all_kept : {S P X : Type 0} (gives : Gives S) (of : S → X) (program : Program P) →
-    ((s s' : S) (pause : Option Duration) (given : Given) → gives s pause given s' → of s' ≡ of s) →
+    ((s s' : S) (pause : Option Duration) (given : WaitResult) → gives s pause given s' → of s' ≡ of s) →
     (steps : List Step) (s s' : S) (p p' : P) (answer : Answer) →
     DoesAll gives program steps s p answer s' p' → of s' ≡ of s
 all_kept gives of program keeps [] s s' p p' answer h = keeps s s' _ _ h.0

@@ -76,7 +76,7 @@ fn follow<R: DebouncerRuntime + AllocGlobal, P: TakesReports, E: Write + Drop>(
         reports.entry program.old result program.new }
 {
     program.begin()?;
-    reports.say_left_out();
+    reports.say_skipped();
     let (mut source, watch) = reports.apart();
     hand_on(&rt, &mut source, program)?;
     take_rest(watch.finish(source), program)

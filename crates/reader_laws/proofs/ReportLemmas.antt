@@ -17,9 +17,9 @@ use Rattle.debounce_model.specs.Tick.{IsOutlook}
 use Rattle.debounce_model.specs.WellFormed.{IsWellFormed}
 use Rattle.poll_listing.specs.Changes.{LeadsTo}
 use Rattle.poll_listing.specs.Listing.{ListingValue, IsListing}
-use Rattle.poll_listing.specs.Moves.{told_changes}
+use Rattle.poll_listing.specs.Moves.{reported_changes}
 use Rattle.poll_listing.proofs.MoveLemmas.{told_lead}
-use Rattle.poll_rounds.specs.Reports.{Notes, Tells, ReportAll, Reported, left_by}
+use Rattle.poll_rounds.specs.Reports.{Notes, ReportsChanges, ReportAll, Reported, left_by}
 use Rattle.poll_rounds.specs.Rounds.{HandsEach}
 use Rattle.reader_laws.proofs.ListingLemmas.{lead-append, reader_led}
 
@@ -60,10 +60,10 @@ module _ {H : Type 0} (handles : H → Result EventValue ErrorValue → H → Ty
 
   -- a step is followed by the others
   chain-step : (first next last : ListingValue) (before between : H) (after : List EventValue) (trackers : Option ℕ) →
-      IsListing first → IsListing next → Tells handles trackers first next before between →
+      IsListing first → IsListing next → ReportsChanges handles trackers first next before between →
       Chain next last (notes between) after → Chain first last (notes before) after
   chain-step first next last before between after trackers law next_law (inl each) c =
-      let told = told_changes trackers first next in
+      let told = reported_changes trackers first next in
       chain-next first next last told (notes before) (notes between) after (told_lead trackers first next law next_law)
       (noted-each told before between each) c
   chain-step first next last before between after trackers law next_law (inr (same, inl quiet)) c =

@@ -4,8 +4,8 @@ use Rattle.std.specs.Prelude.{ℕ, Option}
 use Rattle.notify_paths.specs.Errors.{ErrorValue}
 use Rattle.notify_types.specs.Event.{EventValue}
 use Rattle.poll_listing.specs.Listing.{ListingValue}
-use Rattle.poll_listing.specs.Moves.{told_changes}
-use Rattle.poll_rounds.specs.Reports.{Notes, ReportAll, Reported, Tells, left_by}
+use Rattle.poll_listing.specs.Moves.{reported_changes}
+use Rattle.poll_rounds.specs.Reports.{Notes, ReportAll, Reported, ReportsChanges, left_by}
 use Rattle.poll_rounds.specs.Rounds.{HandsEach}
 
 -- a handler's notes, where they are whole, are the events that it was given, in order
@@ -34,9 +34,9 @@ module _ {H : Type 0} (handles : H → Result EventValue ErrorValue → H → Ty
 
   -- before the step
   was_step : (trackers : Option ℕ) (old new : ListingValue) (before after : H)
-      → Tells handles trackers old new before after → whole after → whole before
+      → ReportsChanges handles trackers old new before after → whole after → whole before
   was_step trackers old new before after (inl each) kept =
-      was_each (told_changes trackers old new) before after each kept
+      was_each (reported_changes trackers old new) before after each kept
   was_step trackers old new before after (inr (same, inl quiet)) kept = subst whole quiet kept
   was_step trackers old new before after (inr (same, inr (e, refused))) kept =
       (noting.error before after e refused kept).0
@@ -57,9 +57,10 @@ module _ {H : Type 0} (handles : H → Result EventValue ErrorValue → H → Ty
 
   -- .. in each step
   step_kept : (trackers : Option ℕ) (old new : ListingValue) (before after : H)
-      → Tells handles trackers old new before after → whole after → Tells Kept trackers old new before after
+      → ReportsChanges handles trackers old new before after → whole after
+      → ReportsChanges Kept trackers old new before after
   step_kept trackers old new before after (inl each) kept =
-      inl (each_kept (told_changes trackers old new) before after each kept)
+      inl (each_kept (reported_changes trackers old new) before after each kept)
   step_kept trackers old new before after (inr (same, inl quiet)) kept = inr (same, inl quiet)
   step_kept trackers old new before after (inr (same, inr (e, refused))) kept = inr (same, inr (e, (refused, kept)))
 

@@ -1,9 +1,9 @@
--- Moments that never fall, one after the other. `clock_kept` cites these.
+-- Moments that never fall, one after the other. `moments_never_fall` cites these.
 use Rattle.std.proofs.Common.{◌≡◌, ◌∙◌, sym, ap, ℕ, ◌<◌, ◌≤◌, true, false, ◌==◌, ◌&&◌, Some, List, [], ◌∷◌, length, ◌⊎◌, inl, inr, refl, arith}
 use Rattle.std.specs.Prelude.{nat_le}
 use Rattle.std.proofs.lemmas.Bool.Decides.{nat_tests}
 use Rattle.debounce_model.specs.Command.{CommandValue, ReplyValue}
-use Rattle.reader_paths.specs.Clock.{moment_of, with_moment, moments_of, never_fall, clock_kept}
+use Rattle.reader_paths.specs.Clock.{moment_of, with_moment, moments_of, never_fall, moments_never_fall}
 
 module _ (least : ℕ) (c : CommandValue) (r : ReplyValue) (cs : List CommandValue) (rs : List ReplyValue) where
   -- a moment before the least so far falls
@@ -31,7 +31,7 @@ moments_end (c ∷ cs) rs (inr e) = ap (λ l. moments_of (c ∷ cs) l) e
 
 -- with a reply for each command the moments decide
 pub kept_by : (cs : List CommandValue) (rs : List ReplyValue) → length cs ≡ length rs →
-    clock_kept cs rs ≡ never_fall 0 (moments_of cs rs)
+    moments_never_fall cs rs ≡ never_fall 0 (moments_of cs rs)
 kept_by cs rs e =
     let same : (length cs == length rs) ≡ true = grind (arith, nat_tests) in
     rw same refl

@@ -14,7 +14,7 @@ use Rattle.debounce_model.specs.Command.{CommandValue, ReplyValue}
 use Rattle.debounce_model.specs.CommandView.{command_value, reply_value, command_values, reply_values}
 use Rattle.debounce_model.specs.Honest.{are_honest}
 use Rattle.debounce_model.specs.Play.{Paths, play, accepted}
-use Rattle.reader_paths.specs.Clock.{moment_of, moments_of, never_fall, clock_kept}
+use Rattle.reader_paths.specs.Clock.{moment_of, moments_of, never_fall, moments_never_fall}
 use Rattle.reader_paths.specs.Played.{accepted_by}
 use Rattle.reader_paths.proofs.ClockLemmas.{falls, rises, moments_end, kept_by}
 use Rattle.reader_paths.proofs.ReplyLemmas.{accepted_end, are_honest-first, play_accepted-first}
@@ -64,7 +64,7 @@ module _ {Z : Type 0} where
       ≡ never_fall 0 (moments_of (command_values commands) (reply_values replies))) where
     -- the clock is kept if no pair is left
     pub clock_ends : length commands ≡ length replies → r ≡ None →
-        true ≡ clock_kept (command_values commands) (reply_values replies)
+        true ≡ moments_never_fall (command_values commands) (reply_values replies)
     clock_ends same none =
         sym (kept_by (command_values commands) (reply_values replies) (as_long commands replies same)
         ∙ sym kept ∙ ap (never_fall least)
@@ -79,7 +79,7 @@ module _ {Z : Type 0} where
 
       -- .. it is not, if a moment comes before the last one
       pub clock_falls : length commands ≡ length replies → now < least →
-          false ≡ clock_kept (command_values commands) (reply_values replies)
+          false ≡ moments_never_fall (command_values commands) (reply_values replies)
       clock_falls same below =
           sym (kept_by (command_values commands) (reply_values replies) (as_long commands replies same)
           ∙ sym kept ∙ first ∙ falls least (command_value p.0.now) (reply_value p.1.now) (commands_left t)

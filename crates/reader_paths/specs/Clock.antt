@@ -25,5 +25,5 @@ never_fall least [] = true
 never_fall least (now ∷ moments) = nat_le least now && never_fall now moments
 
 -- each command has a reply, and the moments of the accepted events and ticks never fall
-abbrev pub clock_kept : List CommandValue → List ReplyValue → Bool
-clock_kept commands replies = (length commands == length replies) && never_fall 0 (moments_of commands replies)
+abbrev pub moments_never_fall : List CommandValue → List ReplyValue → Bool
+moments_never_fall commands replies = (length commands == length replies) && never_fall 0 (moments_of commands replies)

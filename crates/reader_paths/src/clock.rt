@@ -2,7 +2,7 @@
 ghost use Rattle.std.specs.Prelude.{◌≡◌};
 ghost use Rattle.std.specs.Option.{option_to_list};
 ghost use Rattle.debounce_model.specs.CommandView.{command_value, reply_value, command_values, reply_values};
-ghost use Rattle.reader_paths.specs.Clock.{moment_of, clock_kept};
+ghost use Rattle.reader_paths.specs.Clock.{moment_of, moments_never_fall};
 
 use debounce_model::{Command, Reply};
 use notify_types::Moment;
@@ -10,8 +10,8 @@ use std::alloc::Allocator;
 
 /// Whether each command has a reply, and the moments of the accepted events and ticks never fall. It
 /// takes no memory.
-pub fn clock_kept<A: Allocator>(commands: &[Command<A>], replies: &[Reply<A>]) -> bool
-    ensures { result ≡ clock_kept (command_values commands.now) (reply_values replies.now) }
+pub fn moments_never_fall<A: Allocator>(commands: &[Command<A>], replies: &[Reply<A>]) -> bool
+    ensures { result ≡ moments_never_fall (command_values commands.now) (reply_values replies.now) }
 {
     if commands.len() != replies.len() {
         return false;

@@ -3,7 +3,7 @@
 //!
 //! A reader of batches keeps a [`PathSet`] and plays each batch on it. [`is_honest`] says whether the
 //! events of a run are honest from a set on, which is when the reader's paths are promised to be the
-//! raw ones; [`clock_kept`] says whether its moments never fall. [`moves`] has the moves that a batch tells, and [`plan`]
+//! raw ones; [`moments_never_fall`] says whether its moments never fall. [`moves`] has the moves that a batch tells, and [`plan`]
 //! what a reader with a copy of its own does for a batch.
 //!
 //! ```text
@@ -21,6 +21,6 @@ mod path_set;
 pub mod plan;
 mod replies;
 
-pub use clock::clock_kept;
+pub use clock::moments_never_fall;
 pub use honest::is_honest;
 pub use path_set::PathSet;

@@ -17,7 +17,7 @@ ghost use Rattle.std.specs.Ordering.{nat_cmp};
 ghost use Rattle.notify_paths.specs.Errors.{out_of_memory};
 ghost use Rattle.debounce_model.specs.Play.{events_of};
 ghost use Rattle.reader_paths.specs.Moves.{AreMovesOf, LeavesPlayed, source_at, source_of};
-ghost use Rattle.reader_paths.specs.Moves.Told.{kept_from, kept_with, move_told};
+ghost use Rattle.reader_paths.specs.Moves.Told.{collected_from, collected_with, move_tracked};
 
 mod sources;
 mod told;
@@ -153,7 +153,7 @@ fn keep_moves<A: Allocator + Copy>(
     alloc: A,
     told: BTreeMap<u64, Told<A>, A>,
 ) -> Result<BTreeMap<u64, Move<A>, A>, AllocError>
-    ensures kept { IfOk result (λ moves. moves.entries ≡ kept_from [] told.entries) }
+    ensures kept { IfOk result (λ moves. moves.entries ≡ collected_from [] told.entries) }
     ensures sorted { IsStrictlySortedBy nat_cmp (keys_of told.entries) }
 {
     let mut moves = BTreeMap::new(alloc);
@@ -170,7 +170,7 @@ fn keep_move<A: Allocator + Copy>(
     told: Told<A>,
 ) -> Result<(), AllocError>
     ensures { OnOk result (moves.new.entries
-        ≡ kept_with moves.old.entries tracker (move_told told)) }
+        ≡ collected_with moves.old.entries tracker (move_tracked told)) }
 {
     if let Some(found) = told.into_move() {
         moves.insert(tracker, found)?;

@@ -7,7 +7,7 @@ use notify_types::{DebouncedEvent, Event, EventKind};
 use poll_listing::{EntryKind, FileNumber, Found};
 use program_frame::Fault;
 use program_logic::journal::{Form, Journal, Pattern, Patterns};
-use program_logic::words::{Before, KeptIndex, ReadsDocuments, Words, words_of, write_answer};
+use program_logic::words::{Before, FollowingIndex, ReadsDocuments, Words, words_of, write_answer};
 use std::alloc::Global;
 use std::collections::BTreeMap;
 use std::process::Abort;
@@ -140,7 +140,7 @@ impl Elm {
 #[test]
 fn what_moved_keeps_its_words_without_being_read(rt: HostRuntime) {
     let documents = Elm { alloc: rt.alloc() };
-    let mut kept = KeptIndex::new(rt.alloc());
+    let mut kept = FollowingIndex::new(rt.alloc());
     let first = batch(&rt, "Create(File) /w/lib/a");
     assert!(rt; kept.take_batch(&documents, first.as_slice()).is_ok());
     let moved = batch(&rt, MOVED);

@@ -6,13 +6,13 @@ ghost use Rattle.program_frame.specs.declared.fault.Fault.TheVariants.{Memory};
 use notify_paths::PathBuf;
 use notify_types::{DebouncedEvent, Event, EventKind, Flag};
 use notify_watch::DebounceEventResult;
-use program_frame::reports::{Given, GivesReports, Rest, TakesReports, hand_on, take_rest};
+use program_frame::reports::{GivesReports, Rest, TakesReports, WaitResult, hand_on, take_rest};
 use program_frame::{Fault, write_missed};
 use program_logic::config::{Follower, RealFiles, Reloader};
 use program_logic::journal::{Form, Journal, PathFilter, Pattern, Patterns, Printer};
 use program_logic::trigger::{Bursts, Trigger};
 use program_logic::words::{
-    Before, KeptIndex, ReadsDocuments, Words, asks_anew, words_of, write_answer,
+    Before, FollowingIndex, ReadsDocuments, Words, asks_anew, words_of, write_answer,
 };
 use reader_paths::plan::name_path;
 use std::alloc::Global;
@@ -28,16 +28,16 @@ const NAME: &str = "program";
 /// Gives these, one after the other, until the life is over.
 #[derive(Drop)]
 struct Script {
-    left: vec::IntoIter<Given>,
+    left: vec::IntoIter<WaitResult>,
 }
 
 impl GivesReports for Script {
     ghost gives = { λ before pause given after. Unit };
 
-    fn wait(&mut self, _pause: Option<Duration>) -> Given {
+    fn wait(&mut self, _pause: Option<Duration>) -> WaitResult {
         match self.left.next() {
             Some(given) => given,
-            None => Given::Over,
+            None => WaitResult::Over,
         }
     }
 }
@@ -64,11 +64,11 @@ fn batch<R: Abort + AllocGlobal>(rt: &R, line: &str) -> DebounceEventResult {
 }
 
 /// What a line gives: `pause`, or a batch.
-fn given<R: Abort + AllocGlobal>(rt: &R, line: &str) -> Given {
+fn given<R: Abort + AllocGlobal>(rt: &R, line: &str) -> WaitResult {
     if line == "pause" {
-        return Given::Nothing;
+        return WaitResult::Nothing;
     }
-    Given::Report(batch(rt, line))
+    WaitResult::Report(batch(rt, line))
 }
 
 /// Has the program follow what the lines give, one after the other, and take the last line's batch at the end. Three
@@ -272,7 +272,7 @@ fn all(texts: &Texts) -> Result<Vec<DebouncedEvent>, Fault> {
 }
 
 /// Asserts that the index answers this.
-fn answers<R: Abort + AllocGlobal>(rt: &R, kept: &KeptIndex, word: &str, wanted: &str) {
+fn answers<R: Abort + AllocGlobal>(rt: &R, kept: &FollowingIndex, word: &str, wanted: &str) {
     let mut out = Vec::new(rt.alloc());
     let written = write_answer(rt.alloc(), &kept.index, word, &mut out);
     assert!(rt; written.is_ok());
@@ -286,7 +286,7 @@ fn an_index_is_that_of_what_stands_there_after_a_request_to_read_anew(rt: HostRu
         alloc,
         lines: "/w/a one\n/w/b two",
     };
-    let mut kept = KeptIndex::new(alloc);
+    let mut kept = FollowingIndex::new(alloc);
     let named = all(&before).expect(&rt, "memory");
     assert!(rt; kept.take_batch(&before, named.as_slice()).is_ok());
     answers(&rt, &kept, "one", "/w/a\n");

@@ -4,7 +4,7 @@ use crate::error::{Error, ErrorKind, Result};
 use crate::event::{Event, EventAttributes, EventKind, Flag};
 use crate::look::{Stands, StandsKind};
 pub use crate::raw::Counts;
-use crate::raw::{self, Change, Handle, Number, Told, ToldEntry, ToldError};
+use crate::raw::{self, Change, Handle, Number, EventRecord, EntryRecord, ErrorRecord};
 use std::path::{Path, PathBuf};
 
 /// A debouncer without clock and threads. It stays on the thread that made it: it is neither `Send` nor `Sync`, as
@@ -300,7 +300,7 @@ impl Core {
     }
 
     fn entry(&mut self, place: usize) -> Option<Entry> {
-        let mut told = ToldEntry::default();
+        let mut told = EntryRecord::default();
         loop {
             let room = &mut self.room;
             match unsafe { raw::ndf_entry(&mut self.handle, place, &mut told, room.as_mut_ptr(), room.len()) } {
@@ -351,8 +351,8 @@ impl Core {
     }
 
     /// The event that the call tells, if there is one; a buffer that is too short grows.
-    fn event(&mut self, call: impl Fn(&mut Handle, &mut Told, *mut u8, usize) -> u32) -> Option<Emitted> {
-        let mut told = Told::default();
+    fn event(&mut self, call: impl Fn(&mut Handle, &mut EventRecord, *mut u8, usize) -> u32) -> Option<Emitted> {
+        let mut told = EventRecord::default();
         loop {
             match call(&mut self.handle, &mut told, self.room.as_mut_ptr(), self.room.len()) {
                 raw::DONE => return Some(self.event_of(&told)),
@@ -363,8 +363,8 @@ impl Core {
     }
 
     /// The error that the call tells, as `event` does.
-    fn error(&mut self, call: impl Fn(&mut Handle, &mut ToldError, *mut u8, usize) -> u32) -> Option<Error> {
-        let mut told = ToldError::default();
+    fn error(&mut self, call: impl Fn(&mut Handle, &mut ErrorRecord, *mut u8, usize) -> u32) -> Option<Error> {
+        let mut told = ErrorRecord::default();
         loop {
             match call(&mut self.handle, &mut told, self.room.as_mut_ptr(), self.room.len()) {
                 raw::DONE => return Some(self.error_of(&told)),
@@ -374,7 +374,7 @@ impl Core {
         }
     }
 
-    fn event_of(&self, told: &Told) -> Emitted {
+    fn event_of(&self, told: &EventRecord) -> Emitted {
         let mut from = 0;
         let mut text = |len: usize| {
             from += len;
@@ -402,7 +402,7 @@ impl Core {
         Emitted { event: Event { kind: EventKind::of_number(told.kind), paths, attrs }, time: told.time }
     }
 
-    fn error_of(&self, told: &ToldError) -> Error {
+    fn error_of(&self, told: &ErrorRecord) -> Error {
         let text = String::from_utf8_lossy(&self.room[..told.text]).into_owned();
         let path = String::from_utf8_lossy(&self.room[told.text..told.text + told.first]).into_owned();
         let error = Error::new(match told.kind {

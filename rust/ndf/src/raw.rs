@@ -45,7 +45,7 @@ pub struct Attributes {
 
 #[repr(C)]
 #[derive(Clone, Copy, Default)]
-pub struct Told {
+pub struct EventRecord {
     pub kind: u32,
     pub process: u32,
     pub rescan: bool,
@@ -64,7 +64,7 @@ pub struct Told {
 
 #[repr(C)]
 #[derive(Clone, Copy, Default)]
-pub struct ToldError {
+pub struct ErrorRecord {
     pub kind: u32,
     pub paths: usize,
     pub text: usize,
@@ -73,7 +73,7 @@ pub struct ToldError {
 
 #[repr(C)]
 #[derive(Clone, Copy, Default)]
-pub struct ToldEntry {
+pub struct EntryRecord {
     pub step: u32,
     pub exists: bool,
     pub known: bool,
@@ -179,16 +179,16 @@ extern "C" {
     ) -> u32;
     pub fn ndf_tick(h: *mut Handle, now: u64, count: *mut usize) -> u32;
     pub fn ndf_outlook(h: *mut Handle, count: *mut usize) -> u32;
-    pub fn ndf_next(h: *mut Handle, told: *mut Told, buf: *mut u8, room: usize) -> u32;
+    pub fn ndf_next(h: *mut Handle, told: *mut EventRecord, buf: *mut u8, room: usize) -> u32;
     pub fn ndf_errors(h: *mut Handle, count: *mut usize) -> u32;
-    pub fn ndf_next_error(h: *mut Handle, told: *mut ToldError, buf: *mut u8, room: usize) -> u32;
+    pub fn ndf_next_error(h: *mut Handle, told: *mut ErrorRecord, buf: *mut u8, room: usize) -> u32;
     pub fn ndf_journal(h: *mut Handle, on: bool) -> u32;
-    pub fn ndf_entry(h: *mut Handle, place: usize, told: *mut ToldEntry, buf: *mut u8, room: usize) -> u32;
+    pub fn ndf_entry(h: *mut Handle, place: usize, told: *mut EntryRecord, buf: *mut u8, room: usize) -> u32;
     pub fn ndf_entry_event(
         h: *mut Handle,
         place: usize,
         within: usize,
-        told: *mut Told,
+        told: *mut EventRecord,
         buf: *mut u8,
         room: usize,
     ) -> u32;
@@ -196,7 +196,7 @@ extern "C" {
         h: *mut Handle,
         place: usize,
         within: usize,
-        told: *mut ToldError,
+        told: *mut ErrorRecord,
         buf: *mut u8,
         room: usize,
     ) -> u32;

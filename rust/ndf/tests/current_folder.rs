@@ -3,7 +3,7 @@
 #![cfg(target_os = "linux")]
 mod common;
 
-use common::{Room, Told};
+use common::{Room, EventRecord};
 use ndf::{new_debouncer, EventKind, RecursiveMode};
 use std::sync::mpsc;
 use std::time::Duration;
@@ -15,7 +15,7 @@ fn a_relative_root_stays_where_it_is() {
     fs::create_dir(room.join("d")).unwrap();
     env::set_current_dir(&room.0).unwrap();
     let (sender, results) = mpsc::channel();
-    let mut told = Told::new(results);
+    let mut told = EventRecord::new(results);
     let mut debouncer = new_debouncer(Duration::from_millis(40), None, sender).unwrap();
     debouncer.watch("./d", RecursiveMode::Recursive).unwrap();
     env::set_current_dir("/").unwrap();

@@ -3,7 +3,7 @@
 #![cfg(target_os = "linux")]
 mod common;
 
-use common::{is_nobody, not_run, within, Room, Told};
+use common::{is_nobody, not_run, within, Room, EventRecord};
 use ndf::{
     new_debouncer, Config, Debouncer, ErrorKind, Event, EventKind, INotifyWatcher, RecommendedWatcher, RecursiveMode,
     Result, Watcher,
@@ -18,9 +18,9 @@ use std::thread;
 use std::time::Duration;
 use RecursiveMode::{NonRecursive, Recursive};
 
-fn started() -> (Debouncer<RecommendedWatcher>, Told) {
+fn started() -> (Debouncer<RecommendedWatcher>, EventRecord) {
     let (sender, results) = mpsc::channel();
-    (new_debouncer(Duration::from_millis(40), None, sender).unwrap(), Told::new(results))
+    (new_debouncer(Duration::from_millis(40), None, sender).unwrap(), EventRecord::new(results))
 }
 
 /// Whether this is the test of that name, run anew by the command that is made of these words; else it is run so.
@@ -85,7 +85,7 @@ fn folders_above_the_limit_are_an_error() {
     assert!(error.paths[0].starts_with(room.join("second")));
     // What failed holds no watches, so nine are left.
     make("first/below");
-    let is_said = |told: &Told| told.errors.iter().any(|error| matches!(error.kind, ErrorKind::MaxFilesWatch));
+    let is_said = |told: &EventRecord| told.errors.iter().any(|error| matches!(error.kind, ErrorKind::MaxFilesWatch));
     assert!(told.until(|told| is_said(told) && told.events.iter().any(|event| event.need_rescan())));
 }
 
@@ -233,7 +233,7 @@ fn a_root_that_is_unmounted_is_removed_and_looked_for() {
 }
 
 /// Makes a folder in each of two, and a file in it, and says whether these were told.
-fn sees(told: &mut Told, folder: &Path, name: &str) -> bool {
+fn sees(told: &mut EventRecord, folder: &Path, name: &str) -> bool {
     fs::create_dir(folder.join(name)).unwrap();
     let seen = told.until_event(EventKind::is_create, &folder.join(name));
     fs::write(folder.join(name).join("a"), "").unwrap();

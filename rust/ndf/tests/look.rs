@@ -1,7 +1,7 @@
 //! Looks: what is reported is what stands there, whatever a watcher says of it; and moves that are told as such.
 mod common;
 
-use common::{Room, Told};
+use common::{Room, EventRecord};
 use ndf::look::Looker;
 use ndf::{
     Config, CreateKind, DataChange, Event, EventKind, ModifyKind, RecursiveMode, RemoveKind, RenameMode, Result,
@@ -98,7 +98,7 @@ fn moves_are_told_as_such() {
     fs::create_dir_all(room.join("d/s")).unwrap();
     fs::write(room.join("a"), "").unwrap();
     let (sender, results) = mpsc::channel();
-    let mut told = Told::new(results);
+    let mut told = EventRecord::new(results);
     let timeout = Duration::from_millis(60);
     let config = Config::default().with_joined_renames(true);
     let mut debouncer: ndf::Debouncer<ndf::INotifyWatcher> =

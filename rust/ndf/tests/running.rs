@@ -1,7 +1,7 @@
 //! A debouncer over a folder that changes, over a watcher of one's own, and its end.
 mod common;
 
-use common::{within, Room, Told};
+use common::{within, Room, EventRecord};
 use ndf::{
     new_debouncer_opt, Config, CreateKind, DebounceEventResult, Debouncer, Event, EventHandler, EventKind, FileIdMap,
     ModifyKind, NoCache, RecursiveMode, RemoveKind, RenameMode, Result, Watcher, WatcherKind,
@@ -21,7 +21,7 @@ const TIMEOUT: Duration = Duration::from_millis(60);
 fn a_folder_that_changes_is_told() {
     let room = Room::new();
     let (sender, results) = mpsc::channel();
-    let mut told = Told::new(results);
+    let mut told = EventRecord::new(results);
     let mut debouncer = ndf::new_debouncer(TIMEOUT, None, sender).unwrap();
     debouncer.watch(&room.0, RecursiveMode::Recursive).unwrap();
     fs::create_dir(room.join("d")).unwrap();

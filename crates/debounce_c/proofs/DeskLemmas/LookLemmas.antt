@@ -182,7 +182,7 @@ same_fresh : (l m : LookerValue) → m ≡ l → IsFresh l → IsFresh m
 same_fresh l m is fresh = subst IsFresh (sym is) fresh
 
 -- what a reader begins with is closed and in order, and what was accepted and what waits lead to the known paths
-pub record IsTold (first : Paths) (events : List EventValue) (l : LookerValue) : Type 0 where
+pub record IsEventWritten (first : Paths) (events : List EventValue) (l : LookerValue) : Type 0 where
   pub sorted : IsStrictlySortedBy path_cmp first
   pub closed : is_closed first ≡ true
   pub leads : Leads first (events ++ unfed l) (keys_of l.known)
@@ -195,7 +195,7 @@ nothing_sorted = tt
 -- calls of a debouncer that was made
 pub first : (calls : List CallValue) (replies : List ReplyValue) (s t : DeskValue) → AreByLooks calls →
     IsFresh s.looker → MakesAll calls replies s t →
-    IsTold (first_paths calls) (accepted (commands_of calls) replies) t.looker
+    IsEventWritten (first_paths calls) (accepted (commands_of calls) replies) t.looker
 first [] replies s t by fresh (none, is) =
     let left : unfed s.looker ≡ [] = drop-empty s.looker.told s.looker.handed fresh.told in
     rw is (record {

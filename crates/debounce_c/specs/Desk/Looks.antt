@@ -17,7 +17,7 @@ use Rattle.poll_listing.specs.Changes.{LeadsTo}
 use Rattle.poll_listing.specs.Listing.{IsListing, ListingValue, entry_at}
 use Rattle.poll_listing.specs.Moves.{is_known}
 use Rattle.poll_listing.specs.Near.{outside}
-use Rattle.listing_looks.specs.Looks.{LookerValue, Says, ended, ended_untold, found_in, has_place, kept_in, news, said, unsaid, written_in}
+use Rattle.listing_looks.specs.Looks.{LookerValue, Says, ended, ended_silently, found_in, has_place, restored_in, news, said, unsaid, written_in}
 use Rattle.debounce_c.specs.Numbered.Numbers.{said_numbers}
 use Rattle.debounce_c.specs.Desk.Codes.{fault_code}
 use Rattle.debounce_c.specs.Desk.{DeskValue, stepped}
@@ -127,7 +127,7 @@ pub record IsEnded (l m : LookerValue) : Type 0 where
 -- the first look ended, and what was said is known
 pub record IsEndedKnown (l : LookerValue) (listing : ListingValue) (m : LookerValue) : Type 0 where
   pub first : l.begun ≡ false
-  pub is : m ≡ ended_untold l
+  pub is : m ≡ ended_silently l
   pub known : listing ≡ said l
   pub law : IsListing (said l)
 
@@ -140,7 +140,7 @@ pub record IsWrittenAt (l : LookerValue) (path : PathValue) (m : LookerValue) : 
 abbrev pub MakesLook : LookCall → LookerValue → LookerValue → Type 0
 MakesLook (Finds path found) l m = (has_place (said l) path ≡ true) × Says l (found_in (said l) path found) m
 MakesLook (Loses path) l m = Says l (outside (said l) path) m
-MakesLook (Stays path) l m = (has_place (said l) path ≡ true) × Says l (kept_in (said l) path l.known) m
+MakesLook (Stays path) l m = (has_place (said l) path ≡ true) × Says l (restored_in (said l) path l.known) m
 MakesLook (Writes path) l m = IsWrittenAt l path m
 MakesLook Begins l m = m ≡ unsaid l
 MakesLook Ends l m = IsEnded l m

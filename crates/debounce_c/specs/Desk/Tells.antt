@@ -18,9 +18,9 @@ use Rattle.debounce_c.specs.declared.desk.fault.Fault.{Fault}
 use Rattle.debounce_c.specs.declared.desk.fault.Fault.TheVariants.{TooShort}
 use Rattle.debounce_c.specs.declared.desk.records.Counts.{Counts}
 use Rattle.debounce_c.specs.declared.desk.records.Number.{Number}
-use Rattle.debounce_c.specs.declared.desk.records.Told.{Told}
-use Rattle.debounce_c.specs.declared.desk.records.ToldEntry.{ToldEntry}
-use Rattle.debounce_c.specs.declared.desk.records.ToldError.{ToldError}
+use Rattle.debounce_c.specs.declared.desk.records.EventRecord.{EventRecord}
+use Rattle.debounce_c.specs.declared.desk.records.EntryRecord.{EntryRecord}
+use Rattle.debounce_c.specs.declared.desk.records.ErrorRecord.{ErrorRecord}
 
 -- a number of 64 bits: the number, or the greatest there is
 abbrev pub word : ℕ → ℕ
@@ -59,7 +59,7 @@ written [] buf = buf
 written (text ∷ texts) buf = text ++ written texts (drop (length text) buf)
 
 -- the kind's number, the attributes, the time, the number of paths and how long the texts are
-pub record Tells (x : Timed) (t : Told) : Type 0 where
+pub record Tells (x : Timed) (t : EventRecord) : Type 0 where
   pub kind : t.kind ≡ kind_number x.event.kind
   pub process : t.process ≡ unwrap_or x.event.attrs.process_id 0
   pub rescan : t.rescan ≡ is_some x.event.attrs.flag
@@ -76,9 +76,9 @@ pub record Tells (x : Timed) (t : Told) : Type 0 where
   pub source : t.source ≡ length (unwrap_or x.event.attrs.source [])
 
 -- what a fault leaves of what is told: the lengths of the event's texts, if they don't fit, and else what was there
-abbrev pub LeavesTold : Fault → Option Timed → Told → Told → Type 0
-LeavesTold TooShort x before after = IfSome x (λ x. Tells x after)
-LeavesTold f x before after = after ≡ before
+abbrev pub LeavesEventRecord : Fault → Option Timed → EventRecord → EventRecord → Type 0
+LeavesEventRecord TooShort x before after = IfSome x (λ x. Tells x after)
+LeavesEventRecord f x before after = after ≡ before
 
 -- the number of the kind of an error
 abbrev pub error_number : ErrorKindValue → ℕ
@@ -99,16 +99,16 @@ abbrev pub error_texts : ErrorValue → List (List ℕ)
 error_texts e = kind_text e.kind ∷ text_at e.paths 0 ∷ []
 
 -- the kind's number, the number of paths and how long the texts are
-pub record TellsError (e : ErrorValue) (t : ToldError) : Type 0 where
+pub record TellsError (e : ErrorValue) (t : ErrorRecord) : Type 0 where
   pub kind : t.kind ≡ error_number e.kind
   pub paths : t.paths ≡ length e.paths
   pub text : t.text ≡ length (kind_text e.kind)
   pub first : t.first ≡ length (text_at e.paths 0)
 
 -- what a fault leaves of what is told of an error
-abbrev pub LeavesErrorTold : Fault → Option ErrorValue → ToldError → ToldError → Type 0
-LeavesErrorTold TooShort e before after = IfSome e (λ e. TellsError e after)
-LeavesErrorTold f e before after = after ≡ before
+abbrev pub LeavesErrorRecord : Fault → Option ErrorValue → ErrorRecord → ErrorRecord → Type 0
+LeavesErrorRecord TooShort e before after = IfSome e (λ e. TellsError e after)
+LeavesErrorRecord f e before after = after ≡ before
 
 -- the device of a file number, if there is one
 abbrev pub device_of : Option FileId → ℕ
@@ -209,7 +209,7 @@ error_in None j = None
 error_in (Some e) j = slice_get (errors_in e.command e.reply) j
 
 -- what was done, the attributes, how many events and errors there are and how long the path is
-pub record TellsEntry (e : EntryValue) (t : ToldEntry) : Type 0 where
+pub record TellsEntry (e : EntryValue) (t : EntryRecord) : Type 0 where
   pub step : t.step ≡ step_number e.command
   pub exists : t.exists ≡ exists_in e.command
   pub known : t.known ≡ is_some (answer_in e.reply)
@@ -222,6 +222,6 @@ pub record TellsEntry (e : EntryValue) (t : ToldEntry) : Type 0 where
   pub path : t.path ≡ length (root_text e.command)
 
 -- what a fault leaves of what is told of an entry
-abbrev pub LeavesEntryTold : Fault → Option EntryValue → ToldEntry → ToldEntry → Type 0
-LeavesEntryTold TooShort e before after = IfSome e (λ e. TellsEntry e after)
-LeavesEntryTold f e before after = after ≡ before
+abbrev pub LeavesEntryRecord : Fault → Option EntryValue → EntryRecord → EntryRecord → Type 0
+LeavesEntryRecord TooShort e before after = IfSome e (λ e. TellsEntry e after)
+LeavesEntryRecord f e before after = after ≡ before

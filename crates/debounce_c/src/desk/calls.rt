@@ -13,14 +13,14 @@ ghost use Rattle.debounce_c.specs.Desk.Answers.{Outcome};
 ghost use Rattle.debounce_c.specs.Desk.{IsAsked, IsForeseen, IsTicked, entry_at, stepped};
 ghost use Rattle.debounce_c.specs.Desk.Faults.{batch_fault, entry_fault, error_fault, errors_fault, errors_need, event_fault, event_needs, next_error_fault, next_fault, text_fault, tick_needs};
 ghost use Rattle.debounce_c.specs.Desk.Said.{error_of, event_of, id_of, mode_of};
-ghost use Rattle.debounce_c.specs.Desk.Tells.{LeavesEntryTold, LeavesErrorTold, LeavesTold, Tells, TellsEntry, TellsError, TellsNumber, entry_texts, error_in, error_texts, event_in, texts_of, written};
+ghost use Rattle.debounce_c.specs.Desk.Tells.{LeavesEntryRecord, LeavesErrorRecord, LeavesEventRecord, Tells, TellsEntry, TellsError, TellsNumber, entry_texts, error_in, error_texts, event_in, texts_of, written};
 
 use crate::desk::Desk;
 use crate::desk::entries::{error_in, event_in, tell_entry};
 use crate::desk::fault::Fault;
 use crate::desk::reading::{are_texts, error_of, event_of, is_text, is_text_if, mode_of, path_of};
-use crate::desk::records::{Attributes, Change, Number, Told, ToldEntry, ToldError};
-use crate::desk::telling::{number_told, tell, tell_error};
+use crate::desk::records::{Attributes, Change, EntryRecord, ErrorRecord, EventRecord, Number};
+use crate::desk::telling::{number_record, tell, tell_error};
 use debounce_model::FileId;
 use notify_types::RecursiveMode;
 use std::alloc::Global;
@@ -142,7 +142,7 @@ pub fn tell_number(
     }
     match path_of(alloc, bytes) {
         Ok(path) => {
-            *told = number_told(desk.number(&path));
+            *told = number_record(desk.number(&path));
             Ok(())
         }
         Err(fault) => Err(fault),
@@ -305,14 +305,14 @@ pub fn errors(desk: &mut Desk, alloc: Global, count: &mut usize) -> Result<(), F
 }
 
 /// Tells the next event.
-pub fn next(desk: &mut Desk, told: &mut Told, buf: &mut [u8]) -> Result<(), Fault>
+pub fn next(desk: &mut Desk, told: &mut EventRecord, buf: &mut [u8]) -> Result<(), Fault>
     ensures { Outcome result
         (next_fault (length buf.old) (slice_get desk.old.batch desk.old.read)) false (λ t.
         (x : Timed) × (slice_get desk.old.batch desk.old.read ≡ Some x) × Tells x told.new
         × (buf.new ≡ written (texts_of x) buf.old)
         × (t ≡ record desk.old { read = desk.old.read + 1 }))
         (λ f. (buf.new ≡ buf.old)
-        × LeavesTold f (slice_get desk.old.batch desk.old.read) told.old told.new)
+        × LeavesEventRecord f (slice_get desk.old.batch desk.old.read) told.old told.new)
         desk.old desk.new }
 {
     let Some(event) = desk.next() else {
@@ -326,14 +326,14 @@ pub fn next(desk: &mut Desk, told: &mut Told, buf: &mut [u8]) -> Result<(), Faul
 }
 
 /// Tells the next error.
-pub fn next_error(desk: &mut Desk, told: &mut ToldError, buf: &mut [u8]) -> Result<(), Fault>
+pub fn next_error(desk: &mut Desk, told: &mut ErrorRecord, buf: &mut [u8]) -> Result<(), Fault>
     ensures { Outcome result
         (next_error_fault (length buf.old) (slice_get desk.old.errors desk.old.errors_read)) false
         (λ t. (e : ErrorValue) × (slice_get desk.old.errors desk.old.errors_read ≡ Some e)
         × TellsError e told.new × (buf.new ≡ written (error_texts e) buf.old)
         × (t ≡ record desk.old { errors_read = desk.old.errors_read + 1 }))
         (λ f. (buf.new ≡ buf.old)
-        × LeavesErrorTold f (slice_get desk.old.errors desk.old.errors_read) told.old told.new)
+        × LeavesErrorRecord f (slice_get desk.old.errors desk.old.errors_read) told.old told.new)
         desk.old desk.new }
 {
     let Some(error) = desk.next_error() else {
@@ -347,12 +347,12 @@ pub fn next_error(desk: &mut Desk, told: &mut ToldError, buf: &mut [u8]) -> Resu
 }
 
 /// Tells an entry of the journal.
-pub fn entry(desk: &Desk, place: usize, told: &mut ToldEntry, buf: &mut [u8]) -> Result<(), Fault>
+pub fn entry(desk: &Desk, place: usize, told: &mut EntryRecord, buf: &mut [u8]) -> Result<(), Fault>
     ensures { Outcome result (entry_fault (length buf.old) (entry_at desk.now place)) false
         (λ t. (e : EntryValue) × (entry_at desk.now place ≡ Some e) × TellsEntry e told.new
         × (buf.new ≡ written (entry_texts e) buf.old) × (t ≡ desk.now))
         (λ f. (buf.new ≡ buf.old)
-        × LeavesEntryTold f (entry_at desk.now place) told.old told.new) desk.now desk.now }
+        × LeavesEntryRecord f (entry_at desk.now place) told.old told.new) desk.now desk.now }
 {
     let Some(entry) = desk.entry(place) else {
         return Err(Fault::AtEnd);
@@ -368,7 +368,7 @@ pub fn entry_event(
     desk: &Desk,
     place: usize,
     within: usize,
-    told: &mut Told,
+    told: &mut EventRecord,
     buf: &mut [u8],
 ) -> Result<(), Fault>
     ensures { Outcome result
@@ -376,7 +376,7 @@ pub fn entry_event(
         (λ t. (x : Timed) × (event_in (entry_at desk.now place) within ≡ Some x)
         × Tells x told.new × (buf.new ≡ written (texts_of x) buf.old) × (t ≡ desk.now))
         (λ f. (buf.new ≡ buf.old)
-        × LeavesTold f (event_in (entry_at desk.now place) within) told.old told.new)
+        × LeavesEventRecord f (event_in (entry_at desk.now place) within) told.old told.new)
         desk.now desk.now }
 {
     let Some(entry) = desk.entry(place) else {
@@ -396,7 +396,7 @@ pub fn entry_error(
     desk: &Desk,
     place: usize,
     within: usize,
-    told: &mut ToldError,
+    told: &mut ErrorRecord,
     buf: &mut [u8],
 ) -> Result<(), Fault>
     ensures { Outcome result
@@ -404,7 +404,7 @@ pub fn entry_error(
         (λ t. (e : ErrorValue) × (error_in (entry_at desk.now place) within ≡ Some e)
         × TellsError e told.new × (buf.new ≡ written (error_texts e) buf.old) × (t ≡ desk.now))
         (λ f. (buf.new ≡ buf.old)
-        × LeavesErrorTold f (error_in (entry_at desk.now place) within) told.old told.new)
+        × LeavesErrorRecord f (error_in (entry_at desk.now place) within) told.old told.new)
         desk.now desk.now }
 {
     let Some(entry) = desk.entry(place) else {

@@ -5,15 +5,15 @@ ghost use Rattle.debounce_model.specs.CommandView.{command_value, reply_value};
 ghost use Rattle.debounce_c.specs.Desk.Said.{mode_of};
 ghost use Rattle.debounce_c.specs.Desk.Tells.{TellsEntry, answer_in, batch_in, entry_texts, errors_in, events_in, exists_in, handed_in, mode_in, moment_in, root_text, step_number, timed, total, written};
 
-use crate::desk::records::ToldEntry;
-use crate::desk::telling::{number_told, put_one, word};
+use crate::desk::records::EntryRecord;
+use crate::desk::telling::{number_record, put_one, word};
 use debounce_book::Entry;
 use debounce_model::{Command, FileId, Reply};
 use notify_paths::Error;
 use notify_types::{DebouncedEvent, Event, Moment, RecursiveMode};
 
 /// Tells an entry, and writes its path to the start of the buffer, if it fits.
-pub fn tell_entry(entry: &Entry, told: &mut ToldEntry, buf: &mut [u8]) -> bool
+pub fn tell_entry(entry: &Entry, told: &mut EntryRecord, buf: &mut [u8]) -> bool
     ensures told { TellsEntry entry.now told.new }
     ensures fits { result ≡ not (nat_lt (length buf.old) (total (entry_texts entry.now))) }
     ensures written { result ≡ true → buf.new ≡ written (entry_texts entry.now) buf.old }
@@ -23,12 +23,12 @@ pub fn tell_entry(entry: &Entry, told: &mut ToldEntry, buf: &mut [u8]) -> bool
     put_one(root_text(&entry.command).as_bytes(), buf)
 }
 
-fn told_of(entry: &Entry) -> ToldEntry
+fn told_of(entry: &Entry) -> EntryRecord
     ensures { TellsEntry entry.now result }
 {
     let command = &entry.command;
-    let number = number_told(answer_in(&entry.reply));
-    ToldEntry {
+    let number = number_record(answer_in(&entry.reply));
+    EntryRecord {
         step: step_number(command),
         exists: exists_in(command),
         known: number.known,

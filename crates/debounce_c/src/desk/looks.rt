@@ -6,7 +6,7 @@ ghost use Rattle.notify_paths.specs.PathText.{parts_of};
 ghost use Rattle.notify_types.specs.Event.{EventValue};
 ghost use Rattle.poll_listing.specs.Changes.{LeadsTo};
 ghost use Rattle.poll_listing.specs.Listing.{IsListing, entry_at};
-ghost use Rattle.listing_looks.specs.Looks.{ended, ended_untold, has_place, news, said, unsaid};
+ghost use Rattle.listing_looks.specs.Looks.{ended, ended_silently, has_place, news, said, unsaid};
 ghost use Rattle.debounce_c.specs.Desk.Answers.{Outcome};
 ghost use Rattle.debounce_c.specs.Desk.Faults.{text_fault};
 ghost use Rattle.debounce_c.specs.Desk.Looks.{Ends, EndsKnown, Finds, IsFedNext, IsPlaceFault, LateOutcome, LeavesLook, Loses, Stays, TellsStands, Writes, end_fault, entry_device, entry_inode, entry_kind_of, entry_number, feed_fault, found_fault, found_of, known_fault, next_told, place_fault};
@@ -374,11 +374,11 @@ impl Desk {
     /// The first look ends, and nothing is told of it.
     fn end_known(&mut self) -> Result<(), Fault>
         ensures ok { OnOk result (self.new
-            ≡ record self.old { looker = ended_untold self.old.looker }) }
+            ≡ record self.old { looker = ended_silently self.old.looker }) }
         ensures law { OnOk result (IsListing (said self.old.looker)) }
         ensures err { IfErr result (λ f. (f ≡ NoMemory) × (self.new ≡ self.old)) }
     {
-        match self.looker.end_untold() {
+        match self.looker.end_silently() {
             Ok(()) => Ok(()),
             Err(_) => Err(Fault::NoMemory),
         }

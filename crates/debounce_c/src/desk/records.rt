@@ -32,7 +32,7 @@ pub struct Attributes {
 /// An event as C is told it, beside its texts.
 #[repr(C)]
 #[derive(Clone, Copy)]
-pub struct Told {
+pub struct EventRecord {
     pub kind: u32,
     pub process: u32,
     pub rescan: bool,
@@ -55,7 +55,7 @@ pub struct Told {
 /// An error as C is told it, beside its texts.
 #[repr(C)]
 #[derive(Clone, Copy)]
-pub struct ToldError {
+pub struct ErrorRecord {
     pub kind: u32,
     /// How many paths it has.
     pub paths: usize,
@@ -67,7 +67,7 @@ pub struct ToldError {
 /// An entry of a journal as C is told it, beside its path.
 #[repr(C)]
 #[derive(Clone, Copy)]
-pub struct ToldEntry {
+pub struct EntryRecord {
     /// The number of what was done.
     pub step: u32,
     /// Of an event: whether its first path existed, as it was fed.

@@ -5,7 +5,7 @@ ghost use Rattle.notify_paths.specs.ErrorView.{kind_value};
 ghost use Rattle.debounce_c.specs.Desk.Tells.{Tells, TellsError, TellsNumber, error_texts, kind_text, text_at, texts_of, timed, total, word, written};
 
 use crate::desk::numbers::{error_number, number_of};
-use crate::desk::records::{Number, Told, ToldError};
+use crate::desk::records::{ErrorRecord, EventRecord, Number};
 use debounce_model::FileId;
 use notify_paths::{Error, ErrorKind, PathBuf};
 use notify_types::{Event, Moment};
@@ -18,7 +18,7 @@ pub fn word(number: Moment) -> u64
 }
 
 /// What is told of a file number.
-pub fn number_told(id: Option<FileId>) -> Number
+pub fn number_record(id: Option<FileId>) -> Number
     ensures { TellsNumber id result }
 {
     match id {
@@ -36,7 +36,7 @@ pub fn number_told(id: Option<FileId>) -> Number
 }
 
 /// Tells an event of this moment, and writes its texts to the start of the buffer, if they fit.
-pub fn tell(event: &Event, time: Moment, told: &mut Told, buf: &mut [u8]) -> bool
+pub fn tell(event: &Event, time: Moment, told: &mut EventRecord, buf: &mut [u8]) -> bool
     ensures told { Tells (timed event.now time) told.new }
     ensures fits { result
         ≡ not (nat_lt (length buf.old) (total (texts_of (timed event.now time)))) }
@@ -60,7 +60,14 @@ pub fn tell(event: &Event, time: Moment, told: &mut Told, buf: &mut [u8]) -> boo
 }
 
 /// What is told of an event with these texts.
-fn told_of(event: &Event, time: Moment, first: &str, second: &str, info: &str, source: &str) -> Told
+fn told_of(
+    event: &Event,
+    time: Moment,
+    first: &str,
+    second: &str,
+    info: &str,
+    source: &str,
+) -> EventRecord
     requires first { first.now ≡ text_at event.now.paths 0 }
     requires second { second.now ≡ text_at event.now.paths 1 }
     requires info { info.now ≡ unwrap_or event.now.attrs.info [] }
@@ -68,7 +75,7 @@ fn told_of(event: &Event, time: Moment, first: &str, second: &str, info: &str, s
     ensures { Tells (timed event.now time) result }
 {
     let attrs = &event.attrs;
-    Told {
+    EventRecord {
         kind: number_of(event.kind),
         process: attrs.process_id().unwrap_or(0),
         rescan: attrs.flag().is_some(),
@@ -87,7 +94,7 @@ fn told_of(event: &Event, time: Moment, first: &str, second: &str, info: &str, s
 }
 
 /// Tells an error, and writes its texts to the start of the buffer, if they fit.
-pub fn tell_error(error: &Error, told: &mut ToldError, buf: &mut [u8]) -> bool
+pub fn tell_error(error: &Error, told: &mut ErrorRecord, buf: &mut [u8]) -> bool
     ensures told { TellsError error.now told.new }
     ensures fits { result ≡ not (nat_lt (length buf.old) (total (error_texts error.now))) }
     ensures written { result ≡ true → buf.new ≡ written (error_texts error.now) buf.old }
@@ -95,7 +102,7 @@ pub fn tell_error(error: &Error, told: &mut ToldError, buf: &mut [u8]) -> bool
 {
     let text = kind_text(&error.kind);
     let first = text_at(error.paths.as_slice(), 0);
-    *told = ToldError {
+    *told = ErrorRecord {
         kind: error_number(&error.kind),
         paths: error.paths.len(),
         text: text.len(),

@@ -2,7 +2,7 @@
 use Rattle.std.proofs.Common.{◌≡◌, inl, inr, ℕ, ◌+◌, min, ◌-◌, ◌^◌, Bool, true, false, if◌then◌else◌, List, [], ◌∷◌, ◌++◌, sym, refl, ap, ◌∙◌, subst, append_assoc, append-nil, arith}
 use Rattle.debounce_lock.specs.declared.hand.Hand.{Hand}
 use Rattle.debounce_lock.specs.History.{MayGive}
-use Rattle.debounce_lock.specs.Rights.{told_by_one}
+use Rattle.debounce_lock.specs.Rights.{reserved_for_one}
 use Rattle.debounce_lock.proofs.Moves.{begins_self}
 use Rattle.debounce_lock.specs.Reports.Queue.{Calls, Queues, lost_in, put_in}
 
@@ -77,7 +77,7 @@ Call T = T × Bool
 module _ {T X : Type 0} (leads : X → Calls T → Calls T → Type 0) where
   -- the lock may have the value back with nothing done
   pub may_rest : (v : Hand (Call T)) (l : X) → v.holds ≡ true → leads l v.taken v.seen
-      → MayGive leads told_by_one (λ before taken x after now. (after ≡ before) × (now ≡ taken)) v l
+      → MayGive leads reserved_for_one (λ before taken x after now. (after ≡ before) × (now ≡ taken)) v l
   may_rest v l holds stands = record {
     log = v.seen;
     taken = v.taken;
@@ -92,7 +92,7 @@ module _ {T X : Type 0} (leads : X → Calls T → Calls T → Type 0) where
   -- .. with one report less
   pub may_come : (change : Calls T → Calls T → X → Calls T → Calls T → Type 0) (v : Hand (Call T)) (l : X) (e : Call T)
       → v.holds ≡ true → v.keeps ≡ true → leads l (v.taken ++ e ∷ []) v.seen
-      → change v.seen v.taken l v.seen (v.taken ++ e ∷ []) → MayGive leads told_by_one change v l
+      → change v.seen v.taken l v.seen (v.taken ++ e ∷ []) → MayGive leads reserved_for_one change v l
   may_come change v l e holds keeps stands makes = record {
     log = v.seen;
     taken = v.taken ++ e ∷ [];

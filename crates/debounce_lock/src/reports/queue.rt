@@ -7,7 +7,7 @@ use crate::hand::{Pass, Unchanged};
 use crate::lock::Lock;
 use crate::reports::queued::{ByDone, Done, Put, Queued};
 use crate::reports::sender::ReportSender;
-use crate::shown::Shown;
+use crate::witness::Witness;
 use crossbeam_channel::{Receiver, RecvTimeoutError, TryRecvError, unbounded};
 use std::alloc::{AllocError, Allocator, Global};
 use std::collections::VecDeque;
@@ -170,7 +170,7 @@ impl<T: Drop, A: Allocator> ReportQueue<T, A> {
         let (guard, mut held) = lock.take(rt, pass);
         match held.queue.pop_front() {
             Some(report) => {
-                held.done = Done::CameOut(Shown::of(&report));
+                held.done = Done::CameOut(Witness::of(&report));
                 lock.give::<ByDone>(guard, pass, held);
                 Some(report)
             }

@@ -1,8 +1,8 @@
 //! What lies under the lock of a queue, and what is done to it there.
 ghost use Rattle.std.specs.Prelude.{◌≡◌, ◌++◌, ◌∷◌, [], ◌^◌, ◌-◌, ◌+◌, min, true, false, if◌then◌else◌};
 
-use crate::hand::{Change, Told};
-use crate::shown::Shown;
+use crate::hand::{Change, HasHistory};
+use crate::witness::Witness;
 use crossbeam_channel::Sender;
 use std::alloc::Allocator;
 use std::collections::VecDeque;
@@ -27,21 +27,21 @@ pub(crate) enum Done<T> {
     /// Nothing that clauses speak of.
     Nothing,
     /// This was to be put in, and it was or it wasn't.
-    PutIn(Shown<T>, bool),
+    PutIn(Witness<T>, bool),
     /// This came out.
-    CameOut(Shown<T>),
+    CameOut(Witness<T>),
 }
 
-impl<T: Drop, A: Allocator> Told<Put<T>> for Queued<T, A> {
+impl<T: Drop, A: Allocator> HasHistory<Put<T>> for Queued<T, A> {
     ghost use Rattle.std.specs.Prelude.{[]};
-    ghost use Rattle.debounce_lock.specs.Rights.{told_by_one};
+    ghost use Rattle.debounce_lock.specs.Rights.{reserved_for_one};
     ghost use Rattle.debounce_lock.specs.Reports.Queue.{Queues};
 
     ghost begins = { λ _. [] };
 
     ghost stands = { λ l out log. Queues l.queue.items l.unsent out log };
 
-    ghost told = { told_by_one };
+    ghost reserved = { reserved_for_one };
 }
 
 /// The history goes on by what was done.

@@ -4,7 +4,7 @@ ghost use Rattle.std.specs.Prelude.{◌≡◌, ◌++◌, ◌∷◌, []};
 use crate::hand::Pass;
 use crate::lock::Lock;
 use crate::reports::queued::{ByDone, Done, Put, Queued, counted, put};
-use crate::shown::Shown;
+use crate::witness::Witness;
 use crossbeam_channel::Sender;
 use std::alloc::{Allocator, Global};
 use std::marker::Model;
@@ -42,7 +42,7 @@ impl<T: Drop, A: Allocator> ReportSender<T, A> {
     {
         let ReportSender { lock, pass, bell } = self;
         let (guard, mut held) = lock.take(rt, pass);
-        let shown = Shown::of(&report);
+        let shown = Witness::of(&report);
         let is_put_in = put(rt, &mut held.queue, bell, report);
         held.unsent = counted(held.unsent, is_put_in);
         held.done = Done::PutIn(shown, is_put_in);

@@ -7,15 +7,15 @@ use Rattle.notify_types.specs.Event.{EventValue, Timed}
 use Rattle.debounce_model.specs.Cache.{Rules}
 use Rattle.debounce_model.specs.Command.{CommandValue, ErrorsCommand, ReplyValue, ErrorsReply}
 use Rattle.debounce_model.specs.declared.file_id.FileId.{FileId}
-use Rattle.debounce_book.specs.Book.{Kept, fed_command, fed_reply, kept_entries, parted, written}
+use Rattle.debounce_book.specs.Book.{BookValue, fed_command, fed_reply, stored_entries, parted, written}
 use Rattle.debounce_book.specs.Journal.{EntryValue}
 use Rattle.debounce_lock.specs.declared.hand.Hand.{Hand}
-use Rattle.debounce_lock.specs.History.{Begins, has, picked, beside, MayGive, Took, Gave}
+use Rattle.debounce_lock.specs.History.{Begins, has, picked, compared_with, MayGive, Took, Gave}
 use Rattle.debounce_lock.specs.Rights.{Right, Emits, Feeds}
 use Rattle.debounce_lock.proofs.Moves.{begins_self, begins_trans}
 use Rattle.debounce_run.specs.declared.access.locked.Locked.{Locked}
 use Rattle.debounce_run.specs.Access.Adds.{Adds, AddsTick, BatchMakes, CommandMakes, Does, FedMakes, FedNow, FeedsItem, FeedsOn, GainsFed, GainsOne, GainsTick, Makes, MayRead, TickMakes}
-use Rattle.debounce_run.specs.Access.Happened.{HappenedValue, History, Missed, accepted, entries_of, is_emitting, is_fed, journal_of, told_as}
+use Rattle.debounce_run.specs.Access.Happened.{HappenedValue, History, Missed, accepted, entries_of, is_emitting, is_fed, journal_of, reserved_for}
 use Rattle.debounce_run.specs.Access.Stands.{GoesOn, HasAllEmitted, Known, Lasts, LeadsTo, Reach, Stands}
 use Rattle.debounce_run.specs.Access.Taken.{TakesAll, all_out}
 use Rattle.debounce_run.specs.Turns.Ended.{IsHistory}
@@ -28,7 +28,7 @@ reach_of id v =
 
 -- what there is no right for, or the pass has it
 abbrev pub IsQuiet : Hand HappenedValue → History → Type 0
-IsQuiet v hs = (right : Right) → (has right v ≡ true) ⊎ (picked (told_as right) hs ≡ [])
+IsQuiet v hs = (right : Right) → (has right v ≡ true) ⊎ (picked (reserved_for right) hs ≡ [])
 
 pub feeds_quiet : (v : Hand HappenedValue) (hs : History) → v.feeds ≡ true → picked is_emitting hs ≡ []
     → IsQuiet v hs
@@ -46,7 +46,7 @@ module _ {C A : Type 0} {r : Rules C} where
   -- with what happened by what was done
   pub may_go : (v : Hand HappenedValue) (l : Locked C A) (hs : History) → v.holds ≡ true → Makes l.made.value hs
       → Stands r l.book.value l.missed v.taken (v.seen ++ hs) → IsQuiet v hs
-      → MayGive (StandsIn r) told_as (λ before out l after now. Does l.made.value before out after now) v l
+      → MayGive (StandsIn r) reserved_for (λ before out l after now. Does l.made.value before out after now) v l
   may_go v l hs holds makes stands quiet = record {
     log = v.seen ++ hs;
     taken = v.taken;
@@ -55,14 +55,14 @@ module _ {C A : Type 0} {r : Rules C} where
     stands = stands;
     makes = (refl, hs, makes, refl);
     keeps = inr refl;
-    tells = λ right. ⊎_elim (λ (t : has right v ≡ true). inl t) (λ (q : picked (told_as right) hs ≡ []). inr
-        (picked_append (told_as right) v.seen hs ∙ ap (λ l. picked (told_as right) v.seen ++ l) q
-        ∙ append-nil (picked (told_as right) v.seen))) (quiet right);
+    tells = λ right. ⊎_elim (λ (t : has right v ≡ true). inl t) (λ (q : picked (reserved_for right) hs ≡ []). inr
+        (picked_append (reserved_for right) v.seen hs ∙ ap (λ l. picked (reserved_for right) v.seen ++ l) q
+        ∙ append-nil (picked (reserved_for right) v.seen))) (quiet right);
   }
 
   -- as it was
   pub may_stay : (v : Hand HappenedValue) (l : Locked C A) → v.holds ≡ true → StandsIn r l v.taken v.seen
-      → MayGive (StandsIn r) told_as (λ before taken x after now. (after ≡ before) × (now ≡ taken)) v l
+      → MayGive (StandsIn r) reserved_for (λ before taken x after now. (after ≡ before) × (now ≡ taken)) v l
   may_stay v l holds stands = record {
     log = v.seen;
     taken = v.taken;
@@ -75,24 +75,24 @@ module _ {C A : Type 0} {r : Rules C} where
   }
 
   -- .. also after it was compared with another
-  pub may_stay_beside : (v other w : Hand HappenedValue) (l : Locked C A) → w ≡ beside v other → v.holds ≡ true
-      → StandsIn r l v.taken v.seen → MayGive (StandsIn r) told_as (λ before taken x after now. (after ≡ before)
+  pub may_stay_beside : (v other w : Hand HappenedValue) (l : Locked C A) → w ≡ compared_with v other → v.holds ≡ true
+      → StandsIn r l v.taken v.seen → MayGive (StandsIn r) reserved_for (λ before taken x after now. (after ≡ before)
       × (now ≡ taken)) w l
   may_stay_beside v other w l same holds stands =
-      subst (λ (x : Hand HappenedValue). MayGive (StandsIn r) told_as (λ before taken x after now. (after ≡ before)
-      × (now ≡ taken)) x l) (sym same) (may_stay (beside v other) l holds stands)
+      subst (λ (x : Hand HappenedValue). MayGive (StandsIn r) reserved_for (λ before taken x after now. (after ≡ before)
+      × (now ≡ taken)) x l) (sym same) (may_stay (compared_with v other) l holds stands)
 
   -- with all entries taken out
-  pub may_take : (v : Hand HappenedValue) (l : Locked C A) (old : Kept C) → v.holds ≡ true → v.keeps ≡ true
+  pub may_take : (v : Hand HappenedValue) (l : Locked C A) (old : BookValue C) → v.holds ≡ true → v.keeps ≡ true
       → Stands r old l.missed v.taken v.seen → l.book.value ≡ parted old
-      → MayGive (StandsIn r) told_as (λ before out l after now. TakesAll l.book.value before out after now) v l
+      → MayGive (StandsIn r) reserved_for (λ before out l after now. TakesAll l.book.value before out after now) v l
   may_take v l old holds keeps stands same = record {
     log = v.seen;
-    taken = all_out (kept_entries l.book.value) v.taken v.seen;
+    taken = all_out (stored_entries l.book.value) v.taken v.seen;
     holds = holds;
     goes_on = begins_self v.seen;
-    stands = subst (λ (k : Kept C). Stands r k l.missed (all_out (kept_entries k) v.taken v.seen) v.seen) (sym same)
-        (parted_stands old l.missed v.taken v.seen stands).0;
+    stands = subst (λ (k : BookValue C). Stands r k l.missed (all_out (stored_entries k) v.taken v.seen) v.seen)
+        (sym same) (parted_stands old l.missed v.taken v.seen stands).0;
     makes = (refl, refl);
     keeps = inl keeps;
     tells = λ right. inr refl;
@@ -100,7 +100,7 @@ module _ {C A : Type 0} {r : Rules C} where
 
   pub goes_on_by : (change : History → History → Locked C A → History → History → Type 0) (a b : TableId)
       (u v w : Hand HappenedValue) (x y : Locked C A) → b ≡ a
-      → Took (StandsIn r) told_as u x v → Gave (StandsIn r) change v y w → GoesOn (reach_of a u) (reach_of b w)
+      → Took (StandsIn r) reserved_for u x v → Gave (StandsIn r) change v y w → GoesOn (reach_of a u) (reach_of b w)
   goes_on_by change a b u v w x y same took gave = record {
     lock = same;
     keeps = gave.keeps ∙ took.keeps;
@@ -111,7 +111,7 @@ module _ {C A : Type 0} {r : Rules C} where
 
   pub lasts_by : (change : History → History → Locked C A → History → History → Type 0) (a b : TableId)
       (u v w : Hand HappenedValue) (x y : Locked C A) → b ≡ a
-      → Took (StandsIn r) told_as u x v → Gave (StandsIn r) change v y w → w.taken ≡ v.taken
+      → Took (StandsIn r) reserved_for u x v → Gave (StandsIn r) change v y w → w.taken ≡ v.taken
       → Lasts (reach_of a u) (reach_of b w)
   lasts_by change a b u v w x y same took gave taken = (
     goes_on_by change a b u v w x y same took gave,
@@ -122,7 +122,8 @@ module _ {C A : Type 0} {r : Rules C} where
   -- the way that alone takes entries out knows at which history they were, the worker all that was emitted, and the
   -- feed all that was fed
   pub history_by : (u v : Hand HappenedValue) (x : Locked C A) (worker fed : History) → u.keeps ≡ true
-      → Took (StandsIn r) told_as u x v → Begins worker v.seen → picked is_emitting worker ≡ picked is_emitting v.seen
+      → Took (StandsIn r) reserved_for u x v → Begins worker v.seen
+      → picked is_emitting worker ≡ picked is_emitting v.seen
       → Begins fed v.seen → picked is_fed fed ≡ picked is_fed v.seen
       → (log : History) × IsHistory r u.seen fed (entries_of u.taken) x.book.value x.missed log
       × HasAllEmitted worker log
@@ -298,18 +299,18 @@ module _ {A : Type 0} where
 
 module _ {C : Type 0} {r : Rules C} where
   -- what was taken out follows what was out before
-  pub taken_out : (old new : Kept C) (count : ℕ) (out was log now : History) (items : List EntryValue)
-      → Stands r old count out log → new ≡ parted old → now ≡ all_out (kept_entries new) out log → out ≡ was → items
+  pub taken_out : (old new : BookValue C) (count : ℕ) (out was log now : History) (items : List EntryValue)
+      → Stands r old count out log → new ≡ parted old → now ≡ all_out (stored_entries new) out log → out ≡ was → items
       ≡ written old
       → entries_of now ≡ entries_of was ++ items
   taken_out old new count out was log now items stands same all first is =
-      ap entries_of (all ∙ ap (λ (k : Kept C). all_out (kept_entries k) out log) same)
+      ap entries_of (all ∙ ap (λ (k : BookValue C). all_out (stored_entries k) out log) same)
       ∙ (parted_stands old count out log stands).1 ∙ ap (λ (l : History). entries_of l ++ written old) first
       ∙ ap (λ l. entries_of was ++ l) (sym is)
 
   -- .. and with that is the journal
-  pub whole_out : (old new : Kept C) (count : ℕ) (out log now after : History) → Stands r old count out log → new
-      ≡ parted old → now ≡ all_out (kept_entries new) out log → after ≡ log → entries_of now ≡ journal_of after
+  pub whole_out : (old new : BookValue C) (count : ℕ) (out log now after : History) → Stands r old count out log → new
+      ≡ parted old → now ≡ all_out (stored_entries new) out log → after ≡ log → entries_of now ≡ journal_of after
   whole_out old new count out log now after stands same all is =
-      ap entries_of (all ∙ ap (λ (k : Kept C). all_out (kept_entries k) out log) same)
+      ap entries_of (all ∙ ap (λ (k : BookValue C). all_out (stored_entries k) out log) same)
       ∙ (parted_stands old count out log stands).2 ∙ ap journal_of (sym is)

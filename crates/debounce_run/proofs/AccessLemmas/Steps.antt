@@ -12,15 +12,15 @@ use Rattle.debounce_model.specs.Command.{CommandValue, EventCommand, ErrorComman
 use Rattle.debounce_model.specs.Run.{Step}
 use Rattle.debounce_model.specs.State.{State, Core}
 use Rattle.debounce_model.specs.Tick.{IsOutlook}
-use Rattle.debounce_book.specs.Book.{Kept, kept_entries, written, parted, with_entry, entry_of, fed_command, fed_reply, IsDone, IsNotDone, IsUnwritten, Ticks, GivesErrors, TicksBoth}
+use Rattle.debounce_book.specs.Book.{BookValue, stored_entries, written, parted, with_entry, entry_of, fed_command, fed_reply, IsDone, IsNotDone, IsUnwritten, Ticks, GivesErrors, TicksBoth}
 use Rattle.debounce_book.specs.Journal.{EntryValue, Accepts, IsLegal}
 use Rattle.debounce_book.proofs.Replay.{IsLegal-append, state-refused, Accepts-step, timeout-accepts}
 use Rattle.debounce_lock.specs.History.{Begins, picked}
 use Rattle.debounce_lock.specs.Rights.{Right, Emits, Feeds}
 use Rattle.debounce_run.specs.Access.Adds.{CommandMakes, FedMakes, BatchMakes, ErrorsMake, TickMakes}
-use Rattle.debounce_run.specs.Access.Happened.{HappenedValue, History, Missed, accepted, asks, takes, entry_in, entries_of, missed_in, is_emitting, is_nil, is_journaled, journal_of, told_as}
+use Rattle.debounce_run.specs.Access.Happened.{HappenedValue, History, Missed, accepted, asks, takes, entry_in, entries_of, missed_in, is_emitting, is_nil, is_journaled, journal_of, reserved_for}
 use Rattle.debounce_run.specs.Access.Ran.{RanTo, entry_if}
-use Rattle.debounce_run.specs.Access.Stands.{BeginsAs, IsFresh, IsRest, LeadsTo, Stands, ToldJournal, opening}
+use Rattle.debounce_run.specs.Access.Stands.{BeginsAs, IsFresh, IsRest, LeadsTo, Stands, IsCompleteJournal, opening}
 use Rattle.debounce_run.specs.Access.Taken.{all_out}
 use Rattle.debounce_run.proofs.AccessLemmas.Runs.{ran_next}
 
@@ -91,13 +91,13 @@ some_more (Some es) p e = refl
 some_more None (Some es) e = refl
 some_more None None e = refl
 
-quiet_one : (right : Right) (c : CommandValue) (y : ReplyValue) → told_as right (accepted c y) ≡ false
-    → picked (told_as right) (accepted c y ∷ []) ≡ []
+quiet_one : (right : Right) (c : CommandValue) (y : ReplyValue) → reserved_for right (accepted c y) ≡ false
+    → picked (reserved_for right) (accepted c y ∷ []) ≡ []
 quiet_one right c y quiet = ap (λ (b : Bool). if b then accepted c y ∷ [] else []) quiet
 
 -- a command for which there is no right
 neither : (c : CommandValue) (y : ReplyValue) → asks c ≡ false → takes c ≡ false → (right : Right)
-    → told_as right (accepted c y) ≡ false
+    → reserved_for right (accepted c y) ≡ false
 neither c y asked taken Emits = asked
 neither c y asked taken Feeds = taken
 
@@ -131,8 +131,8 @@ emptied k = option_map (λ es. []) k
 
 module _ {C : Type 0} where
   -- a command that is accepted adds its entry
-  done_stands : (r : Rules C) (old new : Kept C) (count : ℕ) (out log : History) (c : CommandValue) (y : ReplyValue)
-      → Stands r old count out log → Accepts old.core.state c y new.core.state
+  done_stands : (r : Rules C) (old new : BookValue C) (count : ℕ) (out log : History) (c : CommandValue)
+      (y : ReplyValue) → Stands r old count out log → Accepts old.core.state c y new.core.state
       → entry_if c y ≡ entry_of 0 c y ∷ [] → IsDone r old 0 c y new
       → Stands r new count out (log ++ accepted c y ∷ [])
   done_stands r old new count out log c y (led, ran, whole) accepts taken done =
@@ -140,7 +140,7 @@ module _ {C : Type 0} where
       let more : History = accepted c y ∷ [] in
       let timeout : new.core.state.timeout ≡ old.core.state.timeout = timeout-accepts old.core.state new.core.state c y
       accepts in
-      let some : is_some (kept_entries new) ≡ is_some (kept_entries old) = (λ i. is_some
+      let some : is_some (stored_entries new) ≡ is_some (stored_entries old) = (λ i. is_some
       (option_or (done.1 i) (done.2 i))) ∙ some_more old.journal old.part e in
       let entries : entries_of (log ++ more) ≡ entries_of log ++ e ∷ [] = entries_append log more in
       let missed : missed_in (log ++ more) ≡ missed_in log = omega (arith, missed_append log more) in (
@@ -160,7 +160,7 @@ module _ {C : Type 0} where
         λ none. done.2 ∙ ap (λ (p : Option Entries). with_entry p e) (whole none),
       )
 
-  same_stands : (r : Rules C) (old new : Kept C) (count : ℕ) (out log : History) (c : CommandValue)
+  same_stands : (r : Rules C) (old new : BookValue C) (count : ℕ) (out log : History) (c : CommandValue)
       (error : ErrorValue) → new.core.state ≡ old.core.state → new.journal ≡ old.journal → new.part ≡ old.part
       → Step r old.core c (RefusedReply error) new.core → Stands r old count out log → Stands r new count out log
   same_stands r old new count out log c error s j p step (led, ran, whole) = (
@@ -179,26 +179,27 @@ module _ {C : Type 0} where
   )
 
   -- .. and one that is refused adds nothing
-  refused_stands : (r : Rules C) (old new : Kept C) (count : ℕ) (out log : History) (c : CommandValue)
+  refused_stands : (r : Rules C) (old new : BookValue C) (count : ℕ) (out log : History) (c : CommandValue)
       (error : ErrorValue) → Stands r old count out log → IsNotDone r old c error new → Stands r new count out log
   refused_stands r old new count out log c error stands not =
       ⊎_elim
       (λ refused. same_stands r old new count out log c error (state-refused r old.core new.core c error refused.0)
       refused.1 refused.2 refused.0 stands)
-      (λ (unwritten : IsUnwritten old c error new). subst (λ (k : Kept C). Stands r k count out log) (sym unwritten.3)
+      (λ (unwritten : IsUnwritten old c error new). subst (λ (k : BookValue C). Stands r k count out log)
+      (sym unwritten.3)
       stands) not
 
-  again : {r : Rules C} (book : Kept C) (count : ℕ) (out log : History) → Stands r book count out log
+  again : {r : Rules C} (book : BookValue C) (count : ℕ) (out log : History) → Stands r book count out log
       → Stands r book count out (log ++ [])
   again {r} book count out log stands = subst (λ (l : History). Stands r book count out l) (sym (append-nil log)) stands
 
   -- what happens by a command that isn't one of a tick
-  command_stands : (r : Rules C) (old new : Kept C) (count : ℕ) (out log : History) (c : CommandValue) (y : ReplyValue)
-      (res : Result (Unit {0}) ErrorValue) → Stands r old count out log
+  command_stands : (r : Rules C) (old new : BookValue C) (count : ℕ) (out log : History) (c : CommandValue)
+      (y : ReplyValue) (res : Result (Unit {0}) ErrorValue) → Stands r old count out log
       → OnOk res (IsDone r old 0 c y new) → IfErr res (λ e. IsNotDone r old c e new)
       → (IsDone r old 0 c y new → Accepts old.core.state c y new.core.state) → entry_if c y ≡ entry_of 0 c y ∷ []
       → (hs : History) × CommandMakes c y res hs × Stands r new count out (log ++ hs)
-      × ((right : Right) → told_as right (accepted c y) ≡ false → picked (told_as right) hs ≡ [])
+      × ((right : Right) → reserved_for right (accepted c y) ≡ false → picked (reserved_for right) hs ≡ [])
   command_stands r old new count out log c y (Ok u) stands ok err accepts taken = (
     accepted c y ∷ [],
     refl,
@@ -213,12 +214,12 @@ module _ {C : Type 0} where
   )
 
   -- .. by a root
-  pub root_stands : (r : Rules C) (old new : Kept C) (count : ℕ) (out log : History) (path : PathValue)
+  pub root_stands : (r : Rules C) (old new : BookValue C) (count : ℕ) (out log : History) (path : PathValue)
       (mode : RecursiveMode) (res : Result (Unit {0}) ErrorValue) → Stands r old count out log
       → OnOk res (IsDone r old 0 (RootCommand path mode) RootedReply new)
       → IfErr res (λ e. IsNotDone r old (RootCommand path mode) e new)
       → (hs : History) × CommandMakes (RootCommand path mode) RootedReply res hs × Stands r new count out (log ++ hs)
-      × ((right : Right) → picked (told_as right) hs ≡ [])
+      × ((right : Right) → picked (reserved_for right) hs ≡ [])
   root_stands r old new count out log path mode res stands ok err =
       let c = RootCommand path mode in
       let made = command_stands r old new count out log c RootedReply res stands ok err
@@ -226,12 +227,12 @@ module _ {C : Type 0} where
       (made.0, made.1, made.2, λ right. made.3 right (neither c RootedReply refl refl right))
 
   -- .. by a root less
-  pub unroot_stands : (r : Rules C) (old new : Kept C) (count : ℕ) (out log : History) (path : PathValue)
+  pub unroot_stands : (r : Rules C) (old new : BookValue C) (count : ℕ) (out log : History) (path : PathValue)
       (res : Result (Unit {0}) ErrorValue) → Stands r old count out log
       → OnOk res (IsDone r old 0 (UnrootCommand path) UnrootedReply new)
       → IfErr res (λ e. IsNotDone r old (UnrootCommand path) e new)
       → (hs : History) × CommandMakes (UnrootCommand path) UnrootedReply res hs × Stands r new count out (log ++ hs)
-      × ((right : Right) → picked (told_as right) hs ≡ [])
+      × ((right : Right) → picked (reserved_for right) hs ≡ [])
   unroot_stands r old new count out log path res stands ok err =
       let c = UnrootCommand path in
       let made = command_stands r old new count out log c UnrootedReply res stands ok err
@@ -239,7 +240,7 @@ module _ {C : Type 0} where
       (made.0, made.1, made.2, λ right. made.3 right (neither c UnrootedReply refl refl right))
 
   -- .. by what is fed
-  pub fed_stands : (r : Rules C) (old new : Kept C) (count : ℕ) (out log : History)
+  pub fed_stands : (r : Rules C) (old new : BookValue C) (count : ℕ) (out log : History)
       (item : Result EventValue ErrorValue) (now : ℕ) (exists : Bool) (res : Result (Unit {0}) ErrorValue)
       → Stands r old count out log
       → OnOk res (IsDone r old 0 (fed_command item now exists) (fed_reply item new.core.answer) new)
@@ -258,7 +259,7 @@ module _ {C : Type 0} where
       (λ done. Accepts-step r old.core new.core c NotedReply refl done.0) refl in
       (made.0, (new.core.answer, made.1), made.2, made.3 Emits refl)
 
-  batch_stands : {A : Type 0} (r : Rules C) (old new : Kept C) (count : ℕ) (out log : History) (now : ℕ)
+  batch_stands : {A : Type 0} (r : Rules C) (old new : BookValue C) (count : ℕ) (out log : History) (now : ℕ)
       (res : Result (Vec Timed A) ErrorValue) → Stands r old count out log → Ticks r old now res new
       → (hs : History) × BatchMakes now res hs × Stands r new count out (log ++ hs)
   batch_stands r old new count out log now (Ok batch) stands ticks =
@@ -276,7 +277,7 @@ module _ {C : Type 0} where
         (refused_stands r old new count out log (TickCommand now) error stands ticks),
   )
 
-  errors_stand : (r : Rules C) (old new : Kept C) (count : ℕ) (out log : History) (errors : List ErrorValue)
+  errors_stand : (r : Rules C) (old new : BookValue C) (count : ℕ) (out log : History) (errors : List ErrorValue)
       → Stands r old count out log → GivesErrors r old errors new
       → (hs : History) × ErrorsMake errors hs × Stands r new count out (log ++ hs)
   errors_stand r old new count out log errors stands gives =
@@ -297,7 +298,7 @@ module _ {C : Type 0} where
       )) gives
 
   -- .. by a tick
-  pub tick_stands : {A : Type 0} (r : Rules C) (old new : Kept C) (count : ℕ) (out log : History) (now : ℕ)
+  pub tick_stands : {A : Type 0} (r : Rules C) (old new : BookValue C) (count : ℕ) (out log : History) (now : ℕ)
       (res : Result (Vec Timed A) ErrorValue) (errors : List ErrorValue) → Stands r old count out log
       → TicksBoth r old now res errors new → (hs : History) × TickMakes now res errors hs
       × Stands r new count out (log ++ hs)
@@ -311,7 +312,7 @@ module _ {C : Type 0} where
       )
 
   -- .. and by what is missed
-  pub miss_stands : {r : Rules C} (book : Kept C) (count : ℕ) (out log : History) → Stands r book count out log
+  pub miss_stands : {r : Rules C} (book : BookValue C) (count : ℕ) (out log : History) → Stands r book count out log
       → Stands r book (min (count + 1) (2 ^ 64 - 1)) out (log ++ Missed ∷ [])
   miss_stands {r} book count out log (led, ran, whole) =
       let more : History = Missed ∷ [] in
@@ -319,7 +320,7 @@ module _ {C : Type 0} where
       let missed : missed_in (log ++ more) ≡ missed_in log + 1 = omega (arith, missed_append log more) in (
         record {
           opened = begins_more _ _ log more led.opened;
-          rest = subst (λ (l : Entries). IsRest (kept_entries book) (entries_of out) l) (sym entries) led.rest;
+          rest = subst (λ (l : Entries). IsRest (stored_entries book) (entries_of out) l) (sym entries) led.rest;
           legal = subst (λ (l : Entries). IsLegal l book.core.state) (sym entries) led.legal;
           missed = capped (missed_in log) count (missed_in (log ++ more)) (2 ^ 64 - 1) led.missed missed;
         },
@@ -328,12 +329,12 @@ module _ {C : Type 0} where
       )
 
   -- all entries are out, and a part begins
-  pub parted_stands : {r : Rules C} (old : Kept C) (count : ℕ) (out log : History) → Stands r old count out log
-      → Stands r (parted old) count (all_out (kept_entries (parted old)) out log) log
-      × (entries_of (all_out (kept_entries (parted old)) out log) ≡ entries_of out ++ written old)
-      × (entries_of (all_out (kept_entries (parted old)) out log) ≡ journal_of log)
+  pub parted_stands : {r : Rules C} (old : BookValue C) (count : ℕ) (out log : History) → Stands r old count out log
+      → Stands r (parted old) count (all_out (stored_entries (parted old)) out log) log
+      × (entries_of (all_out (stored_entries (parted old)) out log) ≡ entries_of out ++ written old)
+      × (entries_of (all_out (stored_entries (parted old)) out log) ≡ journal_of log)
   parted_stands {r} old count out log (led, ran, whole) =
-      by (kept_entries old) log led.opened led.rest led.legal led.missed ran
+      by (stored_entries old) log led.opened led.rest led.legal led.missed ran
     where
       none_begun : (l : History) → BeginsAs old.core.state.timeout true l → l ≡ [] → ⊥
       none_begun l b none = subst (λ (x : History). BeginsAs old.core.state.timeout true x) none b
@@ -363,11 +364,11 @@ module _ {C : Type 0} where
       )
 
   -- the timeout and the journal, if nothing was taken out of it
-  pub gives_journal : {A : Type 0} {r : Rules C} (book : Kept C) (count : ℕ) (seen told out log : History)
+  pub gives_journal : {A : Type 0} {r : Rules C} (book : BookValue C) (count : ℕ) (seen told out log : History)
       (res : Result (ℕ × Vec EntryValue A) ErrorValue) → Begins seen log → Begins told log
       → picked is_emitting told ≡ picked is_emitting log → Stands r book count out log → out ≡ []
       → IfOk res (λ j. (j.0 ≡ book.core.state.timeout) × (j.1.items ≡ unwrap_or book.journal []))
-      → IfOk res (λ j. ToldJournal r seen told j.0 j.1.items)
+      → IfOk res (λ j. IsCompleteJournal r seen told j.0 j.1.items)
   gives_journal book count seen told out log (Ok j) begins begun same (led, ran, whole) first ok = (
     log,
     begins,
@@ -380,11 +381,11 @@ module _ {C : Type 0} where
   gives_journal book count seen told out log (Err e) begins begun same stands first ok = tt
 
 -- a book that was just opened stands under its lock
-pub opening_stands : {C : Type 0} (r : Rules C) (book : Kept C) → IsFresh book → Stands r book 0 [] (opening book)
+pub opening_stands : {C : Type 0} (r : Rules C) (book : BookValue C) → IsFresh book → Stands r book 0 [] (opening book)
 opening_stands r book (core, none, part) = (
   record {
     opened = refl;
-    rest = by (kept_entries book) none;
+    rest = by (stored_entries book) none;
     legal = ap (λ (k : Core _). k.state) core;
     missed = refl;
   },

@@ -5,14 +5,14 @@ use Rattle.notify_paths.specs.Errors.{ErrorValue}
 use Rattle.debounce_model.specs.Cache.{Rules}
 use Rattle.notify_watch.specs.declared.config.Config.{Config}
 use Rattle.notify_watch.specs.Handler.{IsCalledOn, IsCalledWith}
-use Rattle.debounce_book.specs.Book.{Kept}
+use Rattle.debounce_book.specs.Book.{BookValue}
 use Rattle.debounce_book.specs.Journal.{EntryValue}
 use Rattle.debounce_book.proofs.JournalRuns.{journal_gives_raw_paths, journal_invents_no_rename, journal_loses_no_change}
 use Rattle.debounce_lock.specs.History.{picked}
 use Rattle.debounce_run.specs.Access.Aged.{AreAged}
 use Rattle.debounce_run.specs.Access.Happened.{History, entries_of, is_emitting}
 use Rattle.debounce_run.specs.Access.Ran.{RanTo}
-use Rattle.debounce_run.specs.Access.Stands.{HasAllEmitted, Known, LeadsTo, ToldJournal}
+use Rattle.debounce_run.specs.Access.Stands.{HasAllEmitted, Known, LeadsTo, IsCompleteJournal}
 use Rattle.debounce_run.proofs.AccessLemmas.Aged.{journal_is_aged}
 use Rattle.debounce_run.proofs.AccessLemmas.Runs.{ran_legal, ran_numbers}
 use Rattle.debounce_run.specs.Turns.Ended.{EndsJournal, IsFinished, IsHistory, KeepsLaws}
@@ -28,7 +28,7 @@ stays_of {X} handles stays begun now (items, called) = by items begun called
     by (x ∷ xs) k (between, one, rest) = by xs between rest ∙ stays k x between one
 
 -- the laws hold of each history that leads to a book by its cache's rules
-pub keeps_laws : {C : Type 0} {r : Rules C} (parts : List EntryValue) (book : Kept C) (count : ℕ) (log : History)
+pub keeps_laws : {C : Type 0} {r : Rules C} (parts : List EntryValue) (book : BookValue C) (count : ℕ) (log : History)
     → LeadsTo book count parts log → RanTo r (entries_of log) book.core → KeepsLaws r book.core (entries_of log)
 keeps_laws {C} {r} parts book count log led ran = record {
   aged = journal_is_aged (entries_of log) book.core.state led.legal;
@@ -42,7 +42,8 @@ keeps_laws {C} {r} parts book count log led ran = record {
 module _ {L : Type 0} (emitted : L → History → Type 0) (left : L) where
   -- what comes back tells all that was emitted, and the watcher's work has brought the feed back
   pub finishes : {C Last : Type 0} {r : Rules C} (ends : Known → Config → Known → Last → Type 0) (begun : Known)
-      (config : Config) (now : Known) (last : Last) (seen worker : History) (parts : List EntryValue) (book : Kept C)
+      (config : Config) (now : Known) (last : Last) (seen worker : History) (parts : List EntryValue)
+      (book : BookValue C)
       (count : ℕ)
       → ((log : History) × IsHistory r seen now.seen parts book count log × HasAllEmitted worker log)
       → emitted left (picked is_emitting worker) → ends begun config now last
@@ -60,7 +61,7 @@ module _ {L : Type 0} (emitted : L → History → Type 0) (left : L) where
 
   pub ends_journal : {A C : Type 0} (r : Rules C) (seen worker : History)
       (res : Result (ℕ × Vec EntryValue A) ErrorValue)
-      → IfOk res (λ j. ToldJournal r seen worker j.0 j.1.items) → emitted left (picked is_emitting worker)
+      → IfOk res (λ j. IsCompleteJournal r seen worker j.0 j.1.items) → emitted left (picked is_emitting worker)
       → IfOk res (λ j. (l : L) × EndsJournal r emitted l seen j.0 j.1.items)
   ends_journal r seen worker (Ok j) (log, goes, begins, opened, (core, timeout, ran), all, same) says = (
     left,

@@ -7,8 +7,8 @@ use Rattle.debounce_model.specs.Command.{CommandValue, TickCommand, ErrorsComman
 use Rattle.debounce_model.specs.declared.file_id.FileId.{FileId}
 use Rattle.debounce_book.specs.Book.{fed_command, fed_reply}
 use Rattle.debounce_lock.specs.History.{Begins, picked}
-use Rattle.debounce_run.specs.declared.access.made.Made.{Made}
-use Rattle.debounce_run.specs.declared.access.made.Made.TheVariants as made
+use Rattle.debounce_run.specs.declared.access.last_step.LastStep.{LastStep}
+use Rattle.debounce_run.specs.declared.access.last_step.LastStep.TheVariants as made
 use Rattle.debounce_run.specs.Access.Happened.{HappenedValue, History, Missed, accepted, is_emitting, is_fed}
 use Rattle.debounce_run.specs.Access.Stands.{Known}
 
@@ -110,7 +110,7 @@ FeedsOn old item now exists answered new = (new.lock ≡ old.lock)
     × (new.moments ≡ old.moments)
 
 -- what happens by what was done under the lock
-abbrev pub Makes : {A : Type 0} → Made A → History → Type 0
+abbrev pub Makes : {A : Type 0} → LastStep A → History → Type 0
 Makes made.Nothing hs = hs ≡ []
 Makes made.Missed hs = hs ≡ Missed ∷ []
 Makes (made.Fed item now exists answer) hs = FedMakes item.value now exists answer.value hs
@@ -119,5 +119,5 @@ Makes (made.Rooted path mode answer) hs = CommandMakes (RootCommand path.value m
 Makes (made.Unrooted path answer) hs = CommandMakes (UnrootCommand path.value) UnrootedReply answer.value hs
 
 -- the history goes on by what was done, and nothing is taken out
-abbrev pub Does : {A : Type 0} → Made A → History → History → History → History → Type 0
+abbrev pub Does : {A : Type 0} → LastStep A → History → History → History → History → Type 0
 Does made before out after now = (now ≡ out) × (hs : History) × Makes made hs × (after ≡ before ++ hs)

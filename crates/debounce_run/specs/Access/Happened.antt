@@ -75,9 +75,9 @@ is_fed Missed = true
 is_fed h = false
 
 -- what each right is for
-abbrev pub told_as : Right → HappenedValue → Bool
-told_as Emits = is_emitting
-told_as Feeds = is_fed
+abbrev pub reserved_for : Right → HappenedValue → Bool
+reserved_for Emits = is_emitting
+reserved_for Feeds = is_fed
 
 -- nothing happened, or nothing is in the list
 abbrev pub is_nil : {X : Type 0} → List X → Bool

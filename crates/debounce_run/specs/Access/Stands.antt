@@ -3,7 +3,7 @@ use Rattle.std.specs.Prelude.{◌≡◌, ◌-◌, ◌^◌, min, ℕ, Bool, true,
 use Rattle.debounce_model.specs.Cache.{Rules}
 use Rattle.atomic_table.specs.Seated.{TableId}
 use Rattle.debounce_lock.specs.Passes.{Pass, view}
-use Rattle.debounce_book.specs.Book.{Kept, kept_entries, written}
+use Rattle.debounce_book.specs.Book.{BookValue, stored_entries, written}
 use Rattle.debounce_book.specs.Journal.{EntryValue, IsLegal}
 use Rattle.debounce_lock.specs.History.{Begins, picked}
 use Rattle.debounce_run.specs.Access.Ran.{RanAs, RanTo, opened_core}
@@ -22,16 +22,17 @@ IsRest (Some kept) parts all = parts ++ kept ≡ all
 
 -- the history leads to this book, out of whose journal these parts were taken, and to this count of what was missed,
 -- which counts no further than 2^64 - 1
-pub record LeadsTo {C : Type 0} (book : Kept C) (count : ℕ) (parts : List EntryValue) (log : History) : Type 0 where
-  pub opened : BeginsAs book.core.state.timeout (is_some (kept_entries book)) log
-  pub rest : IsRest (kept_entries book) parts (entries_of log)
-  pub legal : IsLegal (entries_of log) book.core.state
-  pub missed : count ≡ min (missed_in log) (2 ^ 64 - 1)
+pub record LeadsTo {C : Type 0} (book : BookValue C) (count : ℕ) (parts : List EntryValue) (log : History) : Type 0
+  where
+    pub opened : BeginsAs book.core.state.timeout (is_some (stored_entries book)) log
+    pub rest : IsRest (stored_entries book) parts (entries_of log)
+    pub legal : IsLegal (entries_of log) book.core.state
+    pub missed : count ≡ min (missed_in log) (2 ^ 64 - 1)
 
 -- the history leads to this book and this count; the entries of a beginning of it were taken out, and all was done by
 -- the cache's rules. A journal of
 -- which nothing was taken out is whole
-abbrev pub Stands : {C : Type 0} → Rules C → Kept C → ℕ → History → History → Type 0
+abbrev pub Stands : {C : Type 0} → Rules C → BookValue C → ℕ → History → History → Type 0
 Stands rules book count out log =
     LeadsTo book count (entries_of out) log × RanTo rules (entries_of log) book.core × (out ≡ [] → book.part ≡ None)
 
@@ -44,17 +45,17 @@ abbrev pub HasAllFed : History → History → Type 0
 HasAllFed fed log = Begins fed log × (picked is_fed fed ≡ picked is_fed log)
 
 -- a book that was just opened: its core is, and it has no entries, or keeps none
-abbrev pub IsFresh : {C : Type 0} → Kept C → Type 0
+abbrev pub IsFresh : {C : Type 0} → BookValue C → Type 0
 IsFresh book =
     (book.core ≡ opened_core book.core.state.timeout book.core.cache) × (written book ≡ []) × (book.part ≡ None)
 
 -- the history of a book that was just opened
-abbrev pub opening : {C : Type 0} → Kept C → History
-opening book = Opened book.core.state.timeout (is_some (kept_entries book)) ∷ []
+abbrev pub opening : {C : Type 0} → BookValue C → History
+opening book = Opened book.core.state.timeout (is_some (stored_entries book)) ∷ []
 
 -- the history as far as this pass has seen it
-abbrev pub seen_by : {T E : Type 0} → Pass T E → List E
-seen_by pass = (view pass).seen
+abbrev pub known_history : {T E : Type 0} → Pass T E → List E
+known_history pass = (view pass).seen
 
 -- the history at which entries were last taken out, as far as it knows
 abbrev pub taken_by : {T E : Type 0} → Pass T E → List E
@@ -120,8 +121,8 @@ StaysButRights old new =
 
 -- these are the timeout and the journal of a history that goes on from what was seen and from what was told, all in it
 -- was done by the cache's rules, and nothing else was emitted in it than was told
-abbrev pub ToldJournal : {C : Type 0} → Rules C → History → History → ℕ → List EntryValue → Type 0
-ToldJournal rules seen told timeout journal =
+abbrev pub IsCompleteJournal : {C : Type 0} → Rules C → History → History → ℕ → List EntryValue → Type 0
+IsCompleteJournal rules seen told timeout journal =
     (log : History) × Begins seen log × Begins told log × BeginsAs timeout (is_journaled log) log
     × RanAs rules timeout (entries_of log)
     × (journal ≡ journal_of log) × (picked is_emitting told ≡ picked is_emitting log)

@@ -1,7 +1,7 @@
 -- What a clock answers.
 use Rattle.std.specs.Prelude.{◌≡◌, ◌⊎◌, ℕ, List, [], ◌∷◌, Option, Some, None}
 use Rattle.std.specs.declared.io.ErrorKind.{ErrorKind}
-use Rattle.debounce_lock.specs.declared.shown.Shown.{Shown}
+use Rattle.debounce_lock.specs.declared.witness.Witness.{Witness}
 use Rattle.notify_paths.specs.Errors.{ErrorValue, IoKind}
 
 -- a device or a system call failed
@@ -13,7 +13,7 @@ abbrev pub io_error : ErrorKind → ErrorValue
 io_error kind = record { kind = IoKind kind; paths = [] }
 
 -- the answers so far, if there is one
-abbrev pub answered : Option (Shown (List ℕ)) → List ℕ
+abbrev pub answered : Option (Witness (List ℕ)) → List ℕ
 answered None = []
 answered (Some answers) = answers.value
 

@@ -4,7 +4,7 @@ use Rattle.notify_types.specs.Event.{Timed}
 use Rattle.debounce_model.specs.Cache.{Rules}
 use Rattle.debounce_model.specs.State.{Core}
 use Rattle.debounce_model.specs.Tick.{IsOutlook}
-use Rattle.debounce_book.specs.Book.{Kept}
+use Rattle.debounce_book.specs.Book.{BookValue}
 use Rattle.debounce_book.specs.Journal.{EntryValue}
 use Rattle.debounce_book.specs.JournalLaws.{EndsInRawPaths, InventsNoRename, LosesNoChange}
 use Rattle.notify_watch.specs.declared.config.Config.{Config}
@@ -16,7 +16,7 @@ use Rattle.debounce_run.specs.Access.Stands.{BeginsAs, HasAllFed, Known, LeadsTo
 
 -- a history goes on from what was seen, and leads to this book and this count, out of whose journal these parts were
 -- taken. All in it was done by the cache's rules, and nothing was fed or missed in it but what the feed has seen
-pub record IsHistory {C : Type 0} (rules : Rules C) (seen fed : History) (parts : List EntryValue) (book : Kept C)
+pub record IsHistory {C : Type 0} (rules : Rules C) (seen fed : History) (parts : List EntryValue) (book : BookValue C)
     (count : ℕ) (log : History) : Type 0 where
   pub goes_on : Begins seen log
   pub leads : LeadsTo book count parts log
@@ -36,7 +36,7 @@ pub record KeepsLaws {C : Type 0} (rules : Rules C) (core : Core C) (es : List E
 -- a debouncer has ended: its history leads to this book and this count, what comes back of the handler tells what was
 -- emitted in it, and the laws of whole runs hold of it
 pub record IsEnded {C L : Type 0} (rules : Rules C) (emitted : L → History → Type 0) (left : L) (seen fed : History)
-    (parts : List EntryValue) (book : Kept C) (count : ℕ) : Type 0 where
+    (parts : List EntryValue) (book : BookValue C) (count : ℕ) : Type 0 where
   pub log : History
   pub history : IsHistory rules seen fed parts book count log
   pub handler : emitted left (picked is_emitting log)
@@ -46,7 +46,7 @@ pub record IsEnded {C L : Type 0} (rules : Rules C) (emitted : L → History →
 -- ended with that feed
 pub record IsFinished {C L Last : Type 0} (rules : Rules C) (ends : Known → Config → Known → Last → Type 0)
     (made : Known × Config) (last : Last) (emitted : L → History → Type 0) (left : L) (seen : History)
-    (parts : List EntryValue) (book : Kept C) (count : ℕ) : Type 0 where
+    (parts : List EntryValue) (book : BookValue C) (count : ℕ) : Type 0 where
   pub now : Known
   pub work : ends made.0 made.1 now last
   pub ended : IsEnded rules emitted left seen now.seen parts book count

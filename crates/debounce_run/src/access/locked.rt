@@ -1,8 +1,8 @@
 //! What lies under the lock.
-use crate::access::made::{Happened, Made};
+use crate::access::last_step::{Happened, LastStep};
 use debounce_book::Book;
 use debounce_cache::FileIdCache;
-use debounce_lock::{Change, Lock, Pass, Shown, Told};
+use debounce_lock::{Change, HasHistory, Lock, Pass, Witness};
 use std::alloc::Allocator;
 use std::sync::Arc;
 
@@ -13,18 +13,18 @@ pub struct Locked<C: Drop, A: Allocator> {
     /// Boxed, as the lock moves what it guards.
     pub book: Box<Book<C, A>, A>,
     pub missed: u64,
-    pub made: Shown<Made<A>>,
+    pub made: Witness<LastStep<A>>,
 }
 
-impl<C: FileIdCache<A> + Drop, A: Allocator> Told<Happened> for Locked<C, A> {
-    ghost use Rattle.debounce_run.specs.Access.Happened.{told_as};
+impl<C: FileIdCache<A> + Drop, A: Allocator> HasHistory<Happened> for Locked<C, A> {
+    ghost use Rattle.debounce_run.specs.Access.Happened.{reserved_for};
     ghost use Rattle.debounce_run.specs.Access.Stands.{Stands, opening};
 
     ghost begins = { λ l. opening l.book.value };
 
     ghost stands = { λ l out log. Stands C.rules l.book.value l.missed out log };
 
-    ghost told = { told_as };
+    ghost reserved = { reserved_for };
 }
 
 /// The history goes on by the step that was done.

@@ -4,7 +4,7 @@ ghost use Rattle.std.specs.Duration.{as_nanos};
 ghost use Rattle.std.specs.IoError.{error_kind};
 ghost use Rattle.debounce_run.specs.Turns.Clock.{IsIo, io_error};
 
-use debounce_lock::Shown;
+use debounce_lock::Witness;
 use notify_paths::{Error, ErrorKind};
 use notify_types::Moment;
 use std::alloc::Allocator;
@@ -17,7 +17,7 @@ use std::time::{Clock, Duration, Instant};
 #[derive(Drop)]
 pub struct Stopwatch {
     start: Instant,
-    answers: Option<Shown<Answers>>,
+    answers: Option<Witness<Answers>>,
 }
 
 impl Model for Stopwatch {
@@ -32,7 +32,7 @@ impl Model for Stopwatch {
 /// The answers of a clock, for clauses. A clock keeps what clauses saw of them, which has no bytes.
 #[derive(Drop)]
 struct Answers {
-    before: Option<Shown<Answers>>,
+    before: Option<Witness<Answers>>,
     last: Moment,
 }
 
@@ -72,7 +72,7 @@ impl Stopwatch {
             before: self.answers.take(),
             last: moment,
         };
-        self.answers = Some(Shown::of(&answers));
+        self.answers = Some(Witness::of(&answers));
         Ok(moment)
     }
 }

@@ -4,7 +4,7 @@ ghost use Rattle.notify_paths.specs.Errors.{out_of_memory};
 ghost use Rattle.debounce_lock.specs.History.{Begins, picked};
 ghost use Rattle.debounce_run.specs.Access.Adds.{FedNow, FeedsItem, MayRead};
 ghost use Rattle.debounce_run.specs.Access.Happened.{is_fed};
-ghost use Rattle.debounce_run.specs.Access.Stands.{StaysButFeeds, feeds_of, seen_by};
+ghost use Rattle.debounce_run.specs.Access.Stands.{StaysButFeeds, feeds_of, known_history};
 
 use crate::access::locked::BookPass;
 use crate::turns::clock::Stopwatch;
@@ -119,7 +119,7 @@ impl<C: FileIdCache<A> + Drop, R: Wait + Drop, A: Allocator> Feed<C, R, A> {
     pub(crate) fn into_pass(self) -> BookPass<C, A>
         ensures lock { result.table_id ≡ self.lock }
         ensures free { result.me.1 ≡ [] }
-        ensures same { (seen_by result ≡ self.seen) × (feeds_of result ≡ true) }
+        ensures same { (known_history result ≡ self.seen) × (feeds_of result ≡ true) }
     {
         let Feed {
             rt: _,

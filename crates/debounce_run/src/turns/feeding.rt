@@ -2,7 +2,7 @@
 ghost use Rattle.std.specs.Prelude.{◌≡◌, ◌++◌, ◌∷◌, [], true, IfErr, IfOk, OnErr};
 ghost use Rattle.debounce_run.specs.Access.Adds.{FeedsOn, GainsOne};
 ghost use Rattle.debounce_run.specs.Access.Happened.{Missed};
-ghost use Rattle.debounce_run.specs.Access.Stands.{feeds_of, seen_by};
+ghost use Rattle.debounce_run.specs.Access.Stands.{feeds_of, known_history};
 ghost use Rattle.debounce_run.specs.Turns.Clock.{IsIo};
 
 use crate::access::Access;
@@ -63,7 +63,7 @@ impl<C: FileIdCache<A> + Drop, R: Wait + Drop, A: Allocator> Feeding<C, R, A> {
     pub fn into_pass(self) -> BookPass<C, A>
         ensures lock { result.table_id ≡ self.lock }
         ensures free { result.me.1 ≡ [] }
-        ensures same { (seen_by result ≡ self.seen) × (feeds_of result ≡ true) }
+        ensures same { (known_history result ≡ self.seen) × (feeds_of result ≡ true) }
     {
         let Feeding {
             rt: _,

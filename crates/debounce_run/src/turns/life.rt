@@ -2,7 +2,7 @@
 ghost use Rattle.std.specs.Prelude.{◌≡◌, [], true};
 ghost use Rattle.debounce_lock.specs.History.{picked};
 ghost use Rattle.debounce_run.specs.Access.Happened.{is_emitting};
-ghost use Rattle.debounce_run.specs.Access.Stands.{seen_by, tells_of};
+ghost use Rattle.debounce_run.specs.Access.Stands.{known_history, tells_of};
 ghost use Rattle.debounce_run.specs.Turns.Clock.{AreAmong};
 ghost use Rattle.debounce_run.specs.Turns.Handed.{Handed, HandsOn, TicksNow, ticks_of};
 
@@ -53,9 +53,9 @@ pub fn turns<
     ensures pass { (result.0.table_id ≡ access.lock) × (result.0.me.1 ≡ [])
         × (tells_of result.0 ≡ true) }
     ensures told { (last : H)
-        × Handed H.handles handler (picked is_emitting (seen_by result.0)) last
+        × Handed H.handles handler (picked is_emitting (known_history result.0)) last
         × E.ends last result.1 }
-    ensures moments { AreAmong (ticks_of (picked is_emitting (seen_by result.0))) result.2 }
+    ensures moments { AreAmong (ticks_of (picked is_emitting (known_history result.0))) result.2 }
 {
     let gate = Ticking::new(rt, access, Stopwatch::new(pace.start));
     let (gate, handler) = work(&rt, alloc, gate, handler, signals, pace.tick);

@@ -6,7 +6,7 @@ ghost use Rattle.debounce_book.specs.Journal.{IsJournal, IsLegal, IsPart};
 ghost use Rattle.debounce_book.specs.JournalLaws.{LosesNoChange, GivesRawPaths, InventsNoRename};
 ghost use Rattle.debounce_run.specs.Access.Adds.{Adds};
 ghost use Rattle.debounce_run.specs.Access.Happened.{History, accepted, entries_of};
-ghost use Rattle.debounce_run.specs.Access.Stands.{HasAllEmitted, IsFresh, Lasts, StaysButFeeds, StaysButTells, ToldJournal, opening, seen_by, tells_of};
+ghost use Rattle.debounce_run.specs.Access.Stands.{HasAllEmitted, IsFresh, Lasts, StaysButFeeds, StaysButTells, IsCompleteJournal, opening, known_history, tells_of};
 ghost use Rattle.debounce_run.specs.Turns.Ended.{IsHistory};
 ghost use Rattle.debounce_run.specs.Turns.Watched.{AsksFirst};
 
@@ -159,7 +159,7 @@ impl<C: FileIdCache<A> + Drop, R: Wait + Drop, A: Allocator + Copy> Shared<C, R,
         requires tells { tells_of teller ≡ true }
         ensures left { self.owner.keeps ≡ true → self.owner.out ≡ [] →
             IfOk result (λ r.
-            ToldJournal C.rules self.owner.seen (seen_by teller) r.0 r.1.items) }
+            IsCompleteJournal C.rules self.owner.seen (known_history teller) r.0 r.1.items) }
         ensures legal { IfOk result (λ r. IsJournal r.0 r.1.items) }
         ensures kept { IfOk result (λ r. LosesNoChange r.0 r.1.items) }
         ensures raw { IfOk result (λ r. GivesRawPaths r.0 r.1.items) }
@@ -181,7 +181,7 @@ impl<C: FileIdCache<A> + Drop, R: Wait + Clock + Drop, A: Allocator + Copy> Shar
         ensures history { (log : History)
             × IsHistory C.rules self.owner.seen feed.seen (entries_of self.owner.out)
             result.0 result.1 log
-            × HasAllEmitted (seen_by worker) log }
+            × HasAllEmitted (known_history worker) log }
         ensures legal { IfSome result.0.journal (λ es. IsLegal es result.0.core.state) }
         ensures part { IfSome result.0.part (λ es. IsPart es result.0.core.state) }
     {

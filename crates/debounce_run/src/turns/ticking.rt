@@ -1,7 +1,7 @@
 //! The worker's way to a book.
 ghost use Rattle.std.specs.Prelude.{◌≡◌, ◌++◌, ◌∷◌, [], true, IfErr, IfOk, OnErr};
 ghost use Rattle.debounce_run.specs.Access.Adds.{TicksOn};
-ghost use Rattle.debounce_run.specs.Access.Stands.{seen_by, tells_of};
+ghost use Rattle.debounce_run.specs.Access.Stands.{known_history, tells_of};
 ghost use Rattle.debounce_run.specs.Turns.Clock.{IsIo};
 
 use crate::access::Access;
@@ -55,7 +55,7 @@ impl<C: FileIdCache<A> + Drop, R: Wait + Drop, A: Allocator> Ticking<C, R, A> {
     pub fn into_pass(self) -> (BookPass<C, A>, Stopwatch)
         ensures lock { result.0.table_id ≡ self.lock }
         ensures free { result.0.me.1 ≡ [] }
-        ensures same { (seen_by result.0 ≡ self.seen) × (tells_of result.0 ≡ true) }
+        ensures same { (known_history result.0 ≡ self.seen) × (tells_of result.0 ≡ true) }
         ensures moments { result.1 ≡ self.moments }
     {
         let Ticking {

@@ -13,13 +13,13 @@ use Rattle.debounce_model.specs.Play.{has_path}
 use Rattle.poll_listing.specs.declared.entry.Found.{Found}
 use Rattle.poll_listing.specs.Listing.{ListingValue, IsListing, entry_at, has_entry, is_nonempty}
 use Rattle.poll_listing.specs.MergedListings.{IsMerged}
-use Rattle.poll_listing.specs.Near.{is_near, is_seen, seen}
+use Rattle.poll_listing.specs.Near.{is_near, roots_cover, covered_entries}
 use Rattle.poll_listing.proofs.WalkLemmas.{has-filter, has_entry-some, keys_of-filter}
-use Rattle.poll_watcher.specs.Roots.Polled.{PolledValue, ShowsFirst, LacksRoot, Watches, WatchesNext, IsWatchError, WatchesOrRefuses}
+use Rattle.poll_watcher.specs.Roots.Polled.{PolledValue, IsFirstListing, LacksRoot, Watches, WatchesNext, IsWatchError, WatchesOrRefuses}
 
 -- where a root's listing lacks its path, so does what the folders show
 pub lacks : (told : Option ListingValue) (root : PathValue × RecursiveMode) (first : ListingValue) →
-    ShowsFirst told root first → has_entry first root.0 ≡ false → LacksRoot told root
+    IsFirstListing told root first → has_entry first root.0 ≡ false → LacksRoot told root
 lacks None root first h none = tt
 lacks (Some tree) root first h none = λ t. ap (λ es. has_entry es root.0) (sym (h t)) ∙ none
 
@@ -43,9 +43,10 @@ any-last f [] x h = h
 any-last f (y ∷ xs) x h = or_right (f y) (list_any f (xs ++ x ∷ [])) (any-last f xs x h)
 
 -- what the last root shows, it shows of what all roots show
-pub seen-last : (entries : ListingValue) (roots : List (PathValue × RecursiveMode)) (root : PathValue × RecursiveMode)
-    → seen (seen entries (roots ++ root ∷ [])) (root ∷ []) ≡ seen entries (root ∷ [])
-seen-last entries roots root =
+pub covered_entries-last : (entries : ListingValue) (roots : List (PathValue × RecursiveMode))
+    (root : PathValue × RecursiveMode)
+    → covered_entries (covered_entries entries (roots ++ root ∷ [])) (root ∷ []) ≡ covered_entries entries (root ∷ [])
+covered_entries-last entries roots root =
     filter-within _ _ entries (λ entry h.
     any-last (λ r. is_nonempty r.0 && is_near r.0 r.1 entry.0) roots root h)
 
@@ -72,15 +73,15 @@ merged_there first other merged path h there = has_entry-some merged path ∙ (a
 
 -- a root that is there is among what it shows
 pub shown_there : (entries : ListingValue) (root : PathValue × RecursiveMode) → is_nonempty root.0 ≡ true
-    → has_entry entries root.0 ≡ true → has_entry (seen entries (root ∷ [])) root.0 ≡ true
+    → has_entry entries root.0 ≡ true → has_entry (covered_entries entries (root ∷ [])) root.0 ≡ true
 shown_there entries root nonempty there =
-    let near : is_seen (root ∷ []) root.0 ≡ true = rw (nonempty, prefix_itself root.0) refl in
-    ap (λ ks. has_path ks root.0) (keys_of-filter (is_seen (root ∷ [])) entries)
-    ∙ (has-filter (is_seen (root ∷ [])) root.0 (keys_of entries) ∙ rw (near, there) refl)
+    let near : roots_cover (root ∷ []) root.0 ≡ true = rw (nonempty, prefix_itself root.0) refl in
+    ap (λ ks. has_path ks root.0) (keys_of-filter (roots_cover (root ∷ [])) entries)
+    ∙ (has-filter (roots_cover (root ∷ [])) root.0 (keys_of entries) ∙ rw (near, there) refl)
 
 -- a watcher over real folders that went from one state to the other watches the root, or says why not
 pub watched : (root : PathValue × RecursiveMode) (old new : PolledValue) (r : Result (Unit {0}) ErrorValue)
-    → OnOk r ((first : ListingValue) × ShowsFirst None root first × Watches old root first new)
+    → OnOk r ((first : ListingValue) × IsFirstListing None root first × Watches old root first new)
     → IfErr r IsWatchError → WatchesOrRefuses root r
 watched root old new (Ok done) h err = (old, new, inl h)
 watched root old new (Err e) h err = err

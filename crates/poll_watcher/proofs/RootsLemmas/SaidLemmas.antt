@@ -11,7 +11,7 @@ use Rattle.poll_listing.specs.Listing.{IsListing, ListingValue}
 use Rattle.poll_rounds.proofs.ReportLemmas.{called-step, goes_on}
 use Rattle.poll_rounds.specs.Closed.{ClosedValue}
 use Rattle.poll_rounds.specs.Reports.{Reported}
-use Rattle.poll_watcher.specs.Roots.Said.{Says, SaysEach, SaysOnce, TellsAndSays, is_said, unsaid}
+use Rattle.poll_watcher.specs.Roots.Said.{Says, SaysEach, SaysOnce, ReportsWithErrors, is_said, unsaid}
 
 -- who says what is left has said all
 abbrev pub LeadsOn : {H X : Type 0} → (H → Result X ErrorValue → H → Type 0) → ClosedValue → ClosedValue → H →
@@ -51,7 +51,7 @@ called-says handles (one ∷ others) before after says =
 -- .. and so is a round
 pub called-round : {H : Type 0} (handles : H → Result EventValue ErrorValue → H → Type 0) (trackers : Option ℕ)
     (old new : ListingValue) (closed : ClosedValue) (before after : H) →
-    TellsAndSays handles trackers old new closed before after → IsCalledOn handles before after
+    ReportsWithErrors handles trackers old new closed before after → IsCalledOn handles before after
 called-round handles trackers old new closed before after round =
     called-then handles before round.0 after (called-step handles trackers old new before round.0 round.1)
     (called-says handles closed round.0 after round.2)
@@ -69,7 +69,7 @@ reported-says handles begun last (one ∷ others) before after law reported says
 -- a round leads on
 pub reported-round : {H : Type 0} (handles : H → Result EventValue ErrorValue → H → Type 0) (begun : H)
     (trackers : Option ℕ) (old new : ListingValue) (closed : ClosedValue) (before after : H) → IsListing new →
-    Reported handles begun old before → TellsAndSays handles trackers old new closed before after →
+    Reported handles begun old before → ReportsWithErrors handles trackers old new closed before after →
     Reported handles begun new after
 reported-round handles begun trackers old new closed before after law reported round =
     reported-says handles begun new closed round.0 after law

@@ -7,8 +7,8 @@ use Rattle.notify_types.specs.declared.event.RecursiveMode.{RecursiveMode}
 use Rattle.notify_types.specs.declared.event.RecursiveMode.TheVariants.{NonRecursive}
 use Rattle.poll_listing.specs.Listing.{ListingValue, has_entry, is_nonempty}
 use Rattle.poll_listing.specs.MergedListings.{IsMerged}
-use Rattle.poll_listing.specs.Near.{seen}
-use Rattle.poll_rounds.specs.Folders.{IsTree, shown, IsRefusal}
+use Rattle.poll_listing.specs.Near.{covered_entries}
+use Rattle.poll_rounds.specs.Folders.{IsTree, reachable, IsRefusal}
 
 -- the watched paths, each with its mode, and what their last listing found
 pub record PolledValue : Type 0 where
@@ -29,8 +29,8 @@ abbrev pub with_root : List (PathValue × RecursiveMode) → PathValue × Recurs
 with_root roots root = other_roots roots root.0 ++ root ∷ []
 
 -- these are the roots, and of these entries what they show is kept
-abbrev pub kept_by : List (PathValue × RecursiveMode) → ListingValue → PolledValue
-kept_by roots entries = record { roots = roots; last = seen entries roots }
+abbrev pub polled_with : List (PathValue × RecursiveMode) → ListingValue → PolledValue
+polled_with roots entries = record { roots = roots; last = covered_entries entries roots }
 
 -- the root, which isn't empty, is watched: the last listing is completed by the root's first one, which has its path,
 -- and of this is kept what the roots show
@@ -38,7 +38,7 @@ abbrev pub Watches : PolledValue → PathValue × RecursiveMode → ListingValue
 Watches old root first new =
     (is_nonempty root.0 ≡ true) × (has_entry first root.0 ≡ true)
     × ((merged : ListingValue) × IsMerged old.last first merged
-    × (new ≡ kept_by (with_root old.roots root) merged))
+    × (new ≡ polled_with (with_root old.roots root) merged))
 
 -- the root, which isn't empty, is watched from the next round on: the last listing stays
 abbrev pub WatchesNext : PolledValue → PathValue × RecursiveMode → PolledValue → Type 0
@@ -46,28 +46,28 @@ WatchesNext old root new =
     (is_nonempty root.0 ≡ true) × (new ≡ record old { roots = with_root old.roots root })
 
 -- folders that tell their tree show this listing at the root
-abbrev pub ShowsFirst : Option ListingValue → PathValue × RecursiveMode → ListingValue → Type 0
-ShowsFirst told root first = IfSome told (λ tree. IsTree tree → first ≡ shown tree (root ∷ []))
+abbrev pub IsFirstListing : Option ListingValue → PathValue × RecursiveMode → ListingValue → Type 0
+IsFirstListing told root first = IfSome told (λ tree. IsTree tree → first ≡ reachable tree (root ∷ []))
 
 -- folders that tell their tree show this listing at the roots
-abbrev pub Shows : Option ListingValue → List (PathValue × RecursiveMode) → ListingValue → Type 0
-Shows told roots last = IfSome told (λ tree. IsTree tree → last ≡ shown tree roots)
+abbrev pub IsFullListing : Option ListingValue → List (PathValue × RecursiveMode) → ListingValue → Type 0
+IsFullListing told roots last = IfSome told (λ tree. IsTree tree → last ≡ reachable tree roots)
 
 -- the root is watched, and this is what it shows of the last listing then, itself included
 abbrev pub Lists : Option ListingValue → PolledValue → PathValue × RecursiveMode → ListingValue → PolledValue
     → Type 0
 Lists told old root listed new =
-    ((first : ListingValue) × ShowsFirst told root first × Watches old root first new)
-    × (listed ≡ seen new.last (root ∷ [])) × (has_entry listed root.0 ≡ true)
+    ((first : ListingValue) × IsFirstListing told root first × Watches old root first new)
+    × (listed ≡ covered_entries new.last (root ∷ [])) × (has_entry listed root.0 ≡ true)
 
 -- nothing stands at the root's path, if the folders tell their tree
 abbrev pub LacksRoot : Option ListingValue → PathValue × RecursiveMode → Type 0
-LacksRoot told root = IfSome told (λ tree. IsTree tree → has_entry (shown tree (root ∷ [])) root.0 ≡ false)
+LacksRoot told root = IfSome told (λ tree. IsTree tree → has_entry (reachable tree (root ∷ [])) root.0 ≡ false)
 
 -- something stands at the path, if the folders tell their tree
 abbrev pub IsThere : Option ListingValue → PathValue → Type 0
 IsThere told path = IfSome told (λ tree. IsTree tree →
-    has_entry (shown tree ((path, NonRecursive) ∷ [])) path ≡ true)
+    has_entry (reachable tree ((path, NonRecursive) ∷ [])) path ≡ true)
 
 -- a path to be watched isn't there
 abbrev pub path_not_found : ErrorValue
@@ -105,7 +105,7 @@ IsUnwatchError e = e ≡ watch_not_found
 abbrev pub WatchesOrRefuses : PathValue × RecursiveMode → Result (Unit {0}) ErrorValue → Type 0
 WatchesOrRefuses root (Ok done) =
     (old : PolledValue) × (new : PolledValue)
-    × (((first : ListingValue) × ShowsFirst None root first × Watches old root first new)
+    × (((first : ListingValue) × IsFirstListing None root first × Watches old root first new)
     ⊎ WatchesNext old root new)
 WatchesOrRefuses root (Err e) = IsWatchError e
 

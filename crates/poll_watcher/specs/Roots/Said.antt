@@ -8,7 +8,7 @@ use Rattle.notify_paths.specs.Path.{PathValue, path_eq}
 use Rattle.notify_types.specs.Event.{EventValue}
 use Rattle.poll_listing.specs.Listing.{ListingValue}
 use Rattle.poll_rounds.specs.Closed.{ClosedValue}
-use Rattle.poll_rounds.specs.Reports.{Tells}
+use Rattle.poll_rounds.specs.Reports.{ReportsChanges}
 
 -- the path was closed for the same cause
 abbrev pub is_said : ClosedValue → PathValue × ErrorKind → Bool
@@ -38,7 +38,7 @@ SaysEach {H} handles (one ∷ others) before after =
 
 -- a round tells what it changes of the last listing, with the trackers of moves from this one on, and then says which
 -- paths are closed that weren't
-abbrev pub TellsAndSays : {H : Type 0} → (H → Result EventValue ErrorValue → H → Type 0) → Option ℕ → ListingValue →
-    ListingValue → ClosedValue → H → H → Type 0
-TellsAndSays {H} handles trackers old new closed before after =
-    (between : H) × Tells handles trackers old new before between × SaysEach handles closed between after
+abbrev pub ReportsWithErrors : {H : Type 0} → (H → Result EventValue ErrorValue → H → Type 0) → Option ℕ → ListingValue
+    → ListingValue → ClosedValue → H → H → Type 0
+ReportsWithErrors {H} handles trackers old new closed before after =
+    (between : H) × ReportsChanges handles trackers old new before between × SaysEach handles closed between after

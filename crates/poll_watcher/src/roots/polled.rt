@@ -5,13 +5,13 @@ ghost use Rattle.notify_paths.specs.Errors.{out_of_memory};
 ghost use Rattle.notify_types.specs.declared.event.RecursiveMode.TheVariants.{NonRecursive};
 ghost use Rattle.poll_listing.specs.Changes.{changes};
 ghost use Rattle.poll_listing.specs.Listing.{IsListing, ListingValue, has_entry, is_nonempty};
-ghost use Rattle.poll_listing.specs.Moves.{told_changes, trackers_after};
-ghost use Rattle.poll_listing.specs.Near.{seen};
+ghost use Rattle.poll_listing.specs.Moves.{reported_changes, trackers_after};
+ghost use Rattle.poll_listing.specs.Near.{covered_entries};
 ghost use Rattle.poll_rounds.specs.Closed.{LookKeeps, RoundKeeps};
-ghost use Rattle.poll_rounds.specs.Folders.{IsTree, shown};
+ghost use Rattle.poll_rounds.specs.Folders.{IsTree, reachable};
 ghost use Rattle.poll_rounds.specs.Parts.{LooksEach};
-ghost use Rattle.poll_rounds.specs.Reports.{Reports, Tells};
-ghost use Rattle.poll_watcher.specs.Roots.Polled.{IsThere, IsWatchRefusal, Lists, Shows, ShowsFirst, Watches, WatchesNext, is_watched, kept_by, other_roots, watch_not_found, with_root};
+ghost use Rattle.poll_rounds.specs.Reports.{Reports, ReportsChanges};
+ghost use Rattle.poll_watcher.specs.Roots.Polled.{IsThere, IsWatchRefusal, Lists, IsFullListing, IsFirstListing, Watches, WatchesNext, is_watched, polled_with, other_roots, watch_not_found, with_root};
 ghost use Rattle.poll_rounds.specs.Rounds.{HandsEach, HandsRefusal};
 
 use notify_paths::{Error, ErrorKind, PathBuf};
@@ -111,7 +111,7 @@ impl<A: Allocator + Copy> Polled<A> {
         mode: RecursiveMode,
     ) -> Result<(), Error<A>>
         ensures ok { OnOk result ((first : ListingValue)
-            × ShowsFirst (D.told folders.old) (path.now, mode) first
+            × IsFirstListing (D.told folders.old) (path.now, mode) first
             × Watches self.old (path.now, mode) first self.new) }
         ensures unchanged { OnErr result (self.new ≡ self.old) }
         ensures err { IfErr result (λ e. IsWatchRefusal (D.told folders.old) (path.now, mode) e
@@ -154,13 +154,13 @@ impl<A: Allocator + Copy> Polled<A> {
         root: (PathBuf<A>, RecursiveMode),
         entries: Listing<A>,
     ) -> Result<(), Error<A>>
-        ensures ok { OnOk result (self.new ≡ kept_by (with_root self.old.roots root) entries) }
+        ensures ok { OnOk result (self.new ≡ polled_with (with_root self.old.roots root) entries) }
         ensures unchanged { OnErr result (self.new ≡ self.old) }
         ensures err { IfErr result (λ e. e ≡ out_of_memory) }
     {
         put_root(self.alloc, &mut self.roots, root)?;
         self.last = entries;
-        self.last.keep_seen(self.roots.as_slice());
+        self.last.retain_covered(self.roots.as_slice());
         Ok(())
     }
 
@@ -169,13 +169,13 @@ impl<A: Allocator + Copy> Polled<A> {
     /// The error is `WatchNotFound` if no equal path is watched; then all is as it was.
     pub fn unwatch(&mut self, path: &PathBuf<A>) -> Result<(), Error<A>>
         ensures ok { OnOk result ((is_watched self.old.roots path.now ≡ true)
-            × (self.new ≡ kept_by (other_roots self.old.roots path.now) self.old.last)) }
+            × (self.new ≡ polled_with (other_roots self.old.roots path.now) self.old.last)) }
         ensures unchanged { OnErr result (self.new ≡ self.old) }
         ensures err { IfErr result (λ e. (e ≡ watch_not_found)
             × (is_watched self.old.roots path.now ≡ false)) }
     {
         self.unwatch_reported(path)?;
-        self.last.keep_seen(self.roots.as_slice());
+        self.last.retain_covered(self.roots.as_slice());
         Ok(())
     }
 
@@ -191,7 +191,7 @@ impl<A: Allocator + Copy> Polled<A> {
         ensures given { result ≡ true →
             HandsEach H.handles (changes self.old.last self.new.last) handler.old handler.new }
         ensures shown { IfSome (D.told folders.old) (λ tree. IsTree tree → result ≡ true →
-            self.new.last ≡ shown tree self.old.roots) }
+            self.new.last ≡ reachable tree self.old.roots) }
         ensures unchanged { result ≡ false → self.new.last ≡ self.old.last }
         ensures refused { result ≡ false →
             HandsRefusal H.handles (D.failed folders.old) (D.failed folders.new) handler.old
@@ -256,21 +256,21 @@ impl<A: Allocator + Copy> Polled<A> {
         ensures again { H.ready handler.new }
         ensures roots { self.new.roots ≡ self.old.roots }
         ensures given { result ≡ true → HandsEach H.handles
-            (told_changes trackers.old self.old.last self.new.last) handler.old handler.new }
+            (reported_changes trackers.old self.old.last self.new.last) handler.old handler.new }
         ensures trackers { result ≡ true → trackers.new ≡ trackers_after trackers.old
-            (length (told_changes trackers.old self.old.last self.new.last)) }
+            (length (reported_changes trackers.old self.old.last self.new.last)) }
         ensures untold { result ≡ false → trackers.new ≡ trackers.old }
         ensures kept { result ≡ true →
             RoundKeeps (D.told folders.old) self.old.roots (D.closed folders.new) self.old.last
             self.new.last }
         ensures shown { result ≡ true → D.closed folders.new ≡ [] →
-            Shows (D.told folders.old) self.old.roots self.new.last }
+            IsFullListing (D.told folders.old) self.old.roots self.new.last }
         ensures unchanged { result ≡ false → self.new.last ≡ self.old.last }
         ensures refused { result ≡ false →
             HandsRefusal H.handles (D.failed folders.old) (D.failed folders.new) handler.old
             handler.new }
-        ensures reports { Tells H.handles trackers.old self.old.last self.new.last handler.old
-            handler.new }
+        ensures reports { ReportsChanges H.handles trackers.old self.old.last
+            self.new.last handler.old handler.new }
         ensures same { D.told folders.new ≡ D.told folders.old }
         ensures counted { D.failed folders.old ≤ D.failed folders.new }
     {
@@ -299,9 +299,9 @@ impl<A: Allocator + Copy> Polled<A> {
         ensures again { H.ready handler.new }
         ensures roots { self.new.roots ≡ self.old.roots }
         ensures given { result ≡ true → HandsEach H.handles
-            (told_changes trackers.old self.old.last self.new.last) handler.old handler.new }
+            (reported_changes trackers.old self.old.last self.new.last) handler.old handler.new }
         ensures trackers { result ≡ true → trackers.new ≡ trackers_after trackers.old
-            (length (told_changes trackers.old self.old.last self.new.last)) }
+            (length (reported_changes trackers.old self.old.last self.new.last)) }
         ensures untold { result ≡ false → trackers.new ≡ trackers.old }
         ensures kept { result ≡ true →
             LookKeeps (D.told folders.old) self.old.roots paths.now (D.closed folders.new)
@@ -310,8 +310,8 @@ impl<A: Allocator + Copy> Polled<A> {
         ensures refused { result ≡ false →
             HandsRefusal H.handles (D.failed folders.old) (D.failed folders.new) handler.old
             handler.new }
-        ensures reports { Tells H.handles trackers.old self.old.last self.new.last handler.old
-            handler.new }
+        ensures reports { ReportsChanges H.handles trackers.old self.old.last
+            self.new.last handler.old handler.new }
         ensures same { D.told folders.new ≡ D.told folders.old }
         ensures counted { D.failed folders.old ≤ D.failed folders.new }
     {
@@ -382,7 +382,7 @@ fn first_listing<A: Allocator + Copy, D: Folders<A>>(
     root: &PathBuf<A>,
     mode: RecursiveMode,
 ) -> Result<Listing<A>, Error<A>>
-    ensures shown { IfOk result (λ r. ShowsFirst (D.told folders.old) (root.now, mode) r) }
+    ensures shown { IfOk result (λ r. IsFirstListing (D.told folders.old) (root.now, mode) r) }
     ensures here { IfOk result (λ r. has_entry r root.now ≡ true) }
     ensures some { OnOk result (is_nonempty root.now ≡ true) }
     ensures err { IfErr result (λ e. IsWatchRefusal (D.told folders.old) (root.now, mode) e
@@ -405,7 +405,8 @@ fn shown_at<A: Allocator + Copy>(
     root: &PathBuf<A>,
     mode: RecursiveMode,
 ) -> Result<Listing<A>, Error<A>>
-    ensures ok { IfOk result (λ listed. listed ≡ seen entries.now ((root.now, mode) ∷ [])) }
+    ensures ok { IfOk result (λ listed.
+        listed ≡ covered_entries entries.now ((root.now, mode) ∷ [])) }
     ensures err { IfErr result (λ e. e ≡ out_of_memory) }
 {
     let mut roots = Vec::new(alloc);
@@ -413,7 +414,7 @@ fn shown_at<A: Allocator + Copy>(
         return Err(Error::out_of_memory(alloc));
     };
     let mut listed = entries.try_clone(alloc)?;
-    listed.keep_seen(roots.as_slice());
+    listed.retain_covered(roots.as_slice());
     Ok(listed)
 }
 

@@ -31,7 +31,7 @@ pub trait RoundFolders<A: Allocator>: NotesClosed<A> {
         ensures left_out { left_out self.new ≡ left_out self.old };
 
     /// Returns how many names they have left out.
-    fn names_left_out(&self) -> u64
+    fn names_skipped(&self) -> u64
         ensures { result ≡ left_out self.now };
 
     /// Returns the path of the last call that failed, and forgets it, as far as there was memory for it.
@@ -60,7 +60,7 @@ impl<R: Files + Clock + Drop, A: Allocator + Copy> RoundFolders<A>
         self.follow(paths);
     }
 
-    fn names_left_out(&self) -> u64 {
+    fn names_skipped(&self) -> u64 {
         self.inner().left_out()
     }
 

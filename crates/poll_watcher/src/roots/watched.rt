@@ -1,12 +1,12 @@
 //! What a polling watcher keeps under its lock.
 ghost use Rattle.std.specs.Prelude.{◌≡◌, ◌+◌, ◌-◌, ◌^◌, [], length, min, None, Some, false, true, IfErr, IsSome};
 ghost use Rattle.notify_paths.specs.Errors.{out_of_memory};
-ghost use Rattle.poll_listing.specs.Moves.{told_changes, trackers_after};
+ghost use Rattle.poll_listing.specs.Moves.{reported_changes, trackers_after};
 ghost use Rattle.poll_rounds.specs.Closed.{IsKept};
-ghost use Rattle.poll_rounds.specs.Reports.{Tells};
+ghost use Rattle.poll_rounds.specs.Reports.{ReportsChanges};
 ghost use Rattle.poll_watcher.specs.Roots.Deep.{too_deep};
-ghost use Rattle.poll_watcher.specs.Roots.Polled.{Shows};
-ghost use Rattle.poll_watcher.specs.Roots.Said.{SaysEach, TellsAndSays, unsaid};
+ghost use Rattle.poll_watcher.specs.Roots.Polled.{IsFullListing};
+ghost use Rattle.poll_watcher.specs.Roots.Said.{SaysEach, ReportsWithErrors, unsaid};
 
 use crate::roots::deep::count_too_deep;
 use crate::roots::polled::Polled;
@@ -107,28 +107,31 @@ impl<A: Allocator + Copy> Watched<A> {
             ≡ min (length (too_deep self.new.polled.roots self.new.polled.last)) (2 ^ 64 - 1) }
         ensures same { result ≡ false → (self.new.left_out ≡ self.old.left_out)
             × ((self.new.too_deep ≡ self.old.too_deep) × (self.new.closed ≡ self.old.closed)) }
-        ensures said { result ≡ true → TellsAndSays F.handles self.old.trackers
+        ensures said { result ≡ true → ReportsWithErrors F.handles self.old.trackers
             self.old.polled.last self.new.polled.last
             (unsaid self.old.closed.items self.new.closed.items) handler.old handler.new }
-        ensures reports { result ≡ false → Tells F.handles self.old.trackers self.old.polled.last
-            self.new.polled.last handler.old handler.new }
+        ensures reports { result ≡ false →
+            ReportsChanges F.handles self.old.trackers self.old.polled.last self.new.polled.last
+            handler.old handler.new }
         ensures trackers { result ≡ true → self.new.trackers ≡ trackers_after self.old.trackers
-            (length (told_changes self.old.trackers self.old.polled.last self.new.polled.last)) }
+            (length (reported_changes self.old.trackers self.old.polled.last
+            self.new.polled.last)) }
         ensures untold { result ≡ false → self.new.trackers ≡ self.old.trackers }
         ensures roots { self.new.polled.roots ≡ self.old.polled.roots }
         ensures shown { result ≡ true → self.new.closed.items ≡ [] →
-            Shows (D.told folders.old) self.new.polled.roots self.new.polled.last }
-        ensures tree { result ≡ true → Shows D.tree self.new.polled.roots self.new.polled.last }
+            IsFullListing (D.told folders.old) self.new.polled.roots self.new.polled.last }
+        ensures tree { result ≡ true →
+            IsFullListing D.tree self.new.polled.roots self.new.polled.last }
         ensures told { D.told folders.new ≡ D.told folders.old }
     {
         folders.tell();
-        let before = folders.names_left_out();
+        let before = folders.names_skipped();
         folders.follow_links(&mut self.followed);
         let went_well = self.polled.kept_round(folders, &mut self.trackers, handler);
         folders.follow_links(&mut self.followed);
         let failed_path = folders.take_failed();
         if went_well {
-            self.left_out = folders.names_left_out().saturating_sub(before);
+            self.left_out = folders.names_skipped().saturating_sub(before);
             self.count_deep();
             self.say_closed(folders, handler);
         }
@@ -185,10 +188,11 @@ impl<A: Allocator + Copy> Watched<A> {
     ) -> bool
         requires { F.ready handler.old }
         ensures again { F.ready handler.new }
-        ensures reports { Tells F.handles self.old.trackers self.old.polled.last
+        ensures reports { ReportsChanges F.handles self.old.trackers self.old.polled.last
             self.new.polled.last handler.old handler.new }
         ensures trackers { result ≡ true → self.new.trackers ≡ trackers_after self.old.trackers
-            (length (told_changes self.old.trackers self.old.polled.last self.new.polled.last)) }
+            (length (reported_changes self.old.trackers self.old.polled.last
+            self.new.polled.last)) }
         ensures untold { result ≡ false → self.new.trackers ≡ self.old.trackers }
     {
         folders.follow_links(&mut self.followed);

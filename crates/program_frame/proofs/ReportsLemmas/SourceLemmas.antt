@@ -3,7 +3,7 @@ use Rattle.std.proofs.Common.{List, [], ◌∷◌, Ok, Err, ap}
 use Rattle.std.specs.Prelude.{Option, Result, MatchResult}
 use Rattle.std.specs.declared.time.Duration.{Duration}
 use Rattle.program_frame.specs.declared.fault.Fault.{Fault}
-use Rattle.program_frame.specs.declared.reports.source.Given.{Given}
+use Rattle.program_frame.specs.declared.reports.source.WaitResult.{WaitResult}
 use Rattle.program_frame.specs.Reports.Loop.{Answer, DoesAll, Gives, Program, Step}
 
 -- what follows a call is what follows it where less is said
@@ -15,7 +15,7 @@ match_seen (Err fault) More More' Stops Stops' more stops h = stops fault h
 
 -- the steps were done with what less is said of
 pub all_said : {S T P : Type 0} (view : S → T) (gives : Gives S) (said : Gives T) (program : Program P) →
-    ((s s' : S) (pause : Option Duration) (given : Given) → gives s pause given s' →
+    ((s s' : S) (pause : Option Duration) (given : WaitResult) → gives s pause given s' →
     said (view s) pause given (view s')) →
     (steps : List Step) (s s' : S) (p p' : P) (answer : Answer) →
     DoesAll gives program steps s p answer s' p' → DoesAll said program steps (view s) p answer (view s') p'

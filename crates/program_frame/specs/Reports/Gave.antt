@@ -1,15 +1,15 @@
 -- What a source gave, and what a program was called with, one beside the other.
 use Rattle.std.specs.Prelude.{◌≡◌, ℕ, List, [], ◌∷◌, ◌++◌, Option, Some, Ok, map}
 use Rattle.std.specs.declared.time.Duration.{Duration}
-use Rattle.program_frame.specs.declared.reports.source.Given.TheVariants.{Over}
+use Rattle.program_frame.specs.declared.reports.source.WaitResult.TheVariants.{Over}
 use Rattle.program_frame.specs.declared.reports.source.Rest.{Rest}
-use Rattle.program_frame.specs.Reports.Loop.{Calls, Program, Source, Step, given_of}
+use Rattle.program_frame.specs.Reports.Loop.{Calls, Program, Source, Step, wait_result_of}
 
 -- each wait gave one of these, in order, and the last that the life is over
 abbrev pub GaveEach : {S : Type 0} → Source S → List Step → S → S → Type 0
 GaveEach source [] s s' = (pause : Option Duration) × source.gives s pause Over s'
 GaveEach {S} source (step ∷ steps) s s' =
-    (pause : Option Duration) × (s1 : S) × source.gives s pause (given_of step) s1 × GaveEach source steps s1 s'
+    (pause : Option Duration) × (s1 : S) × source.gives s pause (wait_result_of step) s1 × GaveEach source steps s1 s'
 
 -- these are all that the source gave, in order: what was waited for, and then what was left; so much was lost
 abbrev pub Gave : {S : Type 0} → Source S → S → List Step → ℕ → Type 0

@@ -4,8 +4,8 @@ use Rattle.std.specs.declared.alloc.Global.{Global}
 use Rattle.std.specs.declared.time.Duration.{Duration}
 use Rattle.notify_watch.specs.Handler.{Outcome}
 use Rattle.program_frame.specs.declared.fault.Fault.{Fault}
-use Rattle.program_frame.specs.declared.reports.source.Given.{Given}
-use Rattle.program_frame.specs.declared.reports.source.Given.TheVariants.{Report, Nothing, Over}
+use Rattle.program_frame.specs.declared.reports.source.WaitResult.{WaitResult}
+use Rattle.program_frame.specs.declared.reports.source.WaitResult.TheVariants.{Report, Nothing, Over}
 use Rattle.program_frame.specs.declared.reports.source.Rest.{Rest}
 
 -- what a call of a program answers: a fault ends the program
@@ -25,7 +25,7 @@ pub record Program (P : Type 0) : Type 1 where
 
 -- what a wait of at most so long gives, and leaves
 abbrev pub Gives : Type 0 → Type 1
-Gives S = S → Option Duration → Given → S → Type 0
+Gives S = S → Option Duration → WaitResult → S → Type 0
 
 -- what gives reports: by waits, and at the end what is left
 pub record Source (S : Type 0) : Type 1 where
@@ -33,9 +33,9 @@ pub record Source (S : Type 0) : Type 1 where
   pub ends : S → Result Rest Fault → Type 0
 
 -- what was given for a step
-abbrev pub given_of : Step → Given
-given_of (Some report) = Report report
-given_of None = Nothing
+abbrev pub wait_result_of : Step → WaitResult
+wait_result_of (Some report) = Report report
+wait_result_of None = Nothing
 
 -- the call of the program that a step is
 abbrev pub Calls : {P : Type 0} → Program P → Step → P → Answer → P → Type 0
@@ -45,7 +45,7 @@ Calls program None p answer p' = program.passes p answer p'
 -- one step: a wait, for as long as the program asks, gave this, and the program was called with it, once
 abbrev pub Does : {S P : Type 0} → Gives S → Program P → Step → S → P → Answer → S → P → Type 0
 Does gives program step s p answer s' p' =
-    gives s (program.patience p) (given_of step) s' × Calls program step p answer p'
+    gives s (program.patience p) (wait_result_of step) s' × Calls program step p answer p'
 
 -- the steps were done, one after the other, until the life was over or the program answered a fault
 abbrev pub DoesAll : {S P : Type 0} → Gives S → Program P → List Step → S → P → Answer → S → P → Type 0

@@ -3,7 +3,7 @@ ghost use Rattle.std.specs.Prelude.{List};
 ghost use Rattle.program_frame.specs.Reports.Loop.{DoesAll, Step, TakesEach, TakesRest};
 
 use crate::Fault;
-use crate::reports::source::{Given, GivesReports, Rest};
+use crate::reports::source::{GivesReports, Rest, WaitResult};
 use crate::reports::taker::TakesReports;
 use notify_watch::DebounceEventResult;
 use std::sync::Wait;
@@ -21,9 +21,9 @@ pub fn hand_on<R: Wait, S: GivesReports, P: TakesReports>(
 {
     for _ in rt.forever() {
         match source.wait(program.patience()) {
-            Given::Report(report) => program.take(report)?,
-            Given::Nothing => program.pass()?,
-            Given::Over => return Ok(()),
+            WaitResult::Report(report) => program.take(report)?,
+            WaitResult::Nothing => program.pass()?,
+            WaitResult::Over => return Ok(()),
         }
     }
     unreachable!()

@@ -6,7 +6,7 @@ use std::time::Duration;
 
 /// What a wait for the next report gives.
 #[derive(Drop)]
-pub enum Given {
+pub enum WaitResult {
     /// A batch, or errors.
     Report(DebounceEventResult),
     /// Nothing, for as long as was waited.
@@ -27,12 +27,12 @@ pub struct Rest {
 /// Gives reports, one after the other, until a life is over.
 pub trait GivesReports {
     ghost use Rattle.std.specs.declared.time.Duration.{Duration};
-    ghost use Rattle.program_frame.specs.declared.reports.source.Given.{Given};
+    ghost use Rattle.program_frame.specs.declared.reports.source.WaitResult.{WaitResult};
 
     /// What a wait that is so long at most gives, and leaves.
-    ghost gives: { Self → Option Duration → Given → Self → Type 0 };
+    ghost gives: { Self → Option Duration → WaitResult → Self → Type 0 };
 
     /// Waits for the next report, at most so long. `None` says: as long as it takes.
-    fn wait(&mut self, patience: Option<Duration>) -> Given
+    fn wait(&mut self, patience: Option<Duration>) -> WaitResult
         ensures { gives self.old patience result self.new };
 }

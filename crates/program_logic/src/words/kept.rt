@@ -48,19 +48,19 @@ pub trait ReadsDocuments {
 
 /// An index of documents that follows batches. What was reported and isn't there yet is read again.
 #[derive(Drop)]
-pub struct KeptIndex {
+pub struct FollowingIndex {
     alloc: Global,
     /// The index.
     pub index: DocumentIndex,
     missing: Missing,
 }
 
-impl KeptIndex {
+impl FollowingIndex {
     /// Returns the index of no documents.
-    pub fn new(alloc: Global) -> KeptIndex
+    pub fn new(alloc: Global) -> FollowingIndex
         ensures { result.index ≡ [] }
     {
-        KeptIndex {
+        FollowingIndex {
             alloc,
             index: DocumentIndex::new(alloc),
             missing: Missing::new(alloc),

@@ -6,11 +6,11 @@ use Rattle.std.specs.declared.alloc.Global.{Global}
 use Rattle.notify_paths.specs.Path.{PathValue}
 use Rattle.notify_types.specs.declared.event.RecursiveMode.{RecursiveMode}
 use Rattle.notify_watch.specs.Handler.{Outcome}
-use Rattle.debounce_book.specs.Book.{Kept}
+use Rattle.debounce_book.specs.Book.{BookValue}
 use Rattle.debounce_lock.specs.History.{Begins}
 use Rattle.debounce_lock.proofs.Moves.{begins_self}
 use Rattle.debounce_run.specs.Access.Happened.{History, Opened}
-use Rattle.debounce_run.specs.Turns.Running.{Shown}
+use Rattle.debounce_run.specs.Turns.Running.{RunningValue}
 use Rattle.poll_watcher.specs.declared.watcher.LastFound.{LastFound}
 use Rattle.debounce_cache.specs.declared.cache.NoCache.{NoCache}
 use Rattle.notify_debouncer_full.specs.Emitted.{FinishesReports}
@@ -37,8 +37,8 @@ opened_one pace path mode before after s is began adds seen given = record {
 }
 
 -- what is left of a debouncer and of the wait for its reports, if the rest could be had
-pub left_if : {T L : Type 0} (debouncer ended : Shown T L) (awaited : Awaited) (closed : Giving (Outcome Global)) →
-    ended ≡ debouncer → closed ≡ awaited.queue → (queue : List (Outcome Global)) (book : Kept NoCache)
+pub left_if : {T L : Type 0} (debouncer ended : RunningValue T L) (awaited : Awaited) (closed : Giving (Outcome Global))
+    → ended ≡ debouncer → closed ≡ awaited.queue → (queue : List (Outcome Global)) (book : BookValue NoCache)
     (missed unsent : ℕ) (last : LastFound Global) →
     FinishesReports ends_polling ended.made last ended.seen ended.parts closed.given queue unsent book missed →
     (rest : Result Rest Fault) → IfOk rest (IsRestOf book queue missed unsent) →
@@ -51,7 +51,7 @@ left_if {T} {L} debouncer ended awaited closed same waits queue book missed unse
   unsent = unsent;
   last = last;
   ended = subst
-      (λ (d : Shown T L). FinishesReports ends_polling d.made last d.seen d.parts awaited.queue.given
+      (λ (d : RunningValue T L). FinishesReports ends_polling d.made last d.seen d.parts awaited.queue.given
       queue unsent book missed) same
       (subst
       (λ (q : Giving (Outcome Global)). FinishesReports ends_polling ended.made last ended.seen ended.parts q.given

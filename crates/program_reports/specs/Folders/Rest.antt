@@ -7,7 +7,7 @@ use Rattle.notify_types.specs.Event.{Timed}
 use Rattle.notify_watch.specs.Handler.{Outcome}
 use Rattle.debounce_model.specs.State.{State}
 use Rattle.debounce_model.specs.Tick.{IsOutlook}
-use Rattle.debounce_book.specs.Book.{Kept}
+use Rattle.debounce_book.specs.Book.{BookValue}
 use Rattle.debounce_book.specs.Journal.{EntryValue}
 use Rattle.debounce_run.specs.Access.Adds.{FeedsItem}
 use Rattle.debounce_run.specs.Access.Stands.{Known}
@@ -37,7 +37,7 @@ Waits state reports =
 
 -- what a debouncer that ended left as reports: what is left in its queue, and then what waits in its book; and how much
 -- was missed, or could not be put into the queue, counted to 2^64 - 1
-pub record IsRestOf {C : Type 0} (book : Kept C) (queue : List (Outcome Global)) (missed unsent : ℕ) (rest : Rest)
+pub record IsRestOf {C : Type 0} (book : BookValue C) (queue : List (Outcome Global)) (missed unsent : ℕ) (rest : Rest)
     : Type 0 where
   pub waiting : List (Outcome Global)
   pub waits : Waits book.core.state waiting
@@ -56,7 +56,7 @@ ends_polling begun config now found =
 -- the reports are those of this queue and this book. What was fed in it is what the watcher's feed shows, whose work
 -- has ended with what was found last
 pub record IsLeft (s : Followed) (rest : Rest) : Type 0 where
-  pub book : Kept NoCache
+  pub book : BookValue NoCache
   pub parts : List EntryValue
   pub queue : List (Outcome Global)
   pub missed : ℕ

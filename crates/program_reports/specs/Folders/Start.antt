@@ -9,7 +9,7 @@ use Rattle.debounce_lock.specs.History.{Begins, picked}
 use Rattle.debounce_run.specs.Access.Adds.{Adds}
 use Rattle.debounce_run.specs.Access.Happened.{History, Opened, accepted, is_fed}
 use Rattle.debounce_run.specs.Access.Stands.{Known}
-use Rattle.debounce_run.specs.Turns.Running.{Shown}
+use Rattle.debounce_run.specs.Turns.Running.{RunningValue}
 use Rattle.program_frame.specs.declared.pace.Pace.{Pace}
 use Rattle.program_frame.specs.declared.fault.Fault.{Fault}
 use Rattle.program_frame.specs.declared.fault.Fault.TheVariants.{CannotWatch, Memory, NoHints, NoThread, NotThere, NotWatched}
@@ -38,7 +38,7 @@ pub record Followed : Type 0 where
   pub awaited : Awaited
 
 -- what is shown of this debouncer and of this wait
-abbrev pub followed : {T L : Type 0} → Shown T L → Awaited → Followed
+abbrev pub followed : {T L : Type 0} → RunningValue T L → Awaited → Followed
 followed debouncer awaited = record { made = debouncer.made; seen = debouncer.seen; awaited = awaited }
 
 -- the watcher was made with a feed by which nothing had been fed, and with initial events or without

@@ -42,8 +42,8 @@ impl<'n, R: DebouncerRuntime + AllocGlobal, E: Write + Drop> FolderWatch<'n, R, 
     }
 
     /// How many names of the folder are left out, since they aren't UTF-8.
-    pub(crate) fn names_left_out(&self) -> u64 {
-        self.debouncer.watcher().names_left_out()
+    pub(crate) fn names_skipped(&self) -> u64 {
+        self.debouncer.watcher().names_skipped()
     }
 
     /// How many folders lie so deep that what is in them is left out.
@@ -52,10 +52,10 @@ impl<'n, R: DebouncerRuntime + AllocGlobal, E: Write + Drop> FolderWatch<'n, R, 
     }
 
     /// Says how many these are, once each, if any is.
-    pub(crate) fn say_left_out(&mut self)
+    pub(crate) fn say_skipped(&mut self)
         ensures same { self.new.debouncer ≡ self.old.debouncer }
     {
-        let names = self.names_left_out();
+        let names = self.names_skipped();
         self.complaints.leave_out(names);
         let folders = self.folders_too_deep();
         self.complaints.leave_deep(folders);
@@ -77,7 +77,7 @@ impl<'n, R: DebouncerRuntime + AllocGlobal, E: Write + Drop> FolderWatch<'n, R, 
         ensures ok { IfOk result (IsLeft (followed self.entry.debouncer waiting)) }
         ensures err { IfErr result (λ e. e ≡ Memory) }
     {
-        self.say_left_out();
+        self.say_skipped();
         let closed = self.closed()?;
         let FolderWatch {
             rt,

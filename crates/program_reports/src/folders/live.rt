@@ -44,7 +44,7 @@ impl<R: DebouncerRuntime + AllocGlobal> Live<R> {
             .with_poll_interval(pace.interval)
             .with_initial_events(pace.initial)
             .with_root_links(true)
-            .with_closed_kept(true)
+            .with_unreadable_unchanged(true)
             .with_moves(true);
         let end = end_of(&rt, pace.life);
         let input = InputEnd::new(rt.alloc(), pace.until_eof)?;

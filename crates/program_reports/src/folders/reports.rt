@@ -111,9 +111,9 @@ impl<'n, R: DebouncerRuntime + AllocGlobal, E: Write + Drop> FolderReports<'n, R
     }
 
     /// Returns how many names of the folder are left out, since they aren't UTF-8, as far as it was looked at
-    /// (`PollWatcher::names_left_out`).
-    pub fn names_left_out(&self) -> u64 {
-        self.watch.names_left_out()
+    /// (`PollWatcher::names_skipped`).
+    pub fn names_skipped(&self) -> u64 {
+        self.watch.names_skipped()
     }
 
     /// Returns how many folders lie so deep that what is in them is left out, as far as was looked at
@@ -125,10 +125,10 @@ impl<'n, R: DebouncerRuntime + AllocGlobal, E: Write + Drop> FolderReports<'n, R
     /// Says how many names are left out, and how many folders lie too deep, each once, if any is
     /// (`NAME: 3 names are not UTF-8 and are left out`,
     /// `NAME: 2 folders lie 64 levels deep, and what is in them is left out`).
-    pub fn say_left_out(&mut self)
+    pub fn say_skipped(&mut self)
         ensures same { self.new ≡ self.old }
     {
-        self.watch.say_left_out();
+        self.watch.say_skipped();
     }
 
     /// Waits for the next report. `None` says that the life is over, as by the end of the input, or that the
@@ -141,7 +141,7 @@ impl<'n, R: DebouncerRuntime + AllocGlobal, E: Write + Drop> FolderReports<'n, R
         ensures over { result ≡ None
             → (self.old.awaited.has_end ≡ true) ⊎ (self.new.awaited.queue.is_open ≡ false) }
     {
-        self.say_left_out();
+        self.say_skipped();
         self.waiting.next()
     }
 
@@ -152,7 +152,7 @@ impl<'n, R: DebouncerRuntime + AllocGlobal, E: Write + Drop> FolderReports<'n, R
         ensures given { self.new.awaited.queue.given
             ≡ self.old.awaited.queue.given ++ option_to_list result }
     {
-        self.say_left_out();
+        self.say_skipped();
         self.waiting.next_within(pause)
     }
 

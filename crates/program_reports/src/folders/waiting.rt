@@ -3,12 +3,12 @@ ghost use Rattle.std.specs.Prelude.{◌≡◌, ◌≢◌, ◌⊎◌, ◌≤◌, 
 ghost use Rattle.std.specs.Duration.{as_nanos};
 ghost use Rattle.std.specs.Option.{option_to_list};
 ghost use Rattle.std.specs.Time.{instant_nanos};
-ghost use Rattle.program_reports.specs.Folders.Waits.{given_in};
-ghost use Rattle.program_frame.specs.declared.reports.source.Given.TheVariants.{Nothing, Over};
+ghost use Rattle.program_reports.specs.Folders.Waits.{reports_in};
+ghost use Rattle.program_frame.specs.declared.reports.source.WaitResult.TheVariants.{Nothing, Over};
 
 use crate::folders::input_end::InputEnd;
 use notify_debouncer_full::{DebounceEventResult, ReportQueue};
-use program_frame::reports::{Given, GivesReports};
+use program_frame::reports::{GivesReports, WaitResult};
 use std::marker::Model;
 use std::sync::Wait;
 use std::time::{Clock, Duration, Instant};
@@ -133,22 +133,22 @@ impl<R: Wait + Clock + Copy + Drop> ReportWait<R> {
     }
 
     /// Waits for the next report, so long at most if that is said.
-    fn give(&mut self, pause: Option<Duration>) -> Given
+    fn give(&mut self, pause: Option<Duration>) -> WaitResult
         ensures nothing { result ≡ Nothing → IsSome pause }
         ensures over { result ≡ Over
             → (self.old.has_end ≡ true) ⊎ (self.new.queue.is_open ≡ false) }
         ensures end { self.new.has_end ≡ self.old.has_end }
         ensures lock { self.new.queue.lock ≡ self.old.queue.lock }
-        ensures given { self.new.queue.given ≡ self.old.queue.given ++ given_in result }
+        ensures given { self.new.queue.given ≡ self.old.queue.given ++ reports_in result }
     {
         let report = match pause {
             None => self.next(),
             Some(pause) => self.next_within(pause),
         };
         match report {
-            Some(report) => Given::Report(report),
-            None if pause.is_some() && !self.is_over() => Given::Nothing,
-            None => Given::Over,
+            Some(report) => WaitResult::Report(report),
+            None if pause.is_some() && !self.is_over() => WaitResult::Nothing,
+            None => WaitResult::Over,
         }
     }
 }
@@ -158,7 +158,7 @@ impl<R: Wait + Clock + Copy + Drop> GivesReports for ReportWait<R> {
 
     ghost gives = { λ before pause given after. GivesOne before pause given after };
 
-    fn wait(&mut self, pause: Option<Duration>) -> Given {
+    fn wait(&mut self, pause: Option<Duration>) -> WaitResult {
         self.give(pause)
     }
 }

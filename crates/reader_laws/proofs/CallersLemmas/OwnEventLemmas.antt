@@ -7,10 +7,10 @@ use Rattle.debounce_lock.specs.History.{picked}
 use Rattle.debounce_run.specs.Access.Adds.{FeedsItem}
 use Rattle.debounce_run.specs.Access.Happened.{HappenedValue, History, is_fed}
 use Rattle.debounce_run.specs.Access.Stands.{HasAllFed, Known}
-use Rattle.debounce_run.specs.Turns.Running.{IsMadeWith, IsStarted, Shown}
+use Rattle.debounce_run.specs.Turns.Running.{IsMadeWith, IsStarted, RunningValue}
 
 -- by the feed with which a watcher was just made nothing was fed yet
-pub fed_nothing : {T L : Type 0} (d : Shown T L) (timeout : ℕ) (journaled : Bool) (config : Config)
+pub fed_nothing : {T L : Type 0} (d : RunningValue T L) (timeout : ℕ) (journaled : Bool) (config : Config)
     → IsStarted d timeout journaled → IsMadeWith config d → picked is_fed d.made.0.seen ≡ []
 fed_nothing d timeout journaled config started made =
     ap (λ (m : Known × Config). picked is_fed m.0.seen) made ∙ ap (picked is_fed) started.seen

@@ -24,7 +24,7 @@ use Rattle.poll_watcher.specs.Work.{EndsPolling, FindsTree}
 use Rattle.poll_watcher.specs.declared.watcher.LastFound.{LastFound}
 use Rattle.notify_debouncer_full.proofs.Batches.{in_both, reported_batches}
 use Rattle.notify_debouncer_full.specs.Emitted.{batch_of, events_in, plain, reports_of}
-use Rattle.poll_rounds.specs.Folders.{shown}
+use Rattle.poll_rounds.specs.Folders.{reachable}
 use Rattle.reader_laws.specs.Callers.Whole.{BeganWithNothing, IsReadError, ReadsRest, ReadsTree, read_on}
 
 -- some reports, and then others

@@ -2,7 +2,7 @@
 use Rattle.std.specs.Prelude.{◌≡◌, ℕ, List, [], ◌∷◌}
 use Rattle.notify_watch.specs.declared.config.Config.{Config}
 use Rattle.debounce_lock.specs.History.{Begins, picked}
-use Rattle.debounce_book.specs.Book.{Kept}
+use Rattle.debounce_book.specs.Book.{BookValue}
 use Rattle.debounce_book.specs.Journal.{EntryValue}
 use Rattle.debounce_run.specs.Access.Happened.{HappenedValue, History, is_fed}
 use Rattle.debounce_run.specs.Access.Stands.{Known, LeadsTo}
@@ -17,7 +17,7 @@ IsCalledOnce {H} {X} handles before after = (item : X) × handles before item af
 
 -- a history that goes on from what was seen leads to the book and to the count, and one event or error alone was fed or
 -- missed in it
-abbrev pub EndsWithOne : {C : Type 0} → History → List EntryValue → Kept C → ℕ → Type 0
+abbrev pub EndsWithOne : {C : Type 0} → History → List EntryValue → BookValue C → ℕ → Type 0
 EndsWithOne seen parts book count =
     (log : History) × Begins seen log × LeadsTo book count parts log
     × ((h : HappenedValue) × (picked is_fed log ≡ h ∷ []))

@@ -15,7 +15,7 @@ use Rattle.debounce_run.specs.Access.Happened.{is_fed}
 use Rattle.debounce_run.specs.Access.Stands.{Known}
 use Rattle.debounce_run.specs.Turns.Clock.{IsIo}
 use Rattle.poll_listing.specs.Listing.{ListingValue}
-use Rattle.poll_rounds.specs.Folders.{IsTree, shown}
+use Rattle.poll_rounds.specs.Folders.{IsTree, reachable}
 use Rattle.poll_watcher.specs.Roots.Polled.{IsWatchError}
 use Rattle.notify_debouncer_full.specs.Emitted.{events_in, plain}
 
@@ -36,7 +36,7 @@ BeganWithNothing made = (made.1.initial_events ≡ true) × (picked is_fed made.
 -- missed or unsent
 abbrev pub ReadsTree : ListingValue → List (PathValue × RecursiveMode) → Bool → ℕ → ℕ → Paths → Type 0
 ReadsTree tree roots went_well missed unsent paths =
-    IsTree tree → went_well ≡ true → missed ≡ 0 → unsent ≡ 0 → paths ≡ keys_of (shown tree roots)
+    IsTree tree → went_well ≡ true → missed ≡ 0 → unsent ≡ 0 → paths ≡ keys_of (reachable tree roots)
 
 -- why nothing is read: an allocation, a clock or a thread, or the path
 abbrev pub IsReadError : ErrorValue → Type 0

@@ -16,20 +16,20 @@ use Rattle.notify_paths.specs.Path.{PathValue, is_prefix}
 use Rattle.notify_types.specs.Event.{EventValue}
 use Rattle.notify_types.specs.Kinds.{is_creation, is_removal}
 use Rattle.reader_paths.specs.Moves.{AreMovesOf, MoveValue, MovesValue, move_of, move_with, path_with, paths_with}
-use Rattle.reader_paths.specs.Moves.Told.{IsTold, ToldValue, kept_from, kept_with, move_told, told_by, told_created, told_from, told_move, told_nothing, told_removed, told_with, with_created, with_removed}
+use Rattle.reader_paths.specs.Moves.Told.{IsTracked, TrackedValue, collected_from, collected_with, move_tracked, tracked_by, tracked_created, tracked_from, tracked_move, tracked_nothing, tracked_removed, tracked_with, with_created, with_removed}
 
 -- ---- one path more
 
 -- one more path was removed
-abbrev removed_more : PathValue → ToldValue → ToldValue
-removed_more path told = told_removed path told.from told
+abbrev removed_more : PathValue → TrackedValue → TrackedValue
+removed_more path told = tracked_removed path told.from told
 
 -- one more path was created
-abbrev created_more : PathValue → ToldValue → ToldValue
-created_more path told = told_created path told.to told
+abbrev created_more : PathValue → TrackedValue → TrackedValue
+created_more path told = tracked_created path told.to told
 
 -- a removal and a creation come to the same in both orders
-swapped : (r c : PathValue) (told : ToldValue) → removed_more r (created_more c told)
+swapped : (r c : PathValue) (told : TrackedValue) → removed_more r (created_more c told)
     ≡ created_more c (removed_more r told)
 swapped r c told = by told.from told.to told.is_move
   where
@@ -42,25 +42,25 @@ swapped r c told = by told.from told.to told.is_move
     by (Some f) (Some t) b = refl
 
 -- removals and a creation
-passed_one : (c : PathValue) (rs : List PathValue) (told : ToldValue) → with_removed (created_more c told) rs
+passed_one : (c : PathValue) (rs : List PathValue) (told : TrackedValue) → with_removed (created_more c told) rs
     ≡ created_more c (with_removed told rs)
 passed_one c [] told = refl
 passed_one c (r ∷ rs) told = ap (λ x. with_removed x rs) (swapped r c told) ∙ passed_one c rs (removed_more r told)
 
 -- removals and creations
-passed : (rs cs : List PathValue) (told : ToldValue) → with_removed (with_created told cs) rs
+passed : (rs cs : List PathValue) (told : TrackedValue) → with_removed (with_created told cs) rs
     ≡ with_created (with_removed told rs) cs
 passed rs [] told = refl
 passed rs (c ∷ cs) told = passed rs cs (created_more c told) ∙ ap (λ x. with_created x cs) (passed_one c rs told)
 
 -- removals in a row
-with_removed-append : (told : ToldValue) (xs ys : List PathValue) → with_removed told (xs ++ ys)
+with_removed-append : (told : TrackedValue) (xs ys : List PathValue) → with_removed told (xs ++ ys)
     ≡ with_removed (with_removed told xs) ys
 with_removed-append told [] ys = refl
 with_removed-append told (x ∷ xs) ys = with_removed-append (removed_more x told) xs ys
 
 -- creations in a row
-with_created-append : (told : ToldValue) (xs ys : List PathValue) → with_created told (xs ++ ys)
+with_created-append : (told : TrackedValue) (xs ys : List PathValue) → with_created told (xs ++ ys)
     ≡ with_created (with_created told xs) ys
 with_created-append told [] ys = refl
 with_created-append told (x ∷ xs) ys = with_created-append (created_more x told) xs ys
@@ -68,11 +68,11 @@ with_created-append told (x ∷ xs) ys = with_created-append (created_more x tol
 -- ---- all paths with a tracker
 
 -- what the events tell with a tracker, by the paths that they removed and created with it
-told_from-paths : (t : ℕ) (es : List EventValue) (told : ToldValue) → told_from t told es
+tracked_from-paths : (t : ℕ) (es : List EventValue) (told : TrackedValue) → tracked_from t told es
     ≡ with_created (with_removed told (paths_with is_removal t es)) (paths_with is_creation t es)
-told_from-paths t [] told = refl
-told_from-paths t (e ∷ es) told =
-    told_from-paths t es (told_by t told e)
+tracked_from-paths t [] told = refl
+tracked_from-paths t (e ∷ es) told =
+    tracked_from-paths t es (tracked_by t told e)
     ∙ by (path_with is_removal t e) (path_with is_creation t e) (paths_with is_removal t es)
     (paths_with is_creation t es)
   where
@@ -85,39 +85,39 @@ told_from-paths t (e ∷ es) told =
         ∙ ap (λ x. with_created x (c ++ cs)) (sym (with_removed-append told r rs))
 
 -- creations leave what was removed
-same_from : (told : ToldValue) (cs : List PathValue) → (with_created told cs).from ≡ told.from
+same_from : (told : TrackedValue) (cs : List PathValue) → (with_created told cs).from ≡ told.from
 same_from told [] = refl
 same_from told (c ∷ cs) = same_from (created_more c told) cs ∙ by told.to
   where
-    by : (t : Option PathValue) → (told_created c t told).from ≡ told.from
+    by : (t : Option PathValue) → (tracked_created c t told).from ≡ told.from
     by None = refl
     by (Some t) = refl
 
 -- what is no move is none after creations
-none_after_created : (told : ToldValue) (cs : List PathValue) → told.is_move ≡ false →
+none_after_created : (told : TrackedValue) (cs : List PathValue) → told.is_move ≡ false →
     (with_created told cs).is_move ≡ false
 none_after_created told [] h = h
 none_after_created told (c ∷ cs) h = none_after_created (created_more c told) cs (by told.to)
   where
-    by : (t : Option PathValue) → (told_created c t told).is_move ≡ false
+    by : (t : Option PathValue) → (tracked_created c t told).is_move ≡ false
     by None = h
     by (Some t) = ap (λ b. b && is_prefix t c) h
 
 -- .. and after removals
-none_after_removed : (told : ToldValue) (rs : List PathValue) → told.is_move ≡ false →
+none_after_removed : (told : TrackedValue) (rs : List PathValue) → told.is_move ≡ false →
     (with_removed told rs).is_move ≡ false
 none_after_removed told [] h = h
 none_after_removed told (r ∷ rs) h = none_after_removed (removed_more r told) rs (by told.from)
   where
-    by : (f : Option PathValue) → (told_removed r f told).is_move ≡ false
+    by : (f : Option PathValue) → (tracked_removed r f told).is_move ≡ false
     by None = h
     by (Some f) = refl
 
 -- what is no move is none
-none_told : (told : ToldValue) → told.is_move ≡ false → move_told told ≡ None
+none_told : (told : TrackedValue) → told.is_move ≡ false → move_tracked told ≡ None
 none_told told h = by told.from told.to told.is_move h
   where
-    by : (f t : Option PathValue) (b : Bool) → b ≡ false → told_move f t b ≡ None
+    by : (f t : Option PathValue) (b : Bool) → b ≡ false → tracked_move f t b ≡ None
     by None t b e = refl
     by (Some f) None b e = refl
     by (Some f) (Some t) b e = rw e refl
@@ -128,12 +128,12 @@ created_below : (f : Option PathValue) (to : PathValue) (b : Bool) (cs : List Pa
     ≡ record { from = f; to = Some to; is_move = b && list_all (is_prefix to) cs }
 created_below f to b [] = by b
   where
-    by : (b : Bool) → (let x : ToldValue = record { from = f; to = Some to; is_move = b } in x)
+    by : (b : Bool) → (let x : TrackedValue = record { from = f; to = Some to; is_move = b } in x)
         ≡ record { from = f; to = Some to; is_move = b && true }
     by true = refl
     by false = refl
 created_below f to b (c ∷ cs) = created_below f to (b && is_prefix to c) cs
-    ∙ ap (λ (a : Bool). let x : ToldValue = record { from = f; to = Some to; is_move = a } in x)
+    ∙ ap (λ (a : Bool). let x : TrackedValue = record { from = f; to = Some to; is_move = a } in x)
     (by b (is_prefix to c) (list_all (is_prefix to) cs))
   where
     by : (x y z : Bool) → ((x && y) && z) ≡ (x && (y && z))
@@ -141,16 +141,17 @@ created_below f to b (c ∷ cs) = created_below f to (b && is_prefix to c) cs
     by false y z = refl
 
 -- the move that was told is that of the paths
-move_told-paths : (rs cs : List PathValue) → move_told (with_created (with_removed told_nothing rs) cs) ≡ move_of rs cs
-move_told-paths [] cs =
-    let told : ToldValue = with_created told_nothing cs in
-    ap (λ f. told_move f told.to told.is_move) (same_from told_nothing cs)
-move_told-paths (r ∷ []) [] = refl
-move_told-paths (r ∷ []) (c ∷ cs) = ap move_told (created_below (Some r) c true cs)
-move_told-paths (r ∷ q ∷ rs) cs =
-    none_told (with_created (with_removed told_nothing (r ∷ q ∷ rs)) cs)
-    (none_after_created (with_removed told_nothing (r ∷ q ∷ rs)) cs
-    (none_after_removed (removed_more q (removed_more r told_nothing)) rs refl))
+move_tracked-paths : (rs cs : List PathValue)
+    → move_tracked (with_created (with_removed tracked_nothing rs) cs) ≡ move_of rs cs
+move_tracked-paths [] cs =
+    let told : TrackedValue = with_created tracked_nothing cs in
+    ap (λ f. tracked_move f told.to told.is_move) (same_from tracked_nothing cs)
+move_tracked-paths (r ∷ []) [] = refl
+move_tracked-paths (r ∷ []) (c ∷ cs) = ap move_tracked (created_below (Some r) c true cs)
+move_tracked-paths (r ∷ q ∷ rs) cs =
+    none_told (with_created (with_removed tracked_nothing (r ∷ q ∷ rs)) cs)
+    (none_after_created (with_removed tracked_nothing (r ∷ q ∷ rs)) cs
+    (none_after_removed (removed_more q (removed_more r tracked_nothing)) rs refl))
 
 -- ---- all moves
 
@@ -166,7 +167,7 @@ or_move None other = other
 or_move (Some move) other = Some move
 
 -- one more move, read at a tracker
-kept_with_here : (moves : MovesValue) (k : ℕ) (f : Option MoveValue) (t : ℕ) → move_with (kept_with moves k f) t
+kept_with_here : (moves : MovesValue) (k : ℕ) (f : Option MoveValue) (t : ℕ) → move_with (collected_with moves k f) t
     ≡ cond (is_at (nat_cmp t) k) (or_move f (move_with moves t)) (move_with moves t)
 kept_with_here moves k None t = by (is_at (nat_cmp t) k)
   where
@@ -184,29 +185,29 @@ kept_with_here moves k (Some m) t = by (is_at (nat_cmp t) k) refl
     by false h = lookup-insert_other nat_cmp_total moves k t m h
 
 -- the moves that were kept, read at a tracker
-kept_here : (moves : MovesValue) (told : List (ℕ × ToldValue)) (t : ℕ) → IsStrictlySortedBy nat_cmp (keys_of told) →
-    move_with (kept_from moves told) t ≡ or_move (move_told (told_with told t)) (move_with moves t)
+kept_here : (moves : MovesValue) (told : List (ℕ × TrackedValue)) (t : ℕ) → IsStrictlySortedBy nat_cmp (keys_of told) →
+    move_with (collected_from moves told) t ≡ or_move (move_tracked (tracked_with told t)) (move_with moves t)
 kept_here moves [] t s = refl
 kept_here moves (e ∷ told) t s =
-    kept_here (kept_with moves e.0 (move_told e.1)) told t (sorted_tail nat_cmp e.0 (keys_of told) s)
-    ∙ ap (λ f. or_move (move_told (told_with told t)) f) (kept_with_here moves e.0 (move_told e.1) t)
+    kept_here (collected_with moves e.0 (move_tracked e.1)) told t (sorted_tail nat_cmp e.0 (keys_of told) s)
+    ∙ ap (λ f. or_move (move_tracked (tracked_with told t)) f) (kept_with_here moves e.0 (move_tracked e.1) t)
     ∙ by (is_at (nat_cmp t) e.0) refl
   where
     by : (b : Bool) → is_at (nat_cmp t) e.0 ≡ b →
-        or_move (move_told (told_with told t))
-        (cond b (or_move (move_told e.1) (move_with moves t)) (move_with moves t))
-        ≡ or_move (move_told (unwrap_or (cond b (Some e.1) (lookup (is_at (nat_cmp t)) told)) told_nothing))
+        or_move (move_tracked (tracked_with told t))
+        (cond b (or_move (move_tracked e.1) (move_with moves t)) (move_with moves t))
+        ≡ or_move (move_tracked (unwrap_or (cond b (Some e.1) (lookup (is_at (nat_cmp t)) told)) tracked_nothing))
         (move_with moves t)
     by true h = rw (gone_after t e told s h) refl
     by false h = refl
 
 -- the moves that were kept ascend
-sorted_kept : (moves : MovesValue) (told : List (ℕ × ToldValue)) → IsStrictlySortedBy nat_cmp (keys_of moves) →
-    IsStrictlySortedBy nat_cmp (keys_of (kept_from moves told))
+sorted_kept : (moves : MovesValue) (told : List (ℕ × TrackedValue)) → IsStrictlySortedBy nat_cmp (keys_of moves) →
+    IsStrictlySortedBy nat_cmp (keys_of (collected_from moves told))
 sorted_kept moves [] s = s
-sorted_kept moves (e ∷ told) s = sorted_kept (kept_with moves e.0 (move_told e.1)) told (by (move_told e.1))
+sorted_kept moves (e ∷ told) s = sorted_kept (collected_with moves e.0 (move_tracked e.1)) told (by (move_tracked e.1))
   where
-    by : (f : Option MoveValue) → IsStrictlySortedBy nat_cmp (keys_of (kept_with moves e.0 f))
+    by : (f : Option MoveValue) → IsStrictlySortedBy nat_cmp (keys_of (collected_with moves e.0 f))
     by None = s
     by (Some m) = sorted-insert_entry nat_cmp_total moves e.0 m s
 
@@ -216,15 +217,15 @@ unfolding IsStrictlySortedBy
 none_sorted = tt
 
 -- the moves that were told ascend
-pub sorted_moves : (told : List (ℕ × ToldValue)) → IsStrictlySortedBy nat_cmp (keys_of (kept_from [] told))
+pub sorted_moves : (told : List (ℕ × TrackedValue)) → IsStrictlySortedBy nat_cmp (keys_of (collected_from [] told))
 sorted_moves told = sorted_kept [] told none_sorted
 
 -- the moves that were told are those of the events
-pub are_moves : (es : List EventValue) (told : List (ℕ × ToldValue)) → IsTold es told →
-    IsStrictlySortedBy nat_cmp (keys_of told) → AreMovesOf es (kept_from [] told)
-are_moves es told h s = λ t. kept_here [] told t s ∙ by (move_told (told_with told t))
-    ∙ ap move_told (h t ∙ told_from-paths t es told_nothing)
-    ∙ move_told-paths (paths_with is_removal t es) (paths_with is_creation t es)
+pub are_moves : (es : List EventValue) (told : List (ℕ × TrackedValue)) → IsTracked es told →
+    IsStrictlySortedBy nat_cmp (keys_of told) → AreMovesOf es (collected_from [] told)
+are_moves es told h s = λ t. kept_here [] told t s ∙ by (move_tracked (tracked_with told t))
+    ∙ ap move_tracked (h t ∙ tracked_from-paths t es tracked_nothing)
+    ∙ move_tracked-paths (paths_with is_removal t es) (paths_with is_creation t es)
   where
     by : (f : Option MoveValue) → or_move f None ≡ f
     by None = refl

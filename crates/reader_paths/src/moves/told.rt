@@ -3,7 +3,7 @@ ghost use Rattle.std.specs.Prelude.{◌≡◌, ◌&&◌, not, IfOk, OnOk};
 ghost use Rattle.debounce_model.specs.Play.{events_of};
 ghost use Rattle.notify_paths.specs.Path.{is_prefix};
 ghost use Rattle.reader_paths.specs.Moves.{are_apart};
-ghost use Rattle.reader_paths.specs.Moves.Told.{IsTold, NotesEvent, told_created, told_move, told_nothing, told_of, told_removed};
+ghost use Rattle.reader_paths.specs.Moves.Told.{IsTracked, NotesEvent, tracked_created, tracked_move, tracked_nothing, tracked_of, tracked_removed};
 
 use crate::moves::Move;
 use notify_paths::PathBuf;
@@ -24,16 +24,16 @@ pub(crate) struct Told<A: Allocator = Global> {
 }
 
 impl<A: Allocator> Model for Told<A> {
-    ghost use Rattle.reader_paths.specs.Moves.Told.{ToldValue};
+    ghost use Rattle.reader_paths.specs.Moves.Told.{TrackedValue};
 
-    ghost Value = { ToldValue };
+    ghost Value = { TrackedValue };
 
     ghost view = { λ a. record { from = a.from; to = a.to; is_move = a.is_move } };
 }
 
 impl<A: Allocator + Copy> Told<A> {
     fn new() -> Told<A>
-        ensures { result ≡ told_nothing }
+        ensures { result ≡ tracked_nothing }
     {
         Told {
             from: None,
@@ -44,7 +44,7 @@ impl<A: Allocator + Copy> Told<A> {
 
     /// Takes up the path of an event of this kind.
     fn note(&mut self, kind: EventKind, path: &PathBuf<A>) -> Result<(), AllocError>
-        ensures { OnOk result (self.new ≡ told_of kind path.now self.old) }
+        ensures { OnOk result (self.new ≡ tracked_of kind path.now self.old) }
     {
         if kind.is_removal() {
             return self.note_removal(path);
@@ -56,7 +56,7 @@ impl<A: Allocator + Copy> Told<A> {
     }
 
     fn note_removal(&mut self, path: &PathBuf<A>) -> Result<(), AllocError>
-        ensures { OnOk result (self.new ≡ told_removed path.now self.old.from self.old) }
+        ensures { OnOk result (self.new ≡ tracked_removed path.now self.old.from self.old) }
     {
         if self.from.is_some() {
             self.is_move = false;
@@ -67,7 +67,7 @@ impl<A: Allocator + Copy> Told<A> {
     }
 
     fn note_creation(&mut self, path: &PathBuf<A>) -> Result<(), AllocError>
-        ensures { OnOk result (self.new ≡ told_created path.now self.old.to self.old) }
+        ensures { OnOk result (self.new ≡ tracked_created path.now self.old.to self.old) }
     {
         let Some(to) = &self.to else {
             self.to = Some(path.clone()?);
@@ -81,7 +81,7 @@ impl<A: Allocator + Copy> Told<A> {
 
     /// Returns the move, if it is one.
     pub(crate) fn into_move(self) -> Option<Move<A>>
-        ensures { result ≡ told_move self.from self.to self.is_move }
+        ensures { result ≡ tracked_move self.from self.to self.is_move }
     {
         let (Some(from), Some(to)) = (self.from, self.to) else {
             return None;
@@ -106,7 +106,7 @@ pub(crate) fn gather<A: Allocator + Copy>(
     alloc: A,
     batch: &[DebouncedEvent<A>],
 ) -> Result<BTreeMap<u64, Told<A>, A>, AllocError>
-    ensures { IfOk result (λ told. IsTold (events_of batch.now) told.entries) }
+    ensures { IfOk result (λ told. IsTracked (events_of batch.now) told.entries) }
 {
     let mut told = BTreeMap::new(alloc);
     for event in batch {

@@ -83,7 +83,7 @@ impl<K: FixedTree<A> + Drop, A: Allocator + Copy> RoundFolders<A> for FixedFolde
 
     fn follow_links(&mut self, _paths: &mut Vec<PathBuf<A>, A>) {}
 
-    fn names_left_out(&self) -> u64 {
+    fn names_skipped(&self) -> u64 {
         0
     }
 

@@ -62,19 +62,19 @@ pub fn within<R: Send + 'static>(seconds: u64, work: impl FnOnce() -> R + Send +
 }
 
 /// What a debouncer has told so far.
-pub struct Told {
+pub struct EventRecord {
     results: Receiver<DebounceEventResult>,
     pub events: Vec<DebouncedEvent>,
     pub errors: Vec<ndf::Error>,
 }
 
-impl Told {
-    pub fn new(results: Receiver<DebounceEventResult>) -> Told {
-        Told { results, events: Vec::new(), errors: Vec::new() }
+impl EventRecord {
+    pub fn new(results: Receiver<DebounceEventResult>) -> EventRecord {
+        EventRecord { results, events: Vec::new(), errors: Vec::new() }
     }
 
     /// Reads until what was told is enough; whether that came within ten seconds.
-    pub fn until(&mut self, is_enough: impl Fn(&Told) -> bool) -> bool {
+    pub fn until(&mut self, is_enough: impl Fn(&EventRecord) -> bool) -> bool {
         let end = Instant::now() + Duration::from_secs(10);
         while !is_enough(self) {
             match self.results.recv_timeout(end.saturating_duration_since(Instant::now())) {

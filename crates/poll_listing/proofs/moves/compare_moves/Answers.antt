@@ -4,7 +4,7 @@ use Rattle.std.proofs.lemmas.Result.{IfOk-weaker}
 use Rattle.std.specs.Map.{keys_of}
 use Rattle.poll_listing.specs.Changes.{LeadsTo, changes}
 use Rattle.poll_listing.specs.Listing.{IsListing}
-use Rattle.poll_listing.specs.Moves.{told_changes}
+use Rattle.poll_listing.specs.Moves.{reported_changes}
 use Rattle.poll_listing.specs.Updates.{updated}
 use Rattle.poll_listing.proofs.MoveLemmas.{told_lead}
 use Rattle.poll_listing.proofs.moves.compare_moves.Goals as goal
@@ -26,7 +26,7 @@ returns-clause-honest g c =
     let law = subst IsListing c.old.view_is c.old.invariant in
     mapped c.tracked.result c.map_err.result (λ events. LeadsTo (keys_of old) (keys_of new) events.items)
     _ c.map_err.ensures.variant c.map_err.ensures.cases (IfOk-weaker c.tracked.result
-    (λ told. told.items ≡ told_changes (Some c.in-Some.first) old new)
+    (λ told. told.items ≡ reported_changes (Some c.in-Some.first) old new)
     (λ told. LeadsTo (keys_of old) (keys_of new) told.items)
     (λ told is. subst (LeadsTo (keys_of old) (keys_of new)) (sym is)
     (told_lead (Some c.in-Some.first) old new law c.requires.law)) c.tracked.ensures)

@@ -4,7 +4,7 @@ use Rattle.std.proofs.lemmas.Result.{IfOk-weaker}
 use Rattle.notify_types.specs.Event.{EventValue}
 use Rattle.poll_listing.specs.Holders.{TellMoves}
 use Rattle.poll_listing.specs.Moves.{tracked_changes}
-use Rattle.poll_listing.specs.Tracked.{ToldValue, places_from, put_trackers}
+use Rattle.poll_listing.specs.Tracked.{TrackingValue, places_from, put_trackers}
 use Rattle.poll_listing.specs.Updates.{updated}
 use Rattle.poll_listing.proofs.TrackLemmas.{nobody_moved, none_moved, puts_all}
 use Rattle.poll_listing.proofs.moves.find_places.Goals as goal
@@ -25,7 +25,7 @@ returns g c =
     let us = c.args.updates.now.entries in
     let events = c.args.events.now in
     let hs = c.in_ok-holders.holders.entries in
-    let told : List EventValue → ToldValue = λ es. record { last = old; updates = us; events = es; holders = hs } in
+    let told : List EventValue → TrackingValue = λ es. record { last = old; updates = us; events = es; holders = hs } in
     IfOk-weaker c.places.result (λ places. places.items ≡ places_from (told events) [] events)
     (λ places. (first : ℕ) → put_trackers first places.items events ≡ tracked_changes first old (updated old us))
     (λ places is first. ap (λ ps. put_trackers first ps events) is

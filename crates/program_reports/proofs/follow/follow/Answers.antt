@@ -26,7 +26,7 @@ returns-in_err-hand_on g c =
       passes = g.P.TakesReports.passes;
     })
     (λ s s' pause given h. h) c.args.reports c.apart-source.result.1.debouncer c.apart-source.result.0
-    c.hand_on.new.source (c.apart-source.ensures.same ∙ c.say_left_out.ensures.same)
+    c.hand_on.new.source (c.apart-source.ensures.same ∙ c.say_skipped.ensures.same)
     c.args.program.now c.begin.new.self c.hand_on.new.program c.in_err-hand_on.field-0.0
     c.from_residual-in_err-hand_on.result c.in_ok-begin.ensures c.in_err-hand_on.ensures (search rules)
 
@@ -40,7 +40,7 @@ returns g c =
       passes = g.P.TakesReports.passes;
     })
     (λ s s' pause given h. h) c.args.reports c.apart-source.result.1.debouncer c.apart-source.result.0
-    c.hand_on.new.source (c.apart-source.ensures.same ∙ c.say_left_out.ensures.same)
+    c.hand_on.new.source (c.apart-source.ensures.same ∙ c.say_skipped.ensures.same)
     c.args.program.now c.begin.new.self c.hand_on.new.program c.take_rest.new.program c.finish.result
     c.take_rest.result c.in_ok-begin.ensures c.in_ok-hand_on.ensures (c.finish.ensures.err, c.finish.ensures.ok)
     c.take_rest.ensures

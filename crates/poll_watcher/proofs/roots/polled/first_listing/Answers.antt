@@ -5,7 +5,7 @@ use Rattle.notify_types.specs.declared.event.RecursiveMode.{RecursiveMode}
 use Rattle.poll_listing.specs.Listing.{IsListing, has_entry}
 use Rattle.poll_listing.proofs.WalkLemmas.{has_entry-some}
 use Rattle.poll_rounds.specs.Folders.{Adds, IsTree, shows}
-use Rattle.poll_watcher.specs.Roots.Polled.{ShowsFirst}
+use Rattle.poll_watcher.specs.Roots.Polled.{IsFirstListing}
 use Rattle.poll_rounds.proofs.RootLemmas.{listed-one}
 use Rattle.poll_watcher.proofs.RootsLemmas.PolledLemmas.{lacks, there_nonempty}
 use Rattle.poll_watcher.proofs.roots.polled.first_listing.Goals as goal
@@ -18,7 +18,7 @@ returns-then-is_none-clause-err g c =
     let added : IfSome told (λ tree. IsTree tree → Adds tree (shows tree root) [] first) =
     subst (λ es. IfSome told (λ tree. IsTree tree → Adds tree (shows tree root) es first))
     c.new-first.ensures c.in_ok-list_root.ensures.added in
-    let all : ShowsFirst told root first =
+    let all : IsFirstListing told root first =
     listed-one told root first (subst IsListing c.first.view_is c.first.invariant) added in
     let none : has_entry first c.args.root.now ≡ false = has_entry-some first c.args.root.now
     ∙ (ap is_some (sym c.get.ensures) ∙ c.if-is_none.ensures) in

@@ -1,6 +1,6 @@
 use Rattle.std.proofs.Common.{◌≡◌, ◌++◌, [], drop}
 use Rattle.poll_listing.specs.Tracked.{places_from}
-use Rattle.poll_listing.proofs.moves.Told.places.Given as goal
+use Rattle.poll_listing.proofs.moves.Tracking.places.Given as goal
 
 -- the places so far, and then those of the events that are left
 abbrev pub invariant-loop-event : goal.invariant-loop-event

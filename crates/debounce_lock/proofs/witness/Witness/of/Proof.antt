@@ -33,10 +33,10 @@ use denote.Triple.Entry.{on_entry, alive}
 use denote.Triple.Spec.{Meets, triple_of}
 use denote.Triple.Table.{entered}
 use denote.Triple.Walked.{says, Stays, stay_dropped, walk_of, ends_at, Goes-dropped, walk_Meets}
-use Rattle.debounce_lock.specs.contracts.shown.Shown.of.{ended, clauses}
-use Rattle.debounce_lock.specs.contracts.shown.Shown.of.Key.{name as #self}
-use Rattle.debounce_lock.proofs.shown.Shown.of.Statement as stated
-use Rattle.debounce_lock.proofs.shown.Shown.of.Code as code
+use Rattle.debounce_lock.specs.contracts.witness.Witness.of.{ended, clauses}
+use Rattle.debounce_lock.specs.contracts.witness.Witness.of.Key.{name as #self}
+use Rattle.debounce_lock.proofs.witness.Witness.of.Statement as stated
+use Rattle.debounce_lock.proofs.witness.Witness.of.Code as code
 
 module _ (Y : RattleType) where
   abbrev R : RattleType

@@ -1,6 +1,6 @@
 use Rattle.std.proofs.lemmas.Result.{on_ok_weaker}
 use Rattle.program_logic.proofs.WordsLemmas.Anew.{takes_anew}
-use Rattle.program_logic.proofs.words.kept.KeptIndex.read_anew.Goals as goal
+use Rattle.program_logic.proofs.words.kept.FollowingIndex.read_anew.Goals as goal
 
 pub returns-clause-anew : goal.returns-clause-anew
 returns-clause-anew g c =

@@ -1,6 +1,6 @@
 //! What was done under the lock.
 use debounce_book::Ticked;
-use debounce_lock::Shown;
+use debounce_lock::Witness;
 use notify_paths::{Error, PathBuf};
 use notify_types::{Event, Moment, RecursiveMode};
 use std::alloc::Allocator;
@@ -19,17 +19,17 @@ impl Model for Happened {
 
 /// The last step that was done to a book, for clauses: a book without a journal doesn't show it.
 #[derive(Drop)]
-pub enum Made<A: Allocator> {
+pub enum LastStep<A: Allocator> {
     /// Nothing that adds to the history.
     Nothing,
     /// What was refused is noted as missed.
     Missed,
     /// An event or an error was fed at a moment, to this end.
-    Fed(Shown<Result<Event<A>, Error<A>>>, Moment, bool, Shown<Result<(), Error<A>>>),
+    Fed(Witness<Result<Event<A>, Error<A>>>, Moment, bool, Witness<Result<(), Error<A>>>),
     /// A tick at a moment emitted these.
-    Ticked(Moment, Shown<Ticked<A>>),
+    Ticked(Moment, Witness<Ticked<A>>),
     /// A path was to be a root, to this end.
-    Rooted(Shown<PathBuf<A>>, RecursiveMode, Shown<Result<(), Error<A>>>),
+    Rooted(Witness<PathBuf<A>>, RecursiveMode, Witness<Result<(), Error<A>>>),
     /// A path was to be no root any longer, to this end.
-    Unrooted(Shown<PathBuf<A>>, Shown<Result<(), Error<A>>>),
+    Unrooted(Witness<PathBuf<A>>, Witness<Result<(), Error<A>>>),
 }

@@ -1,7 +1,7 @@
 use Rattle.std.proofs.Common.{sym}
 use Rattle.std.proofs.lemmas.Result.{on_ok_weaker}
 use Rattle.program_logic.proofs.WordsLemmas.Again.{read_some}
-use Rattle.program_logic.proofs.words.kept.KeptIndex.read_again.Goals as goal
+use Rattle.program_logic.proofs.words.kept.FollowingIndex.read_again.Goals as goal
 
 pub returns-clause-again : goal.returns-clause-again
 returns-clause-again g c =

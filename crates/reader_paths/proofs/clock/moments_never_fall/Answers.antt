@@ -1,5 +1,5 @@
 use Rattle.reader_paths.proofs.PairLemmas.{clock_ends, clock_falls, clock_rises}
-use Rattle.reader_paths.proofs.clock.clock_kept.Goals as goal
+use Rattle.reader_paths.proofs.clock.moments_never_fall.Goals as goal
 
 pub returns-then-now-least : goal.returns-then-now-least
 returns-then-now-least g c =

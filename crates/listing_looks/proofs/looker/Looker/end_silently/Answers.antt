@@ -2,7 +2,7 @@ use Rattle.std.proofs.Common.{◌∙◌, ap, subst, sym}
 use Rattle.poll_listing.specs.Listing.{IsListing}
 use Rattle.listing_looks.specs.Looks.{said, said_of}
 use Rattle.listing_looks.proofs.LookerLemmas.{unsaid_looker}
-use Rattle.listing_looks.proofs.looker.Looker.end_untold.Goals as goal
+use Rattle.listing_looks.proofs.looker.Looker.end_silently.Goals as goal
 
 pub invariant_of-self-2 : goal.invariant_of-self-2
 invariant_of-self-2 g c =

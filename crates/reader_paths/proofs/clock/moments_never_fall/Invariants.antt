@@ -3,7 +3,7 @@ use Rattle.std.specs.Iterator.Adapters.{zip_first, zip_second}
 use Rattle.std.specs.Slice.Iter.{iter_rest}
 use Rattle.debounce_model.specs.CommandView.{command_values, reply_values}
 use Rattle.reader_paths.specs.Clock.{moments_of, never_fall}
-use Rattle.reader_paths.proofs.clock.clock_kept.Given as goal
+use Rattle.reader_paths.proofs.clock.moments_never_fall.Given as goal
 
 -- the moments that are left decide whether none falls
 abbrev pub invariant-loop-command : goal.invariant-loop-command
