@@ -4,7 +4,7 @@ use Rattle.atomic_table.specs.Seated.{TableId}
 use Rattle.atomic_table.specs.declared.shared.Seat.{Seat}
 use Rattle.debounce_lock.specs.declared.hand.Hand.{Hand}
 
--- what one that shares a lock has
+-- what each thread that shares a lock over a value T, with entries E, has
 abbrev pub Pass : Type 0 → Type 0 → Type 0
 Pass T E = Seat (Option T) (Hand E)
 
@@ -13,10 +13,10 @@ module _ {T E : Type 0} where
   abbrev pub view : Pass T E → Hand E
   view p = p.me.0
 
-  -- it is a pass of the lock over this table, and doesn't have the value
+  -- p is a pass of the lock over this table, and doesn't have the value
   abbrev pub IsPassOf : TableId → Pass T E → Type 0
   IsPassOf table p = (p.table_id ≡ table) × (p.me.1 ≡ [])
 
-  -- it is a pass of the lock over this table, and has the value: the slot is its own, and empty
+  -- p is a pass of the lock over this table, and has the value: the slot is its own, and empty
   abbrev pub IsHolderOf : TableId → Pass T E → Type 0
   IsHolderOf table p = (p.table_id ≡ table) × (p.me.1 ≡ (0, None) ∷ [])

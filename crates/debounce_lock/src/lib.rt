@@ -1,10 +1,15 @@
-//! A lock whose contract follows what it guards, values that show what was done, and slots for what threads end
-//! with.
+//! A lock whose contract says what happens to the value that it guards, and two things made with it: slots for the
+//! results of threads, and a queue of reports.
 //!
-//! The value lies in the slot of a table of the kit, under a rule: who takes it out holds the lock. Each
-//! thread has a pass, without bytes, which says how much of the value's history it has seen.
+//! The value has a history: a list of entries, to which each change adds. Each thread has a [`Pass`], which takes no
+//! memory. In contracts a pass says which beginning of the history its thread has seen, and which entries it alone may
+//! add. So a thread that takes the value out knows which entries it has added itself, and that no other thread has
+//! added such entries.
 //!
-//! [`reports`] is a queue under such a lock, which counts what it couldn't take.
+//! The proof rests on `atomic_table` of the kit: the value lies in a slot of such a table, and a thread that has taken
+//! it out holds the lock.
+//!
+//! [`reports`] is a queue under such a lock, which counts the reports that it had no memory for.
 #![tactic(auto)]
 
 mod hand;

@@ -1,5 +1,5 @@
-//! A lock whose contract follows what it guards. The value lies in a slot, and a word says whether it is
-//! there: who takes the value out holds the lock.
+//! A lock whose contract says what happens to the value that it guards. The value lies in a slot, and a word says
+//! whether it is there. A thread that has taken the value out holds the lock.
 ghost use Rattle.std.specs.Prelude.{◌≡◌, [], true, IfOk};
 ghost use Rattle.debounce_lock.specs.History.{Begins, Gave, MayGive, Took, compared_with, has, opener, picked, righted, without};
 ghost use Rattle.debounce_lock.specs.Rights.{Emits, Feeds, Right};
@@ -54,9 +54,9 @@ impl<T: HasHistory<E> + Drop, E, A: Allocator + Copy> Lock<T, E, A> {
 }
 
 impl<T: HasHistory<E> + Drop, E, A: Allocator> Lock<T, E, A> {
-    /// Takes the value out. The mutex makes threads wait, and the table says what the value's history is.
-    /// Whoever has the mutex finds the value in its place at once, which the proof doesn't know: hence the
-    /// loop.
+    /// Waits for the lock, and takes the value out. The mutex makes threads wait, and the contract of the table says
+    /// what has happened to the value. A thread that has the mutex finds the value in its place at once, but the proof
+    /// doesn't know this: hence the loop.
     pub fn take<'a, R: Wait>(&'a self, rt: &R, pass: &mut Pass<T, E>) -> (MutexGuard<'a, ()>, T)
         requires { IsPassOf self.now.table.shared.table_id pass.old }
         ensures lock { IsHolderOf self.now.table.shared.table_id pass.new }
@@ -73,7 +73,7 @@ impl<T: HasHistory<E> + Drop, E, A: Allocator> Lock<T, E, A> {
         unreachable!()
     }
 
-    /// Puts the value back, and lets the mutex go.
+    /// Puts the value back, and unlocks.
     pub fn give<M: Change<T, E>>(&self, guard: MutexGuard<'_, ()>, pass: &mut Pass<T, E>, value: T)
         requires lock { IsHolderOf self.now.table.shared.table_id pass.old }
         requires may { MayGive T.stands T.reserved M.makes (view pass.old) value }
@@ -84,11 +84,11 @@ impl<T: HasHistory<E> + Drop, E, A: Allocator> Lock<T, E, A> {
         // While a pass has the value, the slot is empty.
         let _none = shared.exchange(pass, PLACE, Some(value));
         shared.store::<Gives<M>>(pass, PLACE, IN);
-        // Only now: who has the mutex next finds the value in its place.
+        // Only now: the thread that has the mutex next finds the value in its place.
         drop(guard);
     }
 
-    /// A pass that has seen as much, and has the right to tell.
+    /// Makes another pass, which has seen as much. The right to add entries of what was emitted goes over to it.
     pub fn telling(&self, pass: &mut Pass<T, E>) -> Pass<T, E>
         requires lock { IsPassOf self.now.table.shared.table_id pass.old }
         requires tells { (view pass.old).tells ≡ true }
@@ -100,7 +100,7 @@ impl<T: HasHistory<E> + Drop, E, A: Allocator> Lock<T, E, A> {
         self.table.shared.split_seat::<Telling>(pass)
     }
 
-    /// A pass that has seen as much, and has the right to feed.
+    /// Makes another pass, which has seen as much. The right to add entries of what was fed goes over to it.
     pub fn feeding(&self, pass: &mut Pass<T, E>) -> Pass<T, E>
         requires lock { IsPassOf self.now.table.shared.table_id pass.old }
         requires feeds { (view pass.old).feeds ≡ true }
@@ -112,8 +112,8 @@ impl<T: HasHistory<E> + Drop, E, A: Allocator> Lock<T, E, A> {
         self.table.shared.split_seat::<Feeding>(pass)
     }
 
-    /// What another pass has seen is a beginning of the history, which the holder knows whole. If that is
-    /// the pass that tells, or feeds, it has seen all the entries that do.
+    /// Compares another pass with the history, which the pass that has the value knows whole. What the other has seen
+    /// is a beginning of the history. If the other has a right, it has seen all entries that need this right.
     pub fn compare(&self, pass: &mut Pass<T, E>, other: Pass<T, E>)
         requires lock { IsHolderOf self.now.table.shared.table_id pass.old
             × IsPassOf self.now.table.shared.table_id other }

@@ -1,9 +1,9 @@
 //! A queue of reports between two threads, whose contract says what was put in, what came out, and how many
 //! reports could not be put in.
 //!
-//! What lies in it, what came out and the count are one value under a lock of `debounce_lock`. The
-//! [`sender::ReportSender`] shows all that it was to put in, the [`queue::ReportQueue`] what it has given,
-//! and its `close` says how the two fit together.
+//! The reports in the queue and the count of those that were lost are one value under a [`Lock`](crate::Lock). In
+//! contracts the [`sender::ReportSender`] stands for all calls of `send`, and the [`queue::ReportQueue`] for the
+//! reports that came out. The contract of its `close` says how the two fit together.
 //!
 //! ```text
 //! let (mut sender, mut queue) = report_queue(rt.alloc())?;

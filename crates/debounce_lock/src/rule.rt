@@ -1,10 +1,11 @@
-//! The rule of a lock, and what each step on its table makes of a pass. These types are for the proofs alone.
+//! The rule that the table of a lock keeps, and what each step on the table does to a pass. These types are for
+//! proofs alone: no value of them is made.
 use crate::hand::{Change, Hand, HasHistory};
 use crate::witness::Witness;
 use atomic_table::{Join, Play, Split, TableRule};
 use std::marker::PhantomData;
 
-/// The rule that each step keeps.
+/// The rule that each step on the table keeps.
 pub struct Law<T, E> {
     of: PhantomData<(T, E)>,
 }
@@ -18,7 +19,7 @@ impl<T: HasHistory<E>, E> TableRule<Option<T>, Hand<E>, Witness<T>> for Law<T, E
     ghost first = { λ x. opener (T.begins x.value) };
 }
 
-/// The pass that tells is split off.
+/// Splits off the pass that alone may add entries of what was emitted.
 pub struct Telling;
 
 impl<E> Split<Hand<E>> for Telling {
@@ -30,7 +31,7 @@ impl<E> Split<Hand<E>> for Telling {
     ghost right = { λ v. righted Emits v.tells v.seen };
 }
 
-/// The pass that feeds is split off.
+/// Splits off the pass that alone may add entries of what was fed.
 pub struct Feeding;
 
 impl<E> Split<Hand<E>> for Feeding {
@@ -42,7 +43,7 @@ impl<E> Split<Hand<E>> for Feeding {
     ghost right = { λ v. righted Feeds v.feeds v.seen };
 }
 
-/// A pass is joined by what another has seen.
+/// Notes in one pass what another has seen, and which rights it had.
 pub struct Joining;
 
 impl<E> Join<Hand<E>> for Joining {
@@ -54,7 +55,7 @@ impl<E> Join<Hand<E>> for Joining {
     ghost spent = { knower [] };
 }
 
-/// A pass takes the value, if it is there.
+/// Takes the value out, if it is there.
 pub struct Takes;
 
 impl<T: HasHistory<E>, E> Play<Option<T>, Hand<E>> for Takes {
@@ -63,7 +64,7 @@ impl<T: HasHistory<E>, E> Play<Option<T>, Hand<E>> for Takes {
     ghost then = { λ _ me found now. TakesIt T.stands T.reserved me found now };
 }
 
-/// A pass puts the value back.
+/// Puts the value back.
 pub struct Gives<M> {
     of: PhantomData<M>,
 }
@@ -74,7 +75,7 @@ impl<T: HasHistory<E>, E, M: Change<T, E>> Play<Option<T>, Hand<E>> for Gives<M>
     ghost then = { λ _ me _ now. GivesIt T.stands M.makes me now };
 }
 
-/// A pass that has the value learns of what another has seen.
+/// Compares what another pass has seen with the whole history, which the pass that has the value knows.
 pub struct Compares;
 
 impl<T: HasHistory<E>, E> Play<Option<T>, Hand<E>> for Compares {

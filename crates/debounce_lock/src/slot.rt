@@ -21,7 +21,7 @@ pub struct Held<T> {
     value: Option<T>,
 }
 
-/// The history of a slot is what was put into it.
+/// The history of a slot is the list of the values that were put into it.
 impl<T> HasHistory<T> for Held<T> {
     ghost use Rattle.std.specs.Prelude.{[]};
     ghost use Rattle.debounce_lock.specs.Rights.{reserved_for_one};
@@ -34,7 +34,7 @@ impl<T> HasHistory<T> for Held<T> {
     ghost reserved = { reserved_for_one };
 }
 
-/// The history goes on by what lies in the slot now.
+/// The value that lies in the slot now was added to the history.
 pub struct Puts;
 
 impl<T> Change<Held<T>, T> for Puts {
@@ -46,7 +46,7 @@ impl<T> Change<Held<T>, T> for Puts {
 /// The lock of a slot.
 type SlotLock<T, A> = Arc<Lock<Held<T>, T, A>, A>;
 
-/// The end of a slot at which a value is put in. Clauses see of which slot it is.
+/// The end of a slot at which a value is put in. In contracts it stands for its slot.
 #[derive(Drop)]
 pub struct Filler<T: Drop, A: Allocator = Global> {
     lock: SlotLock<T, A>,
@@ -67,7 +67,7 @@ impl<T: Drop, A: Allocator> Model for Filler<T, A> {
         × (f.pass.me.0.tells ≡ true) × (f.pass.me.0.seen ≡ []) };
 }
 
-/// Shows that a value was put into a slot. Clauses see into which, and the value. It has no bytes.
+/// Proof that a value was put into a slot: in contracts it stands for the slot and the value. It takes no memory.
 #[derive(Drop)]
 pub struct Filled<T> {
     pass: Pass<Held<T>, T>,
@@ -86,7 +86,7 @@ impl<T> Model for Filled<T> {
         × (f.pass.me.0.seen ≡ f.value.value ∷ []) };
 }
 
-/// The end of a slot at which the value is taken out. Clauses see of which slot it is.
+/// The end of a slot at which the value is taken out. In contracts it stands for its slot.
 pub struct Slot<T: Drop, A: Allocator = Global> {
     lock: SlotLock<T, A>,
     pass: Pass<Held<T>, T>,
@@ -130,7 +130,7 @@ pub fn empty_slot<T: Drop, A: Allocator + Copy>(
 }
 
 impl<T: Drop, A: Allocator> Filler<T, A> {
-    /// Puts a value into the slot, and returns what shows it to whoever takes it out.
+    /// Puts a value into the slot, and returns the proof of it, by which [`Slot::take`] takes it out.
     pub fn fill<R: Wait>(self, rt: &R, value: T) -> Filled<T>
         ensures { (result.slot ≡ self) × (result.value ≡ value) }
     {

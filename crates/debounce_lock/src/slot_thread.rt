@@ -1,5 +1,5 @@
-//! Threads that put their results into slots. std frees no result of a thread whose handle was dropped; out of a
-//! slot it is dropped when both the thread and its handle are gone.
+//! Threads that put their results into slots. If the handle of a thread of std is dropped, the thread's result is
+//! never dropped. A result in a slot is dropped once both the thread and its handle are gone.
 ghost use Rattle.std.specs.Prelude.{◌≡◌, IfOk};
 
 use crate::slot::{Filled, Slot, empty_slot};
@@ -10,8 +10,8 @@ use std::sync::Wait;
 use std::thread;
 use std::thread::{Promise, PromisedHandle, Threads};
 
-/// The handle of a thread, as a `PromisedHandle` of std, whose result is dropped if nobody joins it. Clauses see
-/// the promise that the result keeps.
+/// The handle of a thread. It is like a `PromisedHandle` of std, but the result is dropped if nobody joins the
+/// thread. In contracts the handle stands for the promise that the result keeps.
 ///
 /// Dropping it lets the thread run on.
 pub struct SlotHandle<T: Drop, P: Promise<T>, A: Allocator = Global> {

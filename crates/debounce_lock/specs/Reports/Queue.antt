@@ -1,33 +1,35 @@
--- A queue, and the history of what was to be put into it.
+-- A queue, and the history of the calls that put reports into it.
 use Rattle.std.specs.Prelude.{◌≡◌, ◌+◌, ◌-◌, ◌^◌, ℕ, min, Bool, if◌then◌else◌, List, [], ◌∷◌, ◌++◌}
 use Rattle.atomic_table.specs.Seated.{TableId}
 
--- what was to be put in, in order, and whether it was
+-- the calls of `send`, in order: each report, and whether it was put in
 abbrev pub Calls : Type 0 → Type 0
 Calls T = List (T × Bool)
 
 module _ {T : Type 0} where
-  -- what was put in, in order
+  -- the reports that were put in, in order
   abbrev pub put_in : Calls T → List T
   put_in [] = []
   put_in (c ∷ cs) = if c.1 then c.0 ∷ put_in cs else put_in cs
 
-  -- how much was not
+  -- how many reports were not put in
   abbrev pub lost_in : Calls T → ℕ
   lost_in [] = 0
   lost_in (c ∷ cs) = if c.1 then lost_in cs else lost_in cs + 1
 
-  -- the calls lead to this queue, out of which these came, and to this count
+  -- after the calls `log`, of which those in `out` have had their reports taken out, `queue` is what is left, in order;
+  -- `unsent` counts the reports that were not put in, and stops at 2^64 - 1
   pub record Queues (queue : List T) (unsent : ℕ) (out log : Calls T) : Type 0 where
     pub queue_is : put_in out ++ queue ≡ put_in log
     pub unsent_is : unsent ≡ min (lost_in log) (2 ^ 64 - 1)
 
--- what the sender shows: of which lock it is, and its calls so far
+-- what a sender is in contracts: its lock, and its calls so far
 pub record Sending (T : Type 0) : Type 0 where
   pub lock : TableId
   pub calls : Calls T
 
--- what the queue shows: of which lock it is, what came out so far, and whether more may come as far as it knows
+-- what a queue's other end is in contracts: its lock, the reports that came out so far, and whether more may come as
+-- far as it has found
 pub record Giving (T : Type 0) : Type 0 where
   pub lock : TableId
   pub given : List T

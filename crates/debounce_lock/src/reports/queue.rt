@@ -15,11 +15,12 @@ use std::marker::Model;
 use std::sync::{Arc, Wait};
 use std::time::{Clock, Duration};
 
-/// The end of a queue at which its reports come out. Clauses see what it has given, and whether more may come.
+/// The end of a queue at which its reports come out. In contracts it stands for the reports that came out, in order,
+/// and for whether more may come.
 pub struct ReportQueue<T: Drop, A: Allocator = Global> {
     lock: Arc<Lock<Queued<T, A>, Put<T>, A>, A>,
     pass: Pass<Queued<T, A>, Put<T>>,
-    /// It only wakes who waits: it has as many rings as the queue has reports.
+    /// It only wakes the thread that waits. It holds one ring for each report in the queue.
     bell: Receiver<(), A>,
     /// Whether more may come: no wait has found yet that the sender is gone.
     is_open: bool,
@@ -55,10 +56,10 @@ impl<T: Drop, A: Allocator> Model for ReportQueue<T, A> {
         × (q.pass.me.0.keeps ≡ true) };
 }
 
-/// What is left of a queue at its end.
+/// What is left of a queue when it is closed.
 #[derive(Drop)]
 pub struct QueueRest<T: Drop, A: Allocator = Global> {
-    /// What was put in and did not come out, in its order.
+    /// The reports that were put in and did not come out, in order.
     pub reports: Vec<T, A>,
     /// How many reports could not be put in. It counts no further than 2^64 - 1.
     pub unsent: u64,
@@ -115,7 +116,8 @@ impl<T: Drop, A: Allocator> ReportQueue<T, A> {
         unreachable!()
     }
 
-    /// Waits so long for the next report. `None` says that nothing came; `is_open` says whether more may come.
+    /// Waits for the next report, no longer than this. `None` says that none came. Then `is_open` says whether more may
+    /// come.
     pub fn next_within<R: Wait + Clock>(&mut self, rt: &R, duration: Duration) -> Option<T>
         ensures lock { self.new.lock ≡ self.old.lock }
         ensures given { self.new.given ≡ self.old.given ++ option_to_list result }
@@ -147,8 +149,8 @@ impl<T: Drop, A: Allocator> ReportQueue<T, A> {
         }
     }
 
-    /// Returns whether more may come, as far as the last call found: after the sender is gone and the queue is empty, a
-    /// call that gives nothing finds that none can.
+    /// Returns whether more reports may come, as far as the calls so far have found. Once the sender is gone and the
+    /// queue is empty, the next call that returns no report finds that none can come.
     pub fn is_open(&self) -> bool
         ensures { result ≡ self.now.is_open }
     {
@@ -197,7 +199,7 @@ impl<T: Drop, A: Allocator> ReportQueue<T, A> {
         unsent
     }
 
-    /// Returns what is left of the queue, once nothing more is put in.
+    /// Ends the queue together with its sender, and returns what is left of it.
     pub fn close<R: Wait>(self, rt: &R, sender: ReportSender<T, A>) -> QueueRest<T, A>
         requires { sender.lock ≡ self.lock }
         ensures reports { self.given ++ result.reports.items ≡ put_in sender.calls }

@@ -1,4 +1,4 @@
-//! What lies under the lock of a queue, and what is done to it there.
+//! The value under the lock of a queue, and the steps on it.
 ghost use Rattle.std.specs.Prelude.{◌≡◌, ◌++◌, ◌∷◌, [], ◌^◌, ◌-◌, ◌+◌, min, true, false, if◌then◌else◌};
 
 use crate::hand::{Change, HasHistory};
@@ -8,27 +8,27 @@ use std::alloc::Allocator;
 use std::collections::VecDeque;
 use std::sync::Wait;
 
-/// An entry of the history: what was to be put in, and whether it was.
+/// An entry of the history: one call of `send`, as its report and whether this was put in.
 pub(crate) type Put<T> = (T, bool);
 
-/// What lies under the lock.
+/// The value under the lock of a queue.
 #[derive(Drop)]
 pub(crate) struct Queued<T: Drop, A: Allocator> {
-    /// What was put in and did not come out.
+    /// The reports that were put in and did not come out yet.
     pub(crate) queue: VecDeque<T, A>,
     /// How many reports could not be put in. It counts no further than 2^64 - 1.
     pub(crate) unsent: u64,
     pub(crate) done: Done<T>,
 }
 
-/// What was last done to a queue, for clauses.
+/// The last step on a queue, for contracts alone.
 #[derive(Drop)]
 pub(crate) enum Done<T> {
-    /// Nothing that clauses speak of.
+    /// A step that adds nothing to the history.
     Nothing,
-    /// This was to be put in, and it was or it wasn't.
+    /// `send` was called with this report, and put it in or not.
     PutIn(Witness<T>, bool),
-    /// This came out.
+    /// This report came out.
     CameOut(Witness<T>),
 }
 
@@ -44,7 +44,7 @@ impl<T: Drop, A: Allocator> HasHistory<Put<T>> for Queued<T, A> {
     ghost reserved = { reserved_for_one };
 }
 
-/// The history goes on by what was done.
+/// The history goes on by the last step.
 pub(crate) struct ByDone;
 
 impl<T: Drop, A: Allocator> Change<Queued<T, A>, Put<T>> for ByDone {
@@ -53,8 +53,8 @@ impl<T: Drop, A: Allocator> Change<Queued<T, A>, Put<T>> for ByDone {
     ghost makes = { λ before out l after now. Does l.done before out after now };
 }
 
-/// Puts a report into the queue and rings, if there is memory for both and somebody hears it. Whoever hears the
-/// ring waits for the lock.
+/// Puts a report into the queue and rings, if there is memory for both and the queue's other end is still there. The
+/// thread that the ring wakes then waits for the lock.
 pub(crate) fn put<T: Drop, R: Wait, A: Allocator>(
     rt: &R,
     queue: &mut VecDeque<T, A>,
@@ -70,7 +70,7 @@ pub(crate) fn put<T: Drop, R: Wait, A: Allocator>(
     queue.push_back(report).is_ok()
 }
 
-/// The count after one report more.
+/// The count after one more report was lost.
 pub(crate) fn counted(unsent: u64, is_put_in: bool) -> u64
     ensures { result ≡ (if is_put_in then unsent else min (unsent + 1) (2 ^ 64 - 1)) }
 {

@@ -10,8 +10,8 @@ use std::alloc::{Allocator, Global};
 use std::marker::Model;
 use std::sync::{Arc, Wait};
 
-/// The end of a queue at which reports are put in. Clauses see all that it was to put in, and whether that could be
-/// done.
+/// The end of a queue at which reports are put in. In contracts it stands for all calls of `send`: each report, and
+/// whether it was put in.
 #[derive(Drop)]
 pub struct ReportSender<T: Drop, A: Allocator = Global> {
     pub(crate) lock: Arc<Lock<Queued<T, A>, Put<T>, A>, A>,
@@ -34,8 +34,8 @@ impl<T: Drop, A: Allocator> Model for ReportSender<T, A> {
 }
 
 impl<T: Drop, A: Allocator> ReportSender<T, A> {
-    /// Puts a report into the queue, and returns whether that could be done: if an allocation failed, or
-    /// nobody has the queue any more, the report is dropped and counted.
+    /// Puts a report into the queue, and returns whether that was done. If an allocation failed, or the queue's other
+    /// end is gone, the report is dropped and counted.
     pub fn send<R: Wait>(&mut self, rt: &R, report: T) -> bool
         ensures lock { self.new.lock ≡ self.old.lock }
         ensures calls { self.new.calls ≡ self.old.calls ++ (report, result) ∷ [] }
