@@ -1,7 +1,7 @@
 #!/usr/bin/env bash
-# The configuration reloader, over a file that is replaced, spoilt and removed.
+# The configuration reloader, over a file that is replaced, spoilt, emptied and removed, and over one that is written in place.
 . "$(dirname "$0")/../checks.sh" || exit 1
-expects 8
+expects 12
 
 reloader=$(program config_reloader)
 mkdir config_reloader && cd config_reloader || exit 1
@@ -52,11 +52,58 @@ rm conf/app.toml
 printf 'kept\n  No such file or directory (os error 2)\n' >>wanted
 answered || well=no
 replace ''
-printf 'loaded\n' >>wanted
+printf 'kept\n  nothing is set in it; --allow-empty takes that\n' >>wanted
+answered || well=no
+replace '# port = 80\n'
+printf 'kept\n  nothing is set in it; --allow-empty takes that\n' >>wanted
+answered || well=no
+replace 'port = 8081\n'
+printf 'loaded\n  port = 8081\n' >>wanted
 answered || well=no
 kill $running
 wait $running 2>/dev/null
 report 'config_reloader: each change is answered' "$(cmp -s out wanted && ! complains && echo $well)"
+
+# By a word, a file in which nothing is set is taken.
+replace 'port = 80\n'
+printf 'loaded\n  port = 80\n' >wanted
+"$reloader" conf/app.toml --allow-empty --timeout 50 --interval 10 --ticks 100000 >out 2>err &
+running=$!
+well=yes
+answered || well=no
+: >conf/app.toml
+printf 'loaded\n' >>wanted
+answered || well=no
+kill $running
+wait $running 2>/dev/null
+report 'config_reloader: an empty file, where that is allowed' "$(cmp -s out wanted && ! complains && echo $well)"
+
+# What is written in place, line by line, is read once nothing more is written for a while, whatever else happens in the
+# folder all the time. No part of it is ever in force.
+replace 'port = 80\n'
+printf 'loaded\n  port = 80\n' >wanted
+"$reloader" conf/app.toml --quiet 3000 --timeout 50 --interval 10 --ticks 100000 >out 2>err &
+running=$!
+well=yes
+answered || well=no
+while :; do echo more >>conf/log && sleep 0.02; done &
+busy=$!
+for n in 1 2 3 4 5 6; do echo "port$n = $n" && sleep 0.5; done >conf/app.toml
+printf 'loaded\n' >>wanted
+for n in 1 2 3 4 5 6; do echo "  port$n = $n"; done >>wanted
+answered && kill -0 $busy || well=no
+report 'config_reloader: a file that is written in place' "$(cmp -s out wanted && ! complains && echo $well)"
+# The end reads what is due.
+kill $running $busy
+wait $running $busy 2>/dev/null
+replace 'port = 80\n'
+printf 'loaded\n  port = 80\n' >wanted
+"$reloader" conf/app.toml --quiet 90000000 --timeout 50 --interval 10 --ticks 40 >out 2>err &
+running=$!
+well=no
+answered && replace 'port = 8080\n' && printf 'loaded\n  port = 8080\n' >>wanted && well=yes
+wait $running && cmp -s out wanted && ! complains || well=no
+report 'config_reloader: a reading that is due at the end' $well
 
 # What waits when the ticks are over is handed out: no change gets as old as this timeout. The file is replaced after
 # its first answer, within the ten seconds of these ticks.
@@ -70,6 +117,9 @@ wait $running && cmp -s out wanted && ! complains || well=no
 report 'config_reloader: what waits is not lost' $well
 
 cd conf || exit 1
+: >app.toml
+printf 'kept\n  nothing is set in it; --allow-empty takes that\n' >../wanted
+expect 'config_reloader: an empty file at first' 0 ../wanted 'config_reloader: watching ./app.toml' "$reloader" app.toml --ticks 1
 printf 'port = 80\n' >app.toml
 printf 'loaded\n  port = 80\n' >../wanted
 expect 'config_reloader: a file of the current folder' 0 ../wanted 'config_reloader: watching ./app.toml' "$reloader" app.toml --ticks 1

@@ -23,7 +23,7 @@ for name in build_trigger change_journal config_reloader document_index folder_m
         # These two take several folders.
         build_trigger) own=(ignore) && numbers+=(quiet) && more=(-x) ;;
         change_journal) own=(initial json include exclude) && more=(-x) ;;
-        config_reloader) places=(watched/app.toml) && shown=(FILE) ;;
+        config_reloader) own=(allow-empty) && numbers+=(quiet) && places=(watched/app.toml) && shown=(FILE) ;;
         document_index) own=(query) && places+=(--query none) ;;
         folder_mirror) own=(delete dry-run) && places+=(copy) && shown=(FROM TO) ;;
     esac

@@ -1,5 +1,5 @@
-//! The program `config_reloader`: it reads a TOML file when it starts and whenever it may have
-//! changed, and prints the configuration in force. docs/PROGRAMS.md has its page.
+//! The program `config_reloader`: it reads a TOML file when it starts and once it may have changed and
+//! then rests, and prints the configuration in force. docs/PROGRAMS.md has its page.
 #![tactic(auto)]
 
 ghost use Rattle.std.specs.Prelude.{◌≡◌, ◌⊎◌, ◌∷◌, [], IfErr, OnOk};
@@ -11,14 +11,15 @@ ghost use Rattle.program_reports.specs.FollowsFolder.{OfReports, folder_source};
 use clap::{ArgMatches, Command};
 use notify_debouncer_full::{DebouncerRuntime, PathBuf};
 use program_frame::{
-    ClosedPaths, Complaints, Fault, Pace, PlaceWord, command, pace_of, place_of, run_with_words,
-    with_until_eof, write_missed,
+    ClosedPaths, Complaints, Fault, Pace, PlaceWord, command, flag, milliseconds_of, number,
+    pace_of, place_of, run_with_words, with_until_eof, write_missed,
 };
-use program_logic::config::{Follower, Place, ReadsText, RealFiles, Reloader};
+use program_logic::config::{Follower, Pause, Place, ReadsText, RealFiles, Reloader};
 use program_reports::follow_file;
 use std::alloc::{AllocError, Global};
 use std::io::Write;
 use std::process::ExitCode;
+use std::time::Clock;
 
 /// The program's name.
 const NAME: &str = "config_reloader";
@@ -26,24 +27,41 @@ const NAME: &str = "config_reloader";
 /// What the program does, for its help.
 const ABOUT: &str = "Reads a TOML file when it changes.";
 
+/// How long nothing is reported of the file before it is read again, in milliseconds, if no word says it.
+const QUIET: u64 = 100;
+
 /// The command line.
 fn command_line<'a>(alloc: Global, name: &'a str) -> Result<Command<'a>, AllocError> {
     let file = PlaceWord {
         name: "FILE",
         help: "the file that is read",
     };
-    with_until_eof(alloc, command(alloc, name, ABOUT, file)?)
+    let line = with_until_eof(alloc, command(alloc, name, ABOUT, file)?)?;
+    let line = line.arg(number(alloc, "quiet", "MS").help(
+        "read the file once nothing was reported of it for so long [default: 100]",
+    ))?;
+    line.arg(
+        flag(alloc, "allow-empty")
+            .long("allow-empty")
+            .help("take a file in which nothing is set, as an empty one"),
+    )
 }
 
-/// Reads the file, and then whenever its folder's reports may be about it, or about what links there lead to. If
-/// events were missed, it is read anew at the end.
-fn watch<R: DebouncerRuntime + AllocGlobal, F: ReadsText, O: Write + Drop, E: Write + Drop>(
+/// Reads the file, and then once its folder's reports may be about it, or about what links there lead to, and nothing
+/// more is reported of it for a while. What is due at the end is read then, and if events were missed, it is read anew.
+fn watch<
+    R: DebouncerRuntime + AllocGlobal,
+    C: Clock + Drop,
+    F: ReadsText,
+    O: Write + Drop,
+    E: Write + Drop,
+>(
     rt: R,
     folder: &PathBuf,
     file: &PathBuf,
     pace: Pace<'_>,
     complaints: Complaints<'_, E>,
-    follower: &mut Follower<'_, F, O, E>,
+    follower: &mut Follower<'_, C, F, O, E>,
 ) -> Result<(), Fault>
     ensures read { OnOk result (OfReports pace.entry (folder.now ∷ []) NonRecursive
         (λ s. ReadsToEnd folder_source s F.gives follower.old.file
@@ -58,7 +76,7 @@ fn watch<R: DebouncerRuntime + AllocGlobal, F: ReadsText, O: Write + Drop, E: Wr
 {
     let missed = follow_file(rt, folder, file, pace, complaints, follower)?;
     write_missed(missed, NAME, &mut follower.err);
-    follower.read_if_missed(missed)
+    follower.read_last(missed)
 }
 
 /// Watches the folder of the file that the words name.
@@ -75,7 +93,8 @@ fn run<R: DebouncerRuntime + AllocGlobal, O: Write + Drop, E: Write + Drop>(
         name: NAME,
         files: RealFiles::new(rt),
         file: file.clone()?,
-        reloader: Reloader::new(),
+        pause: Pause::new(rt, milliseconds_of(matches, "quiet", QUIET)),
+        reloader: Reloader::new().with_empty(matches.get_flag("allow-empty")),
         out,
         err,
     };

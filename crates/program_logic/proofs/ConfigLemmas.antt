@@ -1,3 +1,4 @@
+pub mod EmptyLemmas
 pub mod FollowedLemmas
 pub mod Touching
 pub mod ReadChanges

@@ -1,6 +1,7 @@
 pub mod Touched
 pub mod Parsed
 pub mod Paragraph
+pub mod Pause
 pub mod InForce
 pub mod Reloads
 pub mod Places

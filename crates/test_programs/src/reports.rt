@@ -8,7 +8,7 @@ use notify_types::{DebouncedEvent, Event, EventKind, Flag};
 use notify_watch::DebounceEventResult;
 use program_frame::reports::{GivesReports, Rest, TakesReports, WaitResult, hand_on, take_rest};
 use program_frame::{Fault, write_missed};
-use program_logic::config::{Follower, RealFiles, Reloader};
+use program_logic::config::{Follower, Pause, RealFiles, Reloader};
 use program_logic::journal::{Form, Journal, PathFilter, Pattern, Patterns, Printer};
 use program_logic::trigger::{Bursts, Trigger};
 use program_logic::words::{
@@ -200,6 +200,7 @@ fn a_configuration_is_read_anew_if_that_is_asked_for_and_after_a_loss(rt: HostRu
         name: NAME,
         files: RealFiles::new(rt),
         file: PathBuf::parse(rt.alloc(), "/w/none/f.toml").expect(&rt, "memory"),
+        pause: Pause::new(rt, Duration::from_secs(3600)),
         reloader: Reloader::new(),
         out: Vec::new(rt.alloc()),
         err: Vec::new(rt.alloc()),
@@ -207,14 +208,14 @@ fn a_configuration_is_read_anew_if_that_is_asked_for_and_after_a_loss(rt: HostRu
     // At first, for the request, and after the loss; the two files are others.
     let missed = follow(
         &rt,
-        "Create(File) /w/a\nrescan",
+        "Create(File) /w/a\nrescan\npause",
         "Create(File) /w/b",
         &mut follower,
     )
     .expect(&rt, "no fault");
     assert_eq!(rt; readings(text(&rt, &follower.out)), 2);
     write_missed(missed, NAME, &mut follower.err);
-    follower.read_if_missed(missed).expect(&rt, "no fault");
+    follower.read_last(missed).expect(&rt, "no fault");
     assert_eq!(rt; readings(text(&rt, &follower.out)), 3);
     let said = "program: watching /w/none/f.toml\nprogram: 3 missed\n";
     assert_eq!(rt; text(&rt, &follower.err), said);

@@ -1,7 +1,6 @@
 -- After each change of a file comes a reading of a program that takes all batches. The function of the law cites it.
 use Rattle.std.proofs.Common.{◌≡◌, ◌∙◌, arith, zero, suc, Bool, true, false, List, [], ◌∷◌, ◌++◌, length, refl, sym, ap, subst, ◌⊎◌, inl, inr, append_assoc}
-use Rattle.std.proofs.lemmas.List.{map-append}
-use Rattle.std.specs.Prelude.{ℕ, Some, None, Ok, Err, MatchResult, map}
+use Rattle.std.specs.Prelude.{ℕ, ◌<◌, Some, None, Ok, Err, MatchResult, not, ◌&&◌, ◌||◌}
 use Rattle.std.specs.List.{Any, list_any}
 use Rattle.std.specs.declared.alloc.Global.{Global}
 use Rattle.std.specs.declared.vec.Vec.{Vec}
@@ -13,7 +12,7 @@ use Rattle.debounce_model.specs.Command.{CommandValue, ReplyValue, TakenReply, B
 use Rattle.debounce_model.specs.Kept.{takes_away}
 use Rattle.debounce_model.specs.Play.{accepted}
 use Rattle.program_frame.specs.Reports.Loop.{Answer, Step}
-use Rattle.program_logic.specs.Config.Followed.{Following, Reads, ReadsEach, ReadsIf, asked_in, asks}
+use Rattle.program_logic.specs.Config.Followed.{AreReadings, Following, IsReadingAt, Reads, ReadsEach, ReadsIf, asks, due_after, in_all}
 use Rattle.program_logic.specs.Config.Reading.{GivesText}
 use Rattle.program_logic.specs.Config.Readings.{IsReadAfter, ReadingsFollowChanges, batch_in, batches_of, once, taken_batches}
 use Rattle.program_logic.specs.Config.Reloads.{IsReadByEnd, ReadsAgain, RunsReadEachChangeByEnd}
@@ -139,6 +138,70 @@ went : (first : Answer) (More : Unit {0} → Type 0) (Stops : Fault → Type 0) 
 went (Ok done) More Stops never h = (refl, h)
 went (Err fault) More Stops never h = absurd (never fault h)
 
+-- more than so many
+longer : {A B : Type 0} (first more : List A) (here : A) (before : List B) → length first ≡ length before →
+    length before < length (first ++ here ∷ more)
+longer [] more here [] same = omega (arith, same)
+longer [] more here (b ∷ before) same = absurd (omega (arith, same))
+longer (a ∷ first) more here [] same = absurd (omega (arith, same))
+longer (a ∷ first) more here (b ∷ before) same =
+    let rest = longer first more here before (omega (arith, same)) in omega (arith, rest)
+
+-- the readings of these steps, parted at one of them
+record PartedAt (file : PathValue) (before : List Step) (step : Step) (behind : List Step) (asked : List Bool)
+    (due' : Bool) : Type 0 where
+  first : List Bool
+  here : Bool
+  last : List Bool
+  mid : Bool
+  parts : asked ≡ first ++ here ∷ last
+  length_is : length first ≡ length before
+  behind_is : AreReadings file (due_after file mid step here) behind last due'
+
+-- .. so they can be
+readings_at : (file : PathValue) (before : List Step) (step : Step) (behind : List Step) (asked : List Bool)
+    (due due' : Bool) → AreReadings file due (before ++ step ∷ behind) asked due' →
+    PartedAt file before step behind asked due'
+readings_at file [] step behind [] due due' h = absurd h
+readings_at file [] step behind (here ∷ last) due due' h = record {
+  first = [];
+  here = here;
+  last = last;
+  mid = due;
+  parts = refl;
+  length_is = refl;
+  behind_is = h.1;
+}
+readings_at file (one ∷ before) step behind [] due due' h = absurd h
+readings_at file (one ∷ before) step behind (reads ∷ asked) due due' h =
+    let rest = readings_at file before step behind asked (due_after file due one reads) due' h.1 in record {
+      first = reads ∷ rest.first;
+      here = rest.here;
+      last = rest.last;
+      mid = rest.mid;
+      parts = ap (λ xs. reads ∷ xs) rest.parts;
+      length_is = ap suc rest.length_is;
+      behind_is = rest.behind_is;
+    }
+
+-- what is due stays so where nothing is read
+still_due : (asked : Bool) → (asked || true) ≡ true
+still_due true = refl
+still_due false = refl
+
+-- where one is due, there is a reading at one of these steps, or at the end
+read_later : (file : PathValue) (steps : List Step) (asked : List Bool) (due some_lost : Bool) →
+    AreReadings file true steps asked due →
+    (first : List Bool) × (last : List Bool) × (asked ++ (due || some_lost) ∷ [] ≡ first ++ true ∷ last)
+read_later file [] [] due some_lost h = ([], [], ap (λ b. (b || some_lost) ∷ []) h)
+read_later file [] (reads ∷ asked) due some_lost h = absurd h
+read_later file (step ∷ steps) [] due some_lost h = absurd h
+read_later file (step ∷ steps) (true ∷ asked) due some_lost h = ([], asked ++ (due || some_lost) ∷ [], refl)
+read_later file (step ∷ steps) (false ∷ asked) due some_lost h =
+    let rest = read_later file steps asked due some_lost
+    (subst (λ b. AreReadings file b steps asked due) (still_due (asks file step)) h.1) in
+    (false ∷ rest.0, rest.1, ap (λ xs. false ∷ xs) rest.2)
+
 module _ {F : Type 0} (gives : GivesText F) (file : PathValue) where
   -- the first of these readings, and then the others
   read_on : (asked : Bool) (more : List Bool) (old new : Following F) →
@@ -158,28 +221,30 @@ module _ {F : Type 0} (gives : GivesText F) (file : PathValue) where
       let rest = read_split xs ys one.0 new one.2 in
       (rest.0, (Ok tt, one.0, one.1, rest.1), rest.2)
 
-  -- what asks for readings, before this step and from it on
-  asked_parts : (before behind : List Step) (step : Step) (some_lost : Bool) →
-      asked_in file (before ++ step ∷ behind) some_lost
-      ≡ (true ∷ map (asks file) before) ++ (asks file step ∷ (map (asks file) behind ++ some_lost ∷ []))
-  asked_parts before behind step some_lost =
-      ap (λ xs. true ∷ xs)
-      (ap (λ xs. xs ++ some_lost ∷ []) (map-append (asks file) before (step ∷ behind))
-      ∙ append_assoc (map (asks file) before) (map (asks file) (step ∷ behind)) (some_lost ∷ []))
-
-  -- the file was read after this step
+  -- the file was read at a later one of these readings
   read_at : (told : List ReplyValue) (more : List (List Timed)) (batch : List Timed) (steps : List Step)
-      (some_lost : Bool) (old new : Following F) → StepAt steps (batches_of told ++ more) batch → Touches file batch →
-      ReadsEach gives file (asked_in file steps some_lost) old (Ok tt) new →
-      IsReadAfter gives file told steps some_lost old new
-  read_at told more batch steps some_lost old new at touched each =
+      (asked : List Bool) (due some_lost : Bool) (old new : Following F) →
+      StepAt steps (batches_of told ++ more) batch → Touches file batch → AreReadings file false steps asked due →
+      ReadsEach gives file (in_all asked (due || some_lost)) old (Ok tt) new →
+      IsReadAfter gives file told steps (asked ++ (due || some_lost) ∷ []) old new
+  read_at told more batch steps asked due some_lost old new at touched are each =
       let touches = subst (Touches file) (sym at.is) touched in
       let step = Some (Ok at.taken) in
-      let asked = subst (λ xs. ReadsEach gives file xs old (Ok tt) new)
-      (asked_parts at.before at.behind step some_lost)
-      (subst (λ xs. ReadsEach gives file (asked_in file xs some_lost) old (Ok tt) new) at.parts each) in
-      let split = read_split (true ∷ map (asks file) at.before) _ old new asked in
-      let here = read_on (asks file step) _ split.0 new split.2 in
+      let split = readings_at file at.before step at.behind asked false due
+      (subst (λ xs. AreReadings file false xs asked due) at.parts are) in
+      let asks_here : asks file step ≡ true = (batch_decides file at.taken.items).1 touches in
+      let found = read_later file at.behind split.last due some_lost
+      (subst (λ b. AreReadings file b at.behind split.last due)
+      (ap (λ b. b || (split.mid && not split.here)) asks_here) split.behind_is) in
+      let front = split.first ++ split.here ∷ found.0 in
+      let whole : asked ++ (due || some_lost) ∷ [] ≡ front ++ true ∷ found.1 =
+      ap (λ xs. xs ++ (due || some_lost) ∷ []) split.parts
+      ∙ append_assoc split.first (split.here ∷ split.last) ((due || some_lost) ∷ [])
+      ∙ ap (λ xs. split.first ++ split.here ∷ xs) found.2
+      ∙ sym (append_assoc split.first (split.here ∷ found.0) (true ∷ found.1)) in
+      let parted = read_split (true ∷ front) (true ∷ found.1) old new
+      (subst (λ xs. ReadsEach gives file (true ∷ xs) old (Ok tt) new) whole each) in
+      let here = read_on true found.1 parted.0 new parted.2 in
       record {
         before = at.before;
         batch = at.taken;
@@ -188,11 +253,14 @@ module _ {F : Type 0} (gives : GivesText F) (file : PathValue) where
         touched = touches;
         more = more;
         came_after = at.front_is;
-        begun = split.0;
+        first = front;
+        last = found.1;
+        asked_are = whole;
+        is_later = longer split.first found.0 split.here at.before split.length_is;
+        begun = parted.0;
         ended = here.0;
-        earlier = split.1;
-        reads = subst (λ b. ReadsIf gives file b split.0 (Ok tt) here.0) ((batch_decides file at.taken.items).1 touches)
-            here.1;
+        earlier = parted.1;
+        reads = here.1;
         later = here.2;
       }
 
@@ -209,24 +277,26 @@ module _ {F : Type 0} (gives : GivesText F) (file : PathValue) where
 
   -- where a batch may be about the file, the file was read after it
   read_or_away : (Away : Type 0) (told : List ReplyValue) (rest : List (List Timed)) (steps : List Step)
-      (some_lost : Bool) (old new : Following F) → taken_batches steps ≡ batches_of told ++ rest →
-      ReadsEach gives file (asked_in file steps some_lost) old (Ok tt) new → Placed file rest ⊎ Away →
-      IsReadAfter gives file told steps some_lost old new ⊎ Away
-  read_or_away Away told rest steps some_lost old new taken each (inl p) =
+      (asked : List Bool) (due some_lost : Bool) (old new : Following F) →
+      taken_batches steps ≡ batches_of told ++ rest → AreReadings file false steps asked due →
+      ReadsEach gives file (in_all asked (due || some_lost)) old (Ok tt) new → Placed file rest ⊎ Away →
+      IsReadAfter gives file told steps (asked ++ (due || some_lost) ∷ []) old new ⊎ Away
+  read_or_away Away told rest steps asked due some_lost old new taken are each (inl p) =
       let whole = taken ∙ ap (λ xs. batches_of told ++ xs) p.parts
       ∙ sym (append_assoc (batches_of told) p.before (p.batch ∷ p.behind)) in
-      inl (read_at told p.before p.batch steps some_lost old new
-      (step_at steps (batches_of told ++ p.before) p.batch p.behind whole) p.touched each)
-  read_or_away Away told rest steps some_lost old new taken each (inr away) = inr away
+      inl (read_at told p.before p.batch steps asked due some_lost old new
+      (step_at steps (batches_of told ++ p.before) p.batch p.behind whole) p.touched are each)
+  read_or_away Away told rest steps asked due some_lost old new taken are each (inr away) = inr away
 
 -- after each accepted change of the file it was read, or a removal took it away
 pub readings_follow : {C F : Type 0} (r : Rules C) (gives : GivesText F) → RunsReadEachChangeByEnd r →
     ReadingsFollowChanges r gives
-readings_follow r gives by_end = λ file s t commands replies outlook steps some_lost old new run none calm o taken each.
+readings_follow r gives by_end =
+    λ file s t commands replies outlook steps asked due some_lost old new run none calm o taken are each.
     λ earlier later told after event now exists answer here there same tells.
     read_or_away gives file (list_any (takes_away file) (accepted later after) ≡ true) told
-    (batches_of after ++ once outlook) steps some_lost old new
-    (batches_are gives file told after (TakenReply answer) replies outlook steps refl there taken) each
+    (batches_of after ++ once outlook) steps asked due some_lost old new
+    (batches_are gives file told after (TakenReply answer) replies outlook steps refl there taken) are each
     (placed_by_end file later after outlook
     (by_end file s t commands replies outlook run none calm o earlier later told after event now exists answer
     here there same tells))

@@ -1,5 +1,5 @@
--- What a program does that reads a file again whenever a report may be about it.
-use Rattle.std.specs.Prelude.{◌≡◌, ℕ, Bool, true, false, not, ◌==◌, List, [], ◌∷◌, ◌++◌, Option, None, Some, Ok, Err, MatchResult, map}
+-- What a program does that reads a file again once a report may be about it, and nothing more is reported of it.
+use Rattle.std.specs.Prelude.{◌≡◌, ◌⊎◌, ℕ, Bool, true, false, not, ◌==◌, ◌&&◌, ◌||◌, List, [], ◌∷◌, ◌++◌, Option, None, Some, Ok, Err, MatchResult}
 use Rattle.std.specs.List.{list_any}
 use Rattle.notify_paths.specs.Path.{PathValue}
 use Rattle.program_frame.specs.FaultRuns.Until.{GaveSome}
@@ -39,25 +39,50 @@ ReadsEach {F} gives file (asked ∷ more) old answer new =
     × MatchResult first (λ _. ReadsEach gives file more between answer new)
     (λ fault. (answer ≡ Err fault) × (new ≡ between))
 
+-- a reading that was due was made, and is due no more; or nothing was done
+abbrev pub ReadsDue : {F : Type 0} → GivesText F → PathValue → Bool → Following F → Answer → Bool → Following F → Type 0
+ReadsDue gives file due old answer due' new =
+    ((due ≡ true) × (due' ≡ false) × Reads gives file old answer new)
+    ⊎ ((due' ≡ due) × (answer ≡ Ok tt) × (new ≡ old))
+
 -- a report asks for a reading if it may be about the file; errors and a pause don't
 abbrev pub asks : PathValue → Step → Bool
 asks file (Some (Ok batch)) = list_any (touches file) batch.items
 asks file (Some (Err errors)) = false
 asks file None = false
 
--- what asks for readings, in order: the beginning, each report, and the end if some were lost
-abbrev pub asked_in : PathValue → List Step → Bool → List Bool
-asked_in file steps some_lost = true ∷ (map (asks file) steps ++ some_lost ∷ [])
+-- whether there was a reading at a step, where one was due or not: none at a report that asks for one, since more may
+-- come; at another only one that was due; and after a pause each that was
+abbrev pub IsReadingAt : PathValue → Bool → Step → Bool → Type 0
+IsReadingAt file due step reads =
+    (reads ≡ true → due ≡ true) × (asks file step ≡ true → reads ≡ false) × (step ≡ None → reads ≡ due)
 
--- the file was read at first, after each report of the source that may be about it and before the next one, and at the
--- end if some were lost; and at no other time
+-- whether one is due after the step
+abbrev pub due_after : PathValue → Bool → Step → Bool → Bool
+due_after file due step reads = asks file step || (due && not reads)
+
+-- whether there was a reading at each of these steps; and whether one was due before them, and is after them
+abbrev pub AreReadings : PathValue → Bool → List Step → List Bool → Bool → Type 0
+AreReadings file due [] [] due' = due' ≡ due
+AreReadings file due [] (reads ∷ more) due' = ⊥
+AreReadings file due (step ∷ steps) [] due' = ⊥
+AreReadings file due (step ∷ steps) (reads ∷ more) due' =
+    IsReadingAt file due step reads × AreReadings file (due_after file due step reads) steps more due'
+
+-- the beginning, these readings, and perhaps a last one
+abbrev pub in_all : List Bool → Bool → List Bool
+in_all asked last = true ∷ (asked ++ last ∷ [])
+
+-- the file was read at first; after each report of the source that may be about it, at a later step or at the end; and
+-- at the end if some were lost; and at no other time
 abbrev pub ReadsToEnd : {S F : Type 0} → Source S → S → GivesText F → PathValue → Following F → Following F → Type 0
 ReadsToEnd source reports gives file old new =
-    (lost : ℕ) × (steps : List Step) × Gave source reports steps lost
-    × ReadsEach gives file (asked_in file steps (not (lost == 0))) old (Ok tt) new
+    (lost : ℕ) × (steps : List Step) × (asked : List Bool) × (due : Bool) × Gave source reports steps lost
+    × AreReadings file false steps asked due
+    × ReadsEach gives file (in_all asked (due || not (lost == 0))) old (Ok tt) new
 
 -- so it was with what the source gave until a fault came, which can have come at the last of these readings
 abbrev pub ReadsSome : {S F : Type 0} → Source S → S → GivesText F → PathValue → Following F → Following F → Type 0
 ReadsSome source reports gives file old new =
-    (steps : List Step) × (some_lost : Bool) × (answer : Answer) × GaveSome source reports steps
-    × ReadsEach gives file (asked_in file steps some_lost) old answer new
+    (steps : List Step) × (asked : List Bool) × (due last : Bool) × (answer : Answer) × GaveSome source reports steps
+    × AreReadings file false steps asked due × ReadsEach gives file (in_all asked last) old answer new

@@ -1,8 +1,8 @@
 -- The configuration in force, and what is printed of it.
-use Rattle.std.specs.Prelude.{◌≡◌, ◌⊎◌, ◌≤◌, ℕ, List, Option, None, Some, IsSomeAnd, codes}
+use Rattle.std.specs.Prelude.{◌≡◌, ◌≢◌, ◌⊎◌, ◌≤◌, ℕ, Bool, false, List, Option, None, Some, IsSomeAnd, codes}
 use Rattle.std.specs.Io.KnownBytes.{Appends}
 use Rattle.program_frame.specs.Whole.Output.{WritesFront}
-use Rattle.toml.specs.Data.{Members, members_depth}
+use Rattle.toml.specs.Data.{Members, members_depth, no_members}
 use Rattle.toml.specs.Parse.{parse_document}
 use Rattle.toml.specs.View.{table_view}
 use Rattle.program_logic.specs.declared.config.Config.{Config}
@@ -29,13 +29,23 @@ IsLoaded text in_force lines =
 abbrev pub IsComplaint : List ℕ → Type 0
 IsComplaint lines = (complaint : List ℕ) × (lines ≡ paragraph_of (codes "kept") complaint)
 
--- the text is no document, and the lines say so
-abbrev pub IsRefused : List ℕ → List ℕ → Type 0
-IsRefused text lines = (parse_document text ≡ None) × IsComplaint lines
+-- the text is a document that sets something, unless one that sets nothing is taken too
+abbrev pub SetsEnough : Bool → List ℕ → Type 0
+SetsEnough takes_empty text = takes_empty ≡ false → parse_document text ≢ Some no_members
+
+-- the text is no document, or one that sets nothing where none such is taken
+abbrev pub IsUnfit : Bool → List ℕ → Type 0
+IsUnfit takes_empty text =
+    (parse_document text ≡ None) ⊎ ((takes_empty ≡ false) × (parse_document text ≡ Some no_members))
+
+-- the text is unfit, and the lines say so
+abbrev pub IsRefused : Bool → List ℕ → List ℕ → Type 0
+IsRefused takes_empty text lines = IsUnfit takes_empty text × IsComplaint lines
 
 -- the text is in force now and shown; or it is refused, and what was in force still is
-abbrev pub Follows : List ℕ → Option Config → Option Config → List ℕ → Type 0
-Follows text old new lines = IsLoaded text new lines ⊎ (IsRefused text lines × (new ≡ old))
+abbrev pub Follows : Bool → List ℕ → Option Config → Option Config → List ℕ → Type 0
+Follows takes_empty text old new lines =
+    (SetsEnough takes_empty text × IsLoaded text new lines) ⊎ (IsRefused takes_empty text lines × (new ≡ old))
 
 -- what was written is some lines of which this holds
 abbrev pub Prints : Option (List ℕ) → Option (List ℕ) → (List ℕ → Type 0) → Type 0
@@ -46,6 +56,6 @@ abbrev pub PrintsFront : Option (List ℕ) → Option (List ℕ) → (List ℕ �
 PrintsFront old new Holding = (lines : List ℕ) × (WritesFront old lines new × Holding lines)
 
 -- what is in force after a reading, and lines that say so; a file that can't be read is as one whose text is refused
-abbrev pub Becomes : Option (List ℕ) → Option Config → Option Config → List ℕ → Type 0
-Becomes (Some text) old new lines = Follows text old new lines
-Becomes None old new lines = IsComplaint lines × (new ≡ old)
+abbrev pub Becomes : Bool → Option (List ℕ) → Option Config → Option Config → List ℕ → Type 0
+Becomes takes_empty (Some text) old new lines = Follows takes_empty text old new lines
+Becomes takes_empty None old new lines = IsComplaint lines × (new ≡ old)

@@ -17,8 +17,10 @@ given_by (Ok text) = Some (string_bytes text)
 given_by (Err error) = None
 
 -- what the reading gave is in force or refused, and lines were printed that say so; after a fault a beginning of them
--- was, or nothing was done
+-- was, or nothing was done. Whether a document that sets nothing is taken stays
 abbrev pub Shows : Option (List ℕ) → Reloader → Option (List ℕ) → Answer → Reloader → Option (List ℕ) → Type 0
 Shows given old out answer new out' =
-    MatchResult answer (λ _. Prints out out' (Becomes given old.in_force new.in_force))
-    (λ fault. PrintsFront out out' (Becomes given old.in_force new.in_force) ⊎ ((new ≡ old) × (out' ≡ out)))
+    (new.takes_empty ≡ old.takes_empty)
+    × MatchResult answer (λ _. Prints out out' (Becomes old.takes_empty given old.in_force new.in_force))
+    (λ fault. PrintsFront out out' (Becomes old.takes_empty given old.in_force new.in_force)
+    ⊎ ((new ≡ old) × (out' ≡ out)))

@@ -1,5 +1,5 @@
 -- The readings of a program that takes all that a debouncer emits: each change of the file is followed by one.
-use Rattle.std.specs.Prelude.{◌≡◌, ◌⊎◌, ℕ, Bool, true, false, Option, None, Some, Ok, Err, List, [], ◌∷◌, ◌++◌, length, map}
+use Rattle.std.specs.Prelude.{◌≡◌, ◌⊎◌, ◌<◌, ℕ, Bool, true, false, ◌||◌, Option, None, Some, Ok, Err, List, [], ◌∷◌, ◌++◌, length}
 use Rattle.std.specs.List.{list_any}
 use Rattle.std.specs.declared.alloc.Global.{Global}
 use Rattle.std.specs.declared.vec.Vec.{Vec}
@@ -14,7 +14,7 @@ use Rattle.debounce_model.specs.Run.{Run}
 use Rattle.debounce_model.specs.State.{Core, waiting}
 use Rattle.debounce_model.specs.Tick.{IsOutlook}
 use Rattle.program_frame.specs.Reports.Loop.{Step}
-use Rattle.program_logic.specs.Config.Followed.{Following, Reads, ReadsEach, asked_in, asks}
+use Rattle.program_logic.specs.Config.Followed.{AreReadings, Following, Reads, ReadsEach, in_all}
 use Rattle.program_logic.specs.Config.Reading.{GivesText}
 use Rattle.program_logic.specs.Config.Reloads.{TellsChangeOf}
 use Rattle.program_logic.specs.Config.Touched.{Touches}
@@ -41,10 +41,10 @@ taken_batches (Some (Ok batch) ∷ steps) = batch.items ∷ taken_batches steps
 taken_batches (Some (Err errors) ∷ steps) = taken_batches steps
 taken_batches (None ∷ steps) = taken_batches steps
 
--- of the readings for these steps one was taken after a batch that may be about the file, and that came after all that
--- these replies emit
+-- of these readings, one at most for each of these steps and one at the end, one was taken after a batch that may be
+-- about the file, and that came after all that these replies emit
 pub record IsReadAfter {F : Type 0} (gives : GivesText F) (file : PathValue) (told : List ReplyValue)
-    (steps : List Step) (some_lost : Bool) (old new : Following F) : Type 0 where
+    (steps : List Step) (asked : List Bool) (old new : Following F) : Type 0 where
   pub before : List Step
   pub batch : Vec Timed Global
   pub behind : List Step
@@ -52,29 +52,35 @@ pub record IsReadAfter {F : Type 0} (gives : GivesText F) (file : PathValue) (to
   pub touched : Touches file batch.items
   pub more : List (List Timed)
   pub came_after : taken_batches before ≡ batches_of told ++ more
+  pub first : List Bool
+  pub last : List Bool
+  pub asked_are : asked ≡ first ++ true ∷ last
+  pub is_later : length before < length first
   pub begun : Following F
   pub ended : Following F
-  pub earlier : ReadsEach gives file (true ∷ map (asks file) before) old (Ok tt) begun
+  pub earlier : ReadsEach gives file (true ∷ first) old (Ok tt) begun
   pub reads : Reads gives file begun (Ok tt) ended
-  pub later : ReadsEach gives file (map (asks file) behind ++ some_lost ∷ []) ended (Ok tt) new
+  pub later : ReadsEach gives file last ended (Ok tt) new
 
 -- in a run without renames, from where nothing waits, of which a program took each batch and then the outlook, and read
--- the file as it was asked: after each accepted change the file was read, or a removal took it away
+-- the file once it was due, and what was due at the end: after each accepted change the file was read, or a removal
+-- took it away
 abbrev pub ReadingsFollowChanges : {C F : Type 0} → Rules C → GivesText F → Type 0
 ReadingsFollowChanges {C} {F} r gives =
     (file : PathValue) (s t : Core C) (commands : List CommandValue) (replies : List ReplyValue)
-    (outlook : List Timed) (steps : List Step) (some_lost : Bool) (old new : Following F) →
+    (outlook : List Timed) (steps : List Step) (asked : List Bool) (due some_lost : Bool) (old new : Following F) →
     Run r s commands replies t →
     waiting s.state ≡ 0 →
     has_rename commands replies ≡ false →
     IsOutlook t.state outlook →
     taken_batches steps ≡ batches_of replies ++ once outlook →
-    ReadsEach gives file (asked_in file steps some_lost) old (Ok tt) new →
+    AreReadings file false steps asked due →
+    ReadsEach gives file (in_all asked (due || some_lost)) old (Ok tt) new →
     (earlier later : List CommandValue) (told after : List ReplyValue)
     (event : EventValue) (now : ℕ) (exists : Bool) (answer : Option FileId) →
     commands ≡ earlier ++ EventCommand event now exists ∷ later →
     replies ≡ told ++ TakenReply answer ∷ after →
     length earlier ≡ length told →
     TellsChangeOf file event →
-    IsReadAfter gives file told steps some_lost old new
+    IsReadAfter gives file told steps (asked ++ (due || some_lost) ∷ []) old new
     ⊎ (list_any (takes_away file) (accepted later after) ≡ true)
