@@ -37,6 +37,10 @@ const NAME: &str = "build_trigger";
 /// What the program does, for its help.
 const ABOUT: &str = "Prints a line for each burst of changes below folders.";
 
+/// What memory it takes, for its help.
+const MEMORY: &str =
+    "Memory: some 200 bytes for each path, and what is reported while the output isn't read.";
+
 /// How long nothing is reported after a burst, in milliseconds, if no word says it.
 const QUIET: u64 = 500;
 
@@ -46,7 +50,10 @@ fn command_line<'a>(alloc: Global, name: &'a str) -> Result<Command<'a>, AllocEr
         name: "DIR",
         help: "the folders that are watched, with all below them",
     };
-    let line = with_until_eof(alloc, command_of_places(alloc, name, ABOUT, folders)?)?;
+    let line = with_until_eof(
+        alloc,
+        command_of_places(alloc, name, ABOUT, folders)?.after_help(MEMORY),
+    )?;
     let line = line.arg(option(alloc, "ignore", "RE").help(
         "leave out events with such paths alone",
     ))?;

@@ -10,13 +10,22 @@ use std::alloc::{AllocError, Global};
 /// The program's name.
 pub(crate) const NAME: &str = "change_journal";
 
+/// What memory it takes, for its help.
+const MEMORY: &str =
+    "Memory: some 200 bytes for each path, and what is reported while the output isn't read.";
+
 /// The command line.
 pub(crate) fn command_line<'a>(alloc: Global, name: &'a str) -> Result<Command<'a>, AllocError> {
     let folders = PlaceWord {
         name: "DIR",
         help: "the folders that are watched, with all below them",
     };
-    let line = command_of_places(alloc, name, "Prints the changes below folders.", folders)?;
+    let line = command_of_places(
+        alloc,
+        name,
+        "Prints the changes below folders.",
+        folders,
+    )?.after_help(MEMORY);
     let line = with_until_eof(alloc, line)?;
     let initial = flag(alloc, "initial").long("initial");
     let line = line.arg(initial.help("print what is there first, as created"))?;

@@ -27,6 +27,10 @@ const NAME: &str = "config_reloader";
 /// What the program does, for its help.
 const ABOUT: &str = "Reads a TOML file when it changes.";
 
+/// What memory it takes, for its help.
+const MEMORY: &str =
+    "Memory: the file, what is in force, and some 200 bytes for each name in the file's folder.";
+
 /// How long nothing is reported of the file before it is read again, in milliseconds, if no word says it.
 const QUIET: u64 = 100;
 
@@ -36,7 +40,7 @@ fn command_line<'a>(alloc: Global, name: &'a str) -> Result<Command<'a>, AllocEr
         name: "FILE",
         help: "the file that is read",
     };
-    let line = with_until_eof(alloc, command(alloc, name, ABOUT, file)?)?;
+    let line = with_until_eof(alloc, command(alloc, name, ABOUT, file)?.after_help(MEMORY))?;
     let line = line.arg(number(alloc, "quiet", "MS").help(
         "read the file once nothing was reported of it for so long [default: 100]",
     ))?;
