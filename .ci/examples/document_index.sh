@@ -1,7 +1,7 @@
 #!/usr/bin/env bash
 # The document index, over a folder in which documents come, change and go.
 . "$(dirname "$0")/../checks.sh" || exit 1
-expects 12
+expects 17
 
 index=$(program document_index)
 mkdir document_index && cd document_index || exit 1
@@ -56,7 +56,8 @@ answers event || well=no
 report 'document_index: the documents that remain' $well
 exec 3>&- 4<&-
 well=no
-wait $running && [ "$(cat err)" = 'document_index: watching notes' ] && well=yes
+printf 'document_index: %s\n' 'watching notes' '1 file is no text, and is left out' >complaints
+wait $running && cmp -s err complaints && well=yes
 report 'document_index: it ends with its input' $well
 
 # A removal only removes: what came again before the index looked, and went before the next look, isn't in it. And
@@ -112,6 +113,81 @@ report 'document_index: what comes back is read' $well
 exec 3>&- 4<&- 5>&-
 wait $running
 
+# What a file holds beyond 16 MB isn't read, nor what is no text, whatever memory there is; both are counted once.
+mkdir large && echo hello >large/a && truncate -s 4G large/image && printf 'hello\0' >large/bytes && printf 'hello \xff' >large/more
+echo large/a >wanted
+printf 'document_index: %s\n' 'watching large' '1 file is longer than 16 MB, and is left out' '2 files are no text, and are left out' \
+    >complaints
+(ulimit -v 3000000 && exec timeout 60 "$index" large --query hello) >out 2>err
+report 'document_index: a large file' "$([ $? = 0 ] && cmp -s out wanted && cmp -s err complaints && echo yes)"
+
+# While a file of many megabytes grows all the time, and others are written beside it, each query is answered within two
+# seconds, and what is reported takes no memory that grows.
+mkdir busy && yes 'some words of a log' | head -c 12M >busy/log
+mkfifo words
+"$index" busy --timeout 50 --interval 10 <words >said 2>err &
+running=$!
+exec 3>words
+(while :; do echo more >>busy/log; for n in $(seq 100); do echo x >>busy/$n; done; sleep 0.05; done) &
+writer=$!
+# asks WORD: the index answers it; how long that takes, in microseconds, is in `took`.
+asks() {
+    local begun before
+    before=$(grep -c '^$' said)
+    begun=${EPOCHREALTIME/[.,]/}
+    echo "$1" >&3
+    within 60 more_than "$before"
+    took=$((${EPOCHREALTIME/[.,]/} - begun))
+}
+more_than() {
+    [ "$(grep -c '^$' said)" -gt "$1" ]
+}
+# memory: what the index holds, in kilobytes.
+memory() {
+    sed -n 's/^VmRSS: *\([0-9]*\) kB$/\1/p' "/proc/$running/status"
+}
+asks words
+well=yes
+for _ in 1 2 3 4 5; do
+    asks words
+    [ $took -lt 2000000 ] && [ "$(tail -n 2 said)" = busy/log ] || well=no
+done
+report 'document_index: a query while all changes' $well
+sleep 2
+before=$(memory)
+sleep 15
+after=$(memory)
+echo fresh >busy/new
+found() {
+    asks fresh
+    [ "$(tail -n 2 said)" = busy/new ]
+}
+report 'document_index: memory between two queries' "$([ $((after - before)) -lt 2000 ] && within 60 found && echo yes)"
+kill $writer
+exec 3>&-
+wait $running
+
+# It ends when it shall, though a query may still come; until then its answers are of what stands there.
+echo apple >busy/fruit
+mkfifo fruits
+"$index" busy --seconds 8 --timeout 50 --interval 10 <fruits >said 2>err &
+running=$!
+exec 3>fruits
+asks apple && echo pear >busy/fruit && sleep 2 && asks pear
+begun=${EPOCHREALTIME/[.,]/}
+wait $running
+ended=$?
+took=$((${EPOCHREALTIME/[.,]/} - begun))
+printf 'busy/fruit\n\nbusy/fruit\n\n' >wanted
+report 'document_index: it ends after its seconds' "$([ $ended = 0 ] && [ $took -lt 10000000 ] && cmp -s said wanted && echo yes)"
+exec 3>&-
+# What was written into a named pipe is read, though its writer has gone before.
+echo pear >fruits &
+(sleep 1 && exec timeout 60 "$index" busy) <fruits >said 2>err
+printf 'busy/fruit\n\n' >wanted
+report 'document_index: a pipe whose writer is gone' "$([ $? = 0 ] && cmp -s said wanted && echo yes)"
+rm -r busy large
+
 # Blanks and a carriage return beside a word don't count, a hidden file does. A line that isn't UTF-8 is said, has an
 # empty answer, and makes the status 1; the next line is answered.
 mkdir lines && echo one >lines/.hidden && echo 'one two' >lines/a
@@ -129,10 +205,11 @@ report 'document_index: an input that can not be read' "$([ $? = 1 ] && [ "$(wc 
 
 echo 'Event' >notes/z.txt
 echo notes/z.txt >wanted
-expect 'document_index: one query' 0 wanted 'document_index: watching notes' "$index" notes --query EVENT
-expect 'document_index: a word that no document has' 0 /dev/null 'document_index: watching notes' "$index" notes --query nothing
+printf 'document_index: %s\n' 'watching notes' '1 file is no text, and is left out' >complaints
+expect 'document_index: one query' 0 wanted "$(cat complaints)" "$index" notes --query EVENT
+expect 'document_index: a word that no document has' 0 /dev/null "$(cat complaints)" "$index" notes --query nothing
 expect 'document_index: a missing folder' 5 /dev/null 'document_index: cannot watch missing: not there' "$index" missing --query a
 "$index" notes --query event >/dev/full 2>err
-report 'document_index: a full device' "$([ $? = 6 ] && [ "$(cat err)" = 'document_index: watching notes' ] && echo yes)"
+report 'document_index: a full device' "$([ $? = 6 ] && cmp -s err complaints && echo yes)"
 "$index" >out 2>err
 report 'document_index: no word' "$([ $? = 2 ] && [ ! -s out ] && [ -s err ] && echo yes)"

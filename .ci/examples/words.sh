@@ -1,10 +1,11 @@
 #!/usr/bin/env bash
 # The words of the five programs: what --help and --version say, and what isn't taken.
 . "$(dirname "$0")/../checks.sh" || exit 1
-expects 49
+expects 50
 
 mkdir -p words/watched words/copy && cd words || exit 1
 echo 'port = 80' >watched/app.toml
+mkfifo queries && exec 3<>queries
 
 # is_refused WORD..: the program ends with status 2, prints nothing, and says something on standard error.
 is_refused() {
@@ -65,13 +66,13 @@ for name in build_trigger change_journal config_reloader document_index folder_m
     report "$name: words that don't fit" $well
     expect "$name: what stands after hints, and no hints" 2 /dev/null "$name: --hints-zero asks for --hints" \
         "$program" "${places[@]}" --hints-zero --ticks 1
-    if [ $name != document_index ]; then
-        begun=${EPOCHREALTIME/[.,]/}
-        "$program" "${places[@]}" --seconds 2 >out 2>err
-        ended=$?
-        took=$((${EPOCHREALTIME/[.,]/} - begun))
-        report "$name: a life of two seconds" \
-            "$([ $ended = 0 ] && [ $took -ge 2000000 ] && [ $took -lt 30000000 ] && echo yes)"
-    fi
+    # The index waits for queries that don't come.
+    [ $name != document_index ] || places=(watched)
+    begun=${EPOCHREALTIME/[.,]/}
+    "$program" "${places[@]}" --seconds 2 >out 2>err <queries
+    ended=$?
+    took=$((${EPOCHREALTIME/[.,]/} - begun))
+    report "$name: a life of two seconds" \
+        "$([ $ended = 0 ] && [ $took -ge 2000000 ] && [ $took -lt 30000000 ] && echo yes)"
     expect "$name: a word that is not UTF-8" 2 /dev/null "$name: an argument is not UTF-8" "$program" $'\xff'
 done

@@ -1,77 +1,102 @@
--- Reports that are taken, and queries that are answered, one after the other. The loops of the program cite these.
-use Rattle.std.proofs.Common.{◌≡◌, ◌∙◌, ap, refl, subst, sym, List, [], ◌∷◌, Bool, true, false, ◌&&◌}
+-- Queries that are answered, one after the other. The loops of the program cite these.
+use Rattle.std.proofs.Common.{◌≡◌, ◌∙◌, ap, refl, sym, List, [], ◌∷◌, ◌++◌, Bool, true, false, ◌&&◌}
 use Rattle.std.specs.Prelude.{ℕ, Option, Result, Ok, Err, None, Some, is_some, IfOk}
 use Rattle.std.specs.List.{list_all}
-use Rattle.std.specs.declared.alloc.Global.{Global}
-use Rattle.notify_watch.specs.Handler.{Outcome}
 use Rattle.program_logic.specs.Words.Index.{IndexValue}
-use Rattle.program_logic.specs.Words.Kept.{CatchesUp, Readings, TakesEach}
+use Rattle.program_logic.specs.Words.Kept.{CatchesUp, Readings}
+use Rattle.program_logic.proofs.WordsLemmas.Catching.{caught_both, caught_none}
 use Rattle.notify_paths.specs.Path.{PathValue}
 use Rattle.std.specs.Io.KnownBytes.{Appends}
 use Rattle.program_logic.specs.Words.Answer.{answer_to}
-use Rattle.document_index.specs.Answered.{Answers, AnswersAll, AnswersEach, Begins, Query, Served, Serves}
-
--- a report that was taken before the others
-pub taken_first : (readings : Readings) (folder : PathValue) (report : Outcome Global) (old between new : IndexValue)
-    → TakesEach readings folder (report ∷ []) old between → CatchesUp readings folder between new
-    → CatchesUp readings folder old new
-taken_first readings folder (Ok batch) old between new taken more =
-    (Ok batch ∷ more.0, more.1, more.2, (taken.0, taken.1, rw taken.2 at more.3), more.4)
-taken_first readings folder (Err errors) old between new taken more =
-    (Err errors ∷ more.0, more.1, more.2, rw taken at more.3, more.4)
-
--- a query that was answered of this folder
-pub answered_of : (readings : Readings) (folder folder' : PathValue) (query : Query) (old new : Served)
-    → folder ≡ folder' → Answers readings folder query old new → Answers readings folder' query old new
-answered_of readings folder folder' query old new same answered =
-    subst (λ f. Answers readings f query old new) same answered
-
--- the queries that are still answered, and whether all could be read, if those before could
-abbrev pub AnswersMore : Readings → PathValue → Bool → Bool → Served → Served → Type 0
-AnswersMore readings folder before all old new =
-    (queries : List Query) × AnswersEach readings folder queries old new × (all ≡ (before && list_all is_some queries))
+use Rattle.document_index.specs.Answered.{Answers, AnswersAll, AnswersEach, AnswersMore, Begins, Query, Served, Serves}
 
 -- whether all could be read, one by one
 and_assoc : (a b c : Bool) → ((a && b) && c) ≡ (a && (b && c))
 and_assoc true b c = refl
 and_assoc false b c = refl
 
--- no further query
-pub answered_none : (readings : Readings) (folder : PathValue) (all : Bool) (state : Served)
-    → AnswersMore readings folder all all state state
-answered_none readings folder true state = ([], refl, refl)
-answered_none readings folder false state = ([], refl, refl)
+-- nothing more
+and_true : (a : Bool) → a ≡ (a && true)
+and_true true = refl
+and_true false = refl
 
--- a query that was answered before the others
-pub answered_first : (readings : Readings) (folder : PathValue) (query : Query) (before ok now all : Bool)
-    (old between new : Served) → is_some query ≡ ok → Answers readings folder query old between → now ≡ (before && ok)
-    → AnswersMore readings folder now all between new → AnswersMore readings folder before all old new
-answered_first readings folder query before ok now all old between new same first e more = (
-  query ∷ more.0,
-  (between, first, more.1),
-  more.2 ∙ ap (λ b. b && list_all is_some more.0) (e ∙ ap (λ b. before && b) (sym same))
-      ∙ and_assoc before (is_some query) (list_all is_some more.0),
+-- of the first, and of the others
+all_both : (xs ys : List Query) → list_all is_some (xs ++ ys) ≡ (list_all is_some xs && list_all is_some ys)
+all_both [] ys = refl
+all_both (x ∷ xs) ys =
+    ap (λ b. is_some x && b) (all_both xs ys) ∙ sym (and_assoc (is_some x) (list_all is_some xs) (list_all is_some ys))
+
+-- what was taken in comes before the first query
+query_after : (readings : Readings) (query : Query) (old between new : Served) →
+    CatchesUp readings old.index between.index → between.out ≡ old.out → Answers readings query between new →
+    Answers readings query old new
+query_after readings (Some word) old between new caught same answered = (
+  caught_both readings old.index between.index new.index caught answered.0,
+  rw same at answered.1,
+)
+query_after readings None old between new caught same answered = (
+  caught_both readings old.index between.index new.index caught answered.0,
+  rw same at answered.1,
 )
 
--- a query that was answered last
-pub answered_last : (readings : Readings) (folder : PathValue) (query : Query) (before ok now : Bool)
-    (old new : Served) → is_some query ≡ ok → Answers readings folder query old new → now ≡ (before && ok)
-    → AnswersMore readings folder before now old new
-answered_last readings folder query before ok now old new same first e = answered_first readings folder query before ok
-    now now old new new same first e (answered_none readings folder now new)
+-- .. or before none
+each_after : (readings : Readings) (queries : List Query) (old between new : Served) →
+    CatchesUp readings old.index between.index → between.out ≡ old.out → AnswersEach readings queries between new →
+    AnswersEach readings queries old new
+each_after readings [] old between new caught same each =
+    (caught_both readings old.index between.index new.index caught each.0, each.1 ∙ same)
+each_after readings (query ∷ queries) old between new caught same each =
+    (each.0, query_after readings query old between each.0 caught same each.1, each.2)
+
+-- queries after queries
+each_both : (readings : Readings) (queries more : List Query) (old between new : Served) →
+    AnswersEach readings queries old between → AnswersEach readings more between new →
+    AnswersEach readings (queries ++ more) old new
+each_both readings [] more old between new first after =
+    each_after readings more old between new first.0 first.1 after
+each_both readings (query ∷ queries) more old between new first after =
+    (first.0, first.1, each_both readings queries more first.0 between new first.2 after)
+
+-- no query
+pub answered_none : (readings : Readings) (all : Bool) (old new : Served) → CatchesUp readings old.index new.index →
+    new.out ≡ old.out → AnswersMore readings all all old new
+answered_none readings all old new caught same = ([], (caught, same), and_true all)
+
+-- .. and nothing else either
+pub answered_nothing : (readings : Readings) (all : Bool) (state : Served) → AnswersMore readings all all state state
+answered_nothing readings all state =
+    answered_none readings all state state (caught_none readings state.index state.index refl) refl
+
+-- one query
+pub answered_one : (readings : Readings) (query : Query) (before ok now : Bool) (old new : Served) →
+    is_some query ≡ ok → Answers readings query old new → now ≡ (before && ok) →
+    AnswersMore readings before now old new
+answered_one readings query before ok now old new same answered e = (
+  query ∷ [],
+  (new, answered, (caught_none readings new.index new.index refl, refl)),
+  e ∙ ap (λ b. before && b) (sym same ∙ and_true (is_some query)),
+)
+
+-- queries that were answered, and then others
+pub answered_both : (readings : Readings) (before now all : Bool) (old between new : Served) →
+    AnswersMore readings before now old between → AnswersMore readings now all between new →
+    AnswersMore readings before all old new
+answered_both readings before now all old between new first after = (
+  first.0 ++ after.0,
+  each_both readings first.0 after.0 old between new first.1 after.1,
+  after.2 ∙ ap (λ b. b && list_all is_some after.0) first.2
+      ∙ and_assoc before (list_all is_some first.0) (list_all is_some after.0)
+      ∙ ap (λ b. before && b) (sym (all_both first.0 after.0)),
+)
 
 -- without a query of the words, those of the input were answered
-pub served_lines : {E : Type 0} (readings : Readings) (folder folder' : PathValue) (query : Option (List ℕ))
-    (old new : Served) (first : IndexValue) (result : Result Bool E) → query ≡ None → folder' ≡ folder
+pub served_lines : {E : Type 0} (readings : Readings) (folder : PathValue) (query : Option (List ℕ))
+    (old new : Served) (first : IndexValue) (result : Result Bool E) → query ≡ None
     → Begins readings folder old.index first
-    → IfOk result (λ all. AnswersAll readings folder' all (record { index = first; out = old.out }) new)
+    → IfOk result (λ all. AnswersAll readings all (record { index = first; out = old.out }) new)
     → IfOk result (λ all. Serves readings folder query all old new)
-served_lines readings folder folder' query old new first (Ok all) none same begun answered = rw none (
-  first,
-  begun,
-  subst (λ f. AnswersAll readings f all (record { index = first; out = old.out }) new) same answered,
-)
-served_lines readings folder folder' query old new first (Err e) none same begun answered = tt
+served_lines readings folder query old new first (Ok all) none begun answered = rw none (first, begun, answered)
+served_lines readings folder query old new first (Err e) none begun answered = tt
 
 -- the query of the words was answered
 pub served_word : (readings : Readings) (folder : PathValue) (query : Option (List ℕ)) (word : List ℕ)

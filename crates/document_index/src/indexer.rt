@@ -1,19 +1,26 @@
 //! An index that is kept up to date by what is reported.
-ghost use Rattle.std.specs.Prelude.{◌≡◌, ◌<◌, ◌∷◌, [], IfErr, OnOk};
+ghost use Rattle.std.specs.Prelude.{◌≡◌, ◌<◌, [], IfErr, OnOk};
 ghost use Rattle.document_index.specs.Answered.{Begins};
 ghost use Rattle.document_index.specs.Read.{IsReadAmong};
 ghost use Rattle.program_frame.specs.declared.fault.Fault.TheVariants.{Incomplete};
-ghost use Rattle.program_logic.specs.Words.Kept.{CatchesUp, ReadsAnewIf, TakesBatch, TakesEach};
+ghost use Rattle.program_logic.specs.Words.Kept.{CatchesUp};
 
 use crate::NAME;
 use crate::documents::Documents;
-use notify_debouncer_full::{DebounceEventResult, DebouncedEvent, DebouncerRuntime};
+use notify_debouncer_full::{DebounceEventResult, DebouncedEvent, DebouncerRuntime, PathBuf};
 use program_frame::{Fault, write_errors, write_missed, write_watching};
 use program_logic::words::{FollowingIndex, asks_anew};
 use program_reports::FolderReports;
 use std::alloc::Global;
+use std::io;
 use std::io::Write;
 use std::time::Duration;
+
+/// How long it reads before it answers, in milliseconds.
+const ANSWER: u64 = 500;
+
+/// How long it waits for a query, or reads, before it looks whether there is one, in milliseconds.
+const WHILE: u64 = 100;
 
 /// An index of documents, and where what goes wrong with them is said.
 #[derive(Drop)]
@@ -21,6 +28,10 @@ pub(crate) struct Indexer<R: Drop, E: Drop> {
     pub(crate) documents: Documents<R>,
     pub(crate) kept: FollowingIndex,
     pub(crate) err: E,
+    /// It has said that files are too long,
+    has_too_long: bool,
+    /// and that files are no text.
+    has_no_text: bool,
 }
 
 impl<R: DebouncerRuntime + AllocGlobal, E: Write + Drop> Indexer<R, E> {
@@ -32,6 +43,8 @@ impl<R: DebouncerRuntime + AllocGlobal, E: Write + Drop> Indexer<R, E> {
             documents,
             kept: FollowingIndex::new(alloc),
             err,
+            has_too_long: false,
+            has_no_text: false,
         }
     }
 
@@ -44,14 +57,32 @@ impl<R: DebouncerRuntime + AllocGlobal, E: Write + Drop> Indexer<R, E> {
     {
         let _ = write_watching(self.documents.folder.as_str(), NAME, &mut self.err);
         let batch = self.documents.all()?;
-        self.kept.take_batch(&self.documents, batch.as_slice())
+        self.kept.take_batch(&self.documents, batch.as_slice())?;
+        self.say_skipped();
+        Ok(())
+    }
+
+    /// Says how many files are too long to be read, and how many are no text, once each, if any is.
+    fn say_skipped(&mut self)
+        ensures kept { self.new.kept ≡ self.old.kept }
+        ensures same { self.new.documents ≡ self.old.documents }
+    {
+        let (too_long, no_text) = (self.documents.too_long(), self.documents.no_text());
+        if too_long != 0 && !self.has_too_long {
+            self.has_too_long = true;
+            let _ = write_count(too_long, "longer than 16 MB", &mut self.err);
+        }
+        if no_text != 0 && !self.has_no_text {
+            self.has_no_text = true;
+            let _ = write_count(no_text, "no text", &mut self.err);
+        }
     }
 
     /// Takes a report, or prints a line for each error. After an error the watcher looks again, so no change
     /// is lost by one.
-    pub(crate) fn take_report(&mut self, report: &DebounceEventResult) -> Result<(), Fault>
-        ensures taken { OnOk result (TakesEach IsReadAmong self.old.documents.folder
-            (report.now ∷ []) self.old.kept.index self.new.kept.index) }
+    fn take_report(&mut self, report: &DebounceEventResult) -> Result<(), Fault>
+        ensures caught { OnOk result (CatchesUp IsReadAmong self.old.kept.index
+            self.new.kept.index) }
         ensures same { self.new.documents ≡ self.old.documents }
     {
         match report {
@@ -63,46 +94,117 @@ impl<R: DebouncerRuntime + AllocGlobal, E: Write + Drop> Indexer<R, E> {
         }
     }
 
-    /// Takes a batch, and then reads all anew, if it asks for that: the watcher lost events.
+    /// Takes a batch, and has all be read anew, if it asks for that: the watcher lost events.
     fn take_batch(&mut self, batch: &[DebouncedEvent]) -> Result<(), Fault>
-        ensures taken { OnOk result (TakesBatch IsReadAmong self.old.documents.folder batch.now
-            self.old.kept.index self.new.kept.index) }
+        ensures caught { OnOk result (CatchesUp IsReadAmong self.old.kept.index
+            self.new.kept.index) }
         ensures same { self.new.documents ≡ self.old.documents }
     {
-        self.kept.take_batch(&self.documents, batch)?;
-        self.read_anew_if(asks_anew(batch))
-    }
-
-    /// Reads anew, if that is asked for, what the index has and what stands in the folder.
-    fn read_anew_if(&mut self, is_asked: bool) -> Result<(), Fault>
-        ensures anew { OnOk result (ReadsAnewIf is_asked IsReadAmong self.old.documents.folder
-            self.old.kept.index self.new.kept.index) }
-        ensures same { self.new.documents ≡ self.old.documents }
-    {
-        if is_asked {
+        self.kept.follow(&self.documents, batch)?;
+        if asks_anew(batch) {
             let listed = self.documents.all()?;
-            return self.kept.read_anew(&self.documents, listed);
+            self.kept.note_anew(listed.as_slice())?;
         }
         Ok(())
     }
 
-    /// Takes the reports that have come, and reads again what was missing.
+    /// Takes the reports that have come, and reads again what was missing, as far as there is time for it.
     pub(crate) fn catch_up(
         &mut self,
         rt: R,
         reports: &mut FolderReports<'_, R, E>,
     ) -> Result<(), Fault>
-        ensures caught { OnOk result (CatchesUp IsReadAmong self.old.documents.folder
-            self.old.kept.index self.new.kept.index) }
+        ensures caught { OnOk result (CatchesUp IsReadAmong self.old.kept.index
+            self.new.kept.index) }
+        ensures same { self.new.documents.folder ≡ self.old.documents.folder }
+    {
+        self.kept.look_again()?;
+        self.go_on(rt, reports, Duration::from_millis(ANSWER))
+    }
+
+    /// Takes the reports that have come, and reads what is due, while nobody asks.
+    pub(crate) fn go_on_a_while(
+        &mut self,
+        rt: R,
+        reports: &mut FolderReports<'_, R, E>,
+    ) -> Result<(), Fault>
+        ensures caught { OnOk result (CatchesUp IsReadAmong self.old.kept.index
+            self.new.kept.index) }
+        ensures same { self.new.documents.folder ≡ self.old.documents.folder }
+    {
+        self.go_on(rt, reports, Duration::from_millis(WHILE))
+    }
+
+    /// Takes the reports that have come, and reads what is due, for so long at most.
+    fn go_on(
+        &mut self,
+        rt: R,
+        reports: &mut FolderReports<'_, R, E>,
+        time: Duration,
+    ) -> Result<(), Fault>
+        ensures caught { OnOk result (CatchesUp IsReadAmong self.old.kept.index
+            self.new.kept.index) }
+        ensures same { self.new.documents.folder ≡ self.old.documents.folder }
+    {
+        self.documents.read_for(time);
+        self.take_reports(rt, reports)?;
+        self.read_due(rt)?;
+        self.say_skipped();
+        Ok(())
+    }
+
+    /// Takes the reports that have come, as long as there is time.
+    fn take_reports(&mut self, rt: R, reports: &mut FolderReports<'_, R, E>) -> Result<(), Fault>
+        ensures caught { OnOk result (CatchesUp IsReadAmong self.old.kept.index
+            self.new.kept.index) }
         ensures same { self.new.documents ≡ self.old.documents }
     {
         for _ in rt.forever() {
-            match reports.next_within(Duration::from_millis(1)) {
-                Some(report) => self.take_report(&report)?,
-                None => return self.kept.read_again(&self.documents),
+            let Some(report) = reports.next_within(Duration::from_millis(1)) else {
+                return Ok(());
+            };
+            self.take_report(&report)?;
+            if self.documents.is_over() {
+                return Ok(());
             }
         }
         unreachable!()
+    }
+
+    /// Reads what is due, as long as there is time.
+    fn read_due(&mut self, rt: R) -> Result<(), Fault>
+        ensures caught { OnOk result (CatchesUp IsReadAmong self.old.kept.index
+            self.new.kept.index) }
+        ensures same { self.new.documents.folder ≡ self.old.documents.folder }
+    {
+        for _ in rt.forever() {
+            let Some(path) = self.kept.take_due() else {
+                return Ok(());
+            };
+            self.read_part(path)?;
+            if self.documents.is_over() {
+                return Ok(());
+            }
+        }
+        unreachable!()
+    }
+
+    /// Reads what stands at the path, or goes on with it. What isn't read to its end comes first the next time.
+    fn read_part(&mut self, path: PathBuf) -> Result<(), Fault>
+        ensures caught { OnOk result (CatchesUp IsReadAmong self.old.kept.index
+            self.new.kept.index) }
+        ensures same { self.new.documents.folder ≡ self.old.documents.folder }
+    {
+        if !self.documents.prepare(&path)? {
+            self.kept.put_back(path);
+            return Ok(());
+        }
+        self.kept.read_path(&self.documents, &path)
+    }
+
+    /// How long to wait for a query while nothing else is to be done: not at all if something is.
+    pub(crate) fn nap(&self) -> Duration {
+        Duration::from_millis(if self.kept.is_due() { 1 } else { WHILE })
     }
 
     /// Says how many events, errors and batches were lost, if any was: then the index isn't complete.
@@ -117,4 +219,12 @@ impl<R: DebouncerRuntime + AllocGlobal, E: Write + Drop> Indexer<R, E> {
         }
         Ok(())
     }
+}
+
+/// Writes how many files are left out, and why: `NAME: 3 files are no text, and are left out`.
+fn write_count<E: Write>(files: u64, reason: &str, err: &mut E) -> io::Result<()> {
+    if files == 1 {
+        return writeln!(err, "{NAME}: 1 file is {reason}, and is left out");
+    }
+    writeln!(err, "{NAME}: {files} files are {reason}, and are left out")
 }

@@ -9,6 +9,7 @@ ghost use Rattle.document_index.specs.Read.{IsReadAmong};
 
 mod documents;
 mod indexer;
+mod queries;
 mod service;
 
 use clap::{ArgMatches, Command};
@@ -20,6 +21,7 @@ use program_frame::{
     run_with_words,
 };
 use program_reports::FolderReports;
+use queries::Queries;
 use service::Service;
 use std::alloc::{AllocError, Global};
 use std::io::Write;
@@ -31,13 +33,17 @@ const NAME: &str = "document_index";
 /// What the program does, for its help.
 const ABOUT: &str = "Says which files below a folder have a word.";
 
+/// What memory it takes, for its help.
+const MEMORY: &str =
+    "Memory: the words of each file, some 200 bytes for each path, and the file that is read, of at most 16 MB.";
+
 /// The command line.
 fn command_line<'a>(alloc: Global, name: &'a str) -> Result<Command<'a>, AllocError> {
     let folder = PlaceWord {
         name: "DIR",
         help: "the folder whose files are indexed, with all below it",
     };
-    let line = command(alloc, name, ABOUT, folder)?;
+    let line = command(alloc, name, ABOUT, folder)?.after_help(MEMORY);
     line.arg(option(alloc, "query", "WORD").help("print the files that have the word, and end"))
 }
 
@@ -48,6 +54,7 @@ fn answer<R: DebouncerRuntime + AllocGlobal + Input, O: Write + Drop, E: Write +
     matches: &ArgMatches<'_>,
     service: &mut Service<R, O, E>,
     reports: &mut FolderReports<'_, R, E>,
+    queries: Option<&Queries>,
 ) -> Result<bool, Fault>
     ensures served { IfOk result (λ all. Serves IsReadAmong
         service.old.indexer.documents.folder
@@ -61,7 +68,18 @@ fn answer<R: DebouncerRuntime + AllocGlobal + Input, O: Write + Drop, E: Write +
             service.answer(word)?;
             Ok(true)
         }
-        None => service.answer_lines(rt, reports),
+        None => service.serve(rt, reports, queries),
+    }
+}
+
+/// The queries that come by an input to wait for, if the words have none.
+fn queries_of<R: DebouncerRuntime + AllocGlobal>(
+    rt: R,
+    matches: &ArgMatches<'_>,
+) -> Result<Option<Queries>, Fault> {
+    match matches.get_str("query") {
+        Some(_) => Ok(None),
+        None => Queries::start(rt, rt.alloc()),
     }
 }
 
@@ -82,7 +100,8 @@ fn serve<R: DebouncerRuntime + AllocGlobal + Input, O: Write + Drop, E: Write + 
     // The folder is watched first, so that no change after the first look is missed.
     let (mode, pace) = (RecursiveMode::Recursive, pace_of(matches));
     let mut reports = FolderReports::start(rt, folder, mode, pace, complaints)?;
-    let all = answer(rt, matches, service, &mut reports)?;
+    let queries = queries_of(rt, matches)?;
+    let all = answer(rt, matches, service, &mut reports, queries.as_ref())?;
     service.indexer.end(reports.finish()?.missed)?;
     if all { Ok(()) } else { Err(Fault::Incomplete) }
 }

@@ -1,5 +1,5 @@
 pub mod Nothing
 pub mod IndexLaw
 pub mod WordLemmas
-pub mod Again
 pub mod Anew
+pub mod Catching

@@ -13,7 +13,8 @@
 //! ```
 ghost use Rattle.std.specs.Prelude.{◌≡◌, Some, IfOk, OnOk};
 ghost use Rattle.std.specs.String.{string_bytes};
-ghost use Rattle.program_logic.specs.Words.{has_word, is_unchanged, no_words, with_word, words_of};
+ghost use Rattle.program_logic.specs.Words.{has_word, is_unchanged, no_words, with_folded, with_word, words_of};
+ghost use Rattle.unicode_segmentation.specs.Word.{words};
 
 mod answer;
 mod before;
@@ -109,13 +110,23 @@ impl<A: Allocator + Copy> Words<A> {
     }
 }
 
+impl Words {
+    /// Puts in the words of the text, as Unicode cuts them, each with its case folded.
+    pub fn add(&mut self, alloc: Global, text: &str) -> Result<(), AllocError>
+        ensures { OnOk result (self.new ≡ with_folded self.old (words text.now)) }
+    {
+        for word in text.unicode_words() {
+            self.insert(default_case_fold_str(alloc, word)?)?;
+        }
+        Ok(())
+    }
+}
+
 /// Returns the words of the text, as Unicode cuts them, each with its case folded.
 pub fn words_of(alloc: Global, text: &str) -> Result<Words, AllocError>
     ensures { IfOk result (λ words. words ≡ words_of text.now) }
 {
     let mut words = Words::new(alloc);
-    for word in text.unicode_words() {
-        words.insert(default_case_fold_str(alloc, word)?)?;
-    }
+    words.add(alloc, text)?;
     Ok(words)
 }

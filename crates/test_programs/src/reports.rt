@@ -280,6 +280,16 @@ fn answers<R: Abort + AllocGlobal>(rt: &R, kept: &FollowingIndex, word: &str, wa
     assert_eq!(rt; text(rt, &out), wanted);
 }
 
+/// Reads what is due.
+fn read_due<R: Abort + AllocGlobal>(rt: &R, documents: &Texts, kept: &mut FollowingIndex) {
+    for _ in 0..10 {
+        if let Some(path) = kept.take_due() {
+            assert!(rt; kept.read_path(documents, &path).is_ok());
+        }
+    }
+    assert!(rt; !kept.is_due());
+}
+
 #[test]
 fn an_index_is_that_of_what_stands_there_after_a_request_to_read_anew(rt: HostRuntime) {
     let alloc = rt.alloc();
@@ -301,7 +311,10 @@ fn an_index_is_that_of_what_stands_there_after_a_request_to_read_anew(rt: HostRu
     let mut request = Vec::new(alloc);
     request.push(event(&rt, "rescan")).expect(&rt, "memory");
     assert!(rt; asks_anew(request.as_slice()));
-    assert!(rt; kept.read_anew(&after, listed).is_ok());
+    assert!(rt; kept.note_anew(listed.as_slice()).is_ok());
+    // Until it is read, it is as it was.
+    answers(&rt, &kept, "one", "/w/a\n");
+    read_due(&rt, &after, &mut kept);
     answers(&rt, &kept, "one", "/w/c\n");
     answers(&rt, &kept, "two", "");
     answers(&rt, &kept, "three", "/w/b\n");

@@ -14,7 +14,7 @@ returns-in_ok-answer-in-Some g c = record {
 
 pub returns-in-None : goal.returns-in-None
 returns-in-None g c = record {
-  served = served_lines IsReadAmong c.args.service.now.indexer.documents.folder _ _ _ _ c.begin.new.self.kept.index
-      c.answer_lines.result (sym c.get_str.ensures ∙ ap (option_map (λ s. s.now)) c.in-None.is)
-      (ap (λ d. d.folder) c.begin.ensures.same) c.in_ok-begin.ensures.begun c.answer_lines.ensures.answered;
+  served = served_lines IsReadAmong c.args.service.now.indexer.documents.folder _ _ _ c.begin.new.self.kept.index
+      c.serve.result (sym c.get_str.ensures ∙ ap (option_map (λ s. s.now)) c.in-None.is)
+      c.in_ok-begin.ensures.begun c.serve.ensures.answered;
 }

@@ -1,14 +1,12 @@
 -- An index that follows what is reported: what batches and looks make of it.
-use Rattle.std.specs.Prelude.{◌≡◌, Bool, true, false, List, [], ◌∷◌, ◌++◌, None, Ok, Err, is_some, map}
+use Rattle.std.specs.Prelude.{◌≡◌, ◌||◌, Bool, true, false, List, [], ◌∷◌, ◌++◌, None, is_some, map}
 use Rattle.std.specs.List.{list_any}
 use Rattle.std.specs.Map.{keys_of}
-use Rattle.std.specs.declared.alloc.Global.{Global}
 use Rattle.notify_paths.specs.Path.{PathValue}
 use Rattle.notify_types.specs.Event.{EventValue, Timed}
-use Rattle.notify_watch.specs.Handler.{Outcome}
+use Rattle.notify_types.specs.Kinds.{is_removal, is_rename}
 use Rattle.debounce_model.specs.Play.{Paths, events_of}
-use Rattle.poll_listing.specs.Listing.{ListingValue}
-use Rattle.reader_paths.specs.Plan.Naming.{naming, namings}
+use Rattle.reader_paths.specs.Plan.Naming.{naming}
 use Rattle.reader_paths.specs.Plan.{is_named, wanted}
 use Rattle.program_logic.specs.Words.Index.{Documents, IndexValue, IsExact, IsIndexAfter, StaysExact, read_at}
 
@@ -45,31 +43,17 @@ anew index listed = events_of (map naming (keys_of index) ++ listed)
 abbrev pub asks_anew : List Timed → Bool
 asks_anew batch = list_any (λ x. is_some x.event.attrs.flag) batch
 
--- if that is asked for, what the index had and what a listing of the folder names was read anew
-abbrev pub ReadsAnewIf : Bool → Readings → PathValue → IndexValue → IndexValue → Type 0
-ReadsAnewIf false readings folder old new = new ≡ old
-ReadsAnewIf true readings folder old new =
-    (listing : ListingValue) × TakesAnew readings (anew old (namings folder listing)) old new
+-- the event is a removal, or a part of a rename or a move: taken at once, since it needs no reading, or what the index
+-- has of another path
+abbrev pub is_prompt : Timed → Bool
+is_prompt x = is_removal x.event.kind || (is_rename x.event.kind || is_some x.event.attrs.tracker)
 
--- the batch was taken, and then all was read anew, if an event of it asks for that
-abbrev pub TakesBatch : Readings → PathValue → List Timed → IndexValue → IndexValue → Type 0
-TakesBatch readings folder batch old new = (between : IndexValue) × Takes readings (events_of batch) old between
-    × ReadsAnewIf (asks_anew batch) readings folder between new
+-- these parts of what was reported were taken, one after the other
+abbrev pub TakesEach : Readings → List (List EventValue) → IndexValue → IndexValue → Type 0
+TakesEach readings [] old new = new ≡ old
+TakesEach readings (events ∷ more) old new =
+    (next : IndexValue) × Takes readings events old next × TakesEach readings more next new
 
--- each batch of the reports was taken, in order; errors change nothing
-abbrev pub TakesEach : Readings → PathValue → List (Outcome Global) → IndexValue → IndexValue → Type 0
-TakesEach readings folder [] old new = new ≡ old
-TakesEach readings folder (Ok batch ∷ reports) old new = (next : IndexValue)
-    × TakesBatch readings folder batch.items old next × TakesEach readings folder reports next new
-TakesEach readings folder (Err errors ∷ reports) old new = TakesEach readings folder reports old new
-
--- these paths were read again, unless there are none
-abbrev pub ReadsAgain : Readings → Paths → IndexValue → IndexValue → Type 0
-ReadsAgain readings [] old new = new ≡ old
-ReadsAgain readings (path ∷ paths) old new = Takes readings (events_of (map naming (path ∷ paths))) old new
-
--- what was reported was taken, and what was missing then was read again
-abbrev pub CatchesUp : Readings → PathValue → IndexValue → IndexValue → Type 0
-CatchesUp readings folder old new =
-    (reports : List (Outcome Global)) × (between : IndexValue) × (missing : Paths)
-    × TakesEach readings folder reports old between × ReadsAgain readings missing between new
+-- some parts of what was reported were taken: what needs no reading at once, and of the rest a path at a time
+abbrev pub CatchesUp : Readings → IndexValue → IndexValue → Type 0
+CatchesUp readings old new = (parts : List (List EventValue)) × TakesEach readings parts old new

@@ -1,15 +1,15 @@
 //! The index.
-ghost use Rattle.std.specs.Prelude.{◌≡◌, [], filter, map, option_map, IfOk, OnOk};
+ghost use Rattle.std.specs.Prelude.{◌≡◌, ◌==◌, [], filter, length, map, not, option_map, IfOk, OnOk};
 ghost use Rattle.std.specs.Map.{keys_of};
 ghost use Rattle.std.specs.List.Sorted.{IsStrictlySortedBy};
-ghost use Rattle.notify_paths.specs.Path.{is_prefix, path_cmp};
+ghost use Rattle.notify_paths.specs.Path.{is_below, is_prefix, path_cmp};
 ghost use Rattle.debounce_model.specs.Play.{events_of};
 ghost use Rattle.reader_paths.specs.Plan.Naming.{naming};
 ghost use Rattle.reader_paths.specs.Plan.{look_at, stands};
 ghost use Rattle.program_logic.specs.Words.Index.{IsIndexAfter, StaysExact, documents_with, put_if, put_wanted, without_gone, without_document};
 
 use crate::words::Words;
-use notify_paths::{PathBuf, drop_at_or_below};
+use notify_paths::{PathBuf, count_below, drop_at_or_below};
 use notify_types::DebouncedEvent;
 use reader_paths::plan::{gone_at, name_path, wanted};
 use std::alloc::{AllocError, Allocator, Global};
@@ -64,6 +64,13 @@ impl<A: Allocator + Copy> DocumentIndex<A> {
             }
         }
         Ok(paths)
+    }
+
+    /// Returns whether something of the index lies below the path. It looks at that alone.
+    pub fn has_below(&self, path: &PathBuf<A>) -> bool
+        ensures { result ≡ not (length (filter (λ e. is_below e.0 path.now) self.now) == 0) }
+    {
+        count_below(&self.documents, path) != 0
     }
 
     /// Returns the paths of the index that lie at this one or below it, in their order.

@@ -1,9 +1,10 @@
 //! An index that follows what is reported.
-ghost use Rattle.std.specs.Prelude.{◌≡◌, [], IfErr, IfOk, OnOk};
+ghost use Rattle.std.specs.Prelude.{◌≡◌, ◌||◌, ◌++◌, [], ◌∷◌, filter, IfErr, IfOk, OnOk};
 ghost use Rattle.std.specs.Map.{keys_of};
 ghost use Rattle.debounce_model.specs.Play.{events_of};
 ghost use Rattle.program_frame.specs.declared.fault.Fault.TheVariants.{Memory};
-ghost use Rattle.program_logic.specs.Words.Kept.{ReadsAgain, Takes, TakesAnew, anew, asks_anew};
+ghost use Rattle.reader_paths.specs.Plan.Naming.{naming};
+ghost use Rattle.program_logic.specs.Words.Kept.{Takes, TakesAnew, anew, asks_anew, is_prompt};
 
 use crate::words::Words;
 use crate::words::before::Before;
@@ -12,8 +13,8 @@ use crate::words::missing::{Missing, Reading};
 use notify_paths::PathBuf;
 use notify_types::DebouncedEvent;
 use program_frame::Fault;
-use reader_paths::plan::wanted;
-use std::alloc::Global;
+use reader_paths::plan::{name_path, wanted};
+use std::alloc::{AllocError, Global};
 use std::collections::BTreeMap;
 
 /// Whether an event of the batch asks to read all anew, since the watcher lost some.
@@ -46,13 +47,43 @@ pub trait ReadsDocuments {
     fn is_missing(&self, path: &PathBuf) -> bool;
 }
 
-/// An index of documents that follows batches. What was reported and isn't there yet is read again.
+/// An index of documents that follows batches. What was reported and isn't read, or isn't there yet, is read later.
 #[derive(Drop)]
 pub struct FollowingIndex {
     alloc: Global,
     /// The index.
     pub index: DocumentIndex,
     missing: Missing,
+}
+
+/// Whether the event is taken at once: a removal, or a part of a rename or of a move.
+fn is_prompt(event: &DebouncedEvent) -> bool
+    ensures { result ≡ is_prompt event.now }
+{
+    event.kind().is_removal() || event.kind().is_rename() || event.event.tracker().is_some()
+}
+
+/// Copies of the events of the batch that are taken at once.
+fn prompt_events(alloc: Global, batch: &[DebouncedEvent]) -> Result<Vec<DebouncedEvent>, AllocError>
+    ensures { IfOk result (λ events. events.items ≡ filter is_prompt batch.now) }
+{
+    let mut events = Vec::new(alloc);
+    for event in batch {
+        if is_prompt(event) {
+            push_copy(&mut events, event)?;
+        }
+    }
+    Ok(events)
+}
+
+/// Appends a copy of the event.
+fn push_copy(events: &mut Vec<DebouncedEvent>, event: &DebouncedEvent) -> Result<(), AllocError>
+    ensures { OnOk result (events.new.items ≡ events.old.items ++ event.now ∷ []) }
+{
+    match event.try_clone() {
+        Ok(event) => Ok(events.push(event)?),
+        Err(_) => Err(AllocError),
+    }
 }
 
 impl FollowingIndex {
@@ -68,7 +99,7 @@ impl FollowingIndex {
     }
 
     /// Brings the index up to date at the paths of the batch. A removal only removes, and what isn't there yet is
-    /// read later, by `read_again`. The error is `Memory`: then the index may have a part of what was read.
+    /// read later, by `read_path`. The error is `Memory`: then the index may have a part of what was read.
     pub fn take_batch<D: ReadsDocuments>(
         &mut self,
         documents: &D,
@@ -121,16 +152,74 @@ impl FollowingIndex {
         self.take_batch(documents, batch.as_slice())
     }
 
-    /// Reads again what was missing. An error is as that of `take_batch`.
-    pub fn read_again<D: ReadsDocuments>(&mut self, documents: &D) -> Result<(), Fault>
-        ensures again { OnOk result (ReadsAgain (D.reads documents.now)
-            (keys_of self.old.missing.paths.entries) self.old.index self.new.index) }
+    /// Takes at once what the batch tells of removals, renames and moves, and notes what else it wants as due, for
+    /// `read_path`. An error is as that of `take_batch`.
+    pub fn follow<D: ReadsDocuments>(
+        &mut self,
+        documents: &D,
+        batch: &[DebouncedEvent],
+    ) -> Result<(), Fault>
+        ensures taken { OnOk result (Takes (D.reads documents.now)
+            (events_of (filter is_prompt batch.now)) self.old.index self.new.index) }
         ensures err { IfErr result (λ e. e ≡ Memory) }
     {
-        if self.missing.is_empty() {
-            return Ok(());
-        }
-        let batch = self.missing.batch()?;
+        let prompt = prompt_events(self.alloc, batch)?;
+        self.take_batch(documents, prompt.as_slice())?;
+        let done = wanted(self.alloc, prompt.as_slice())?;
+        Ok(self.missing.postpone(&wanted(self.alloc, batch)?, &done)?)
+    }
+
+    /// Notes as due what the index has, and what is listed: so, once nothing is due, it is the index of what stands
+    /// there, whatever was never reported. An error is as that of `take_batch`.
+    pub fn note_anew(&mut self, listed: &[DebouncedEvent]) -> Result<(), Fault>
+        ensures same { self.new.index ≡ self.old.index }
+        ensures err { IfErr result (λ e. e ≡ Memory) }
+    {
+        let known = self.index.named()?;
+        self.missing.postpone_all(known.as_slice())?;
+        Ok(self.missing.postpone_all(listed)?)
+    }
+
+    /// Takes out the next path that is due, to be read by `read_path`. Each is read once before any is read again,
+    /// however often it is reported.
+    pub fn take_due(&mut self) -> Option<PathBuf>
+        ensures same { self.new.index ≡ self.old.index }
+    {
+        self.missing.take_next()
+    }
+
+    /// Puts back the path that was taken out: it is the next one.
+    pub fn put_back(&mut self, path: PathBuf)
+        ensures same { self.new.index ≡ self.old.index }
+    {
+        self.missing.put_back(path);
+    }
+
+    /// Reads what stands at the path. An error is as that of `take_batch`.
+    pub fn read_path<D: ReadsDocuments>(
+        &mut self,
+        documents: &D,
+        path: &PathBuf,
+    ) -> Result<(), Fault>
+        ensures read { OnOk result (Takes (D.reads documents.now)
+            (events_of (naming path.now ∷ [])) self.old.index self.new.index) }
+        ensures err { IfErr result (λ e. e ≡ Memory) }
+    {
+        let mut batch = Vec::new(self.alloc);
+        name_path(&mut batch, path)?;
         self.take_batch(documents, batch.as_slice())
+    }
+
+    /// What was missing is due again. An error is as that of `take_batch`.
+    pub fn look_again(&mut self) -> Result<(), Fault>
+        ensures same { self.new.index ≡ self.old.index }
+        ensures err { IfErr result (λ e. e ≡ Memory) }
+    {
+        Ok(self.missing.look_again()?)
+    }
+
+    /// Whether a path is due.
+    pub fn is_due(&self) -> bool {
+        self.missing.is_due()
     }
 }

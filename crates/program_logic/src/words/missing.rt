@@ -1,16 +1,12 @@
-//! What was reported and isn't there yet.
-ghost use Rattle.std.specs.Prelude.{◌≡◌, ◌==◌, length, map, IfOk};
-ghost use Rattle.std.specs.Map.{keys_of};
-ghost use Rattle.reader_paths.specs.Plan.Naming.{naming};
-
+//! What was reported and isn't read, or isn't there yet.
 use crate::words::Words;
 use crate::words::index::DocumentIndex;
 use crate::words::kept::ReadsDocuments;
 use notify_paths::{PathBuf, drop_at_or_below};
 use notify_types::DebouncedEvent;
-use reader_paths::plan::name_path;
 use std::alloc::{AllocError, Global};
 use std::collections::BTreeMap;
+use std::mem;
 
 /// What was read of documents at some paths.
 #[derive(Clone, Copy)]
@@ -23,11 +19,16 @@ pub(crate) struct Reading<'a, D> {
     pub(crate) read: &'a BTreeMap<PathBuf, Words>,
 }
 
-/// Paths that were reported and not removed, at which nothing stood when they were to be read.
+/// Paths that were reported and not removed, and aren't read: at which nothing stood when they were to be read, which are
+/// to be read, and which are to be read after these.
 #[derive(Drop)]
 pub(crate) struct Missing {
     alloc: Global,
     paths: BTreeMap<PathBuf, ()>,
+    /// What was taken out, and put back.
+    first: Option<PathBuf>,
+    due: BTreeMap<PathBuf, ()>,
+    later: BTreeMap<PathBuf, ()>,
 }
 
 impl Missing {
@@ -36,26 +37,64 @@ impl Missing {
         Missing {
             alloc,
             paths: BTreeMap::new(alloc),
+            first: None,
+            due: BTreeMap::new(alloc),
+            later: BTreeMap::new(alloc),
         }
     }
 
-    /// Whether nothing is.
-    pub(crate) fn is_empty(&self) -> bool
-        ensures { result ≡ (length self.now.paths.entries == 0) }
-    {
-        self.paths.len() == 0
+    /// Whether a path is to be read.
+    pub(crate) fn is_due(&self) -> bool {
+        self.first.is_some() || !self.due.is_empty() || !self.later.is_empty()
     }
 
-    /// A batch that names each of the paths, in their order.
-    pub(crate) fn batch(&self) -> Result<Vec<DebouncedEvent>, AllocError>
-        ensures { IfOk result (λ batch. batch.items
-            ≡ map naming (keys_of self.now.paths.entries)) }
-    {
-        let mut batch = Vec::new(self.alloc);
+    /// Takes out the next path that is to be read.
+    pub(crate) fn take_next(&mut self) -> Option<PathBuf> {
+        if let Some(path) = self.first.take() {
+            return Some(path);
+        }
+        if self.due.is_empty() {
+            mem::swap(&mut self.due, &mut self.later);
+        }
+        let (path, ()) = self.due.pop_first()?;
+        Some(path)
+    }
+
+    /// Puts back what was taken out.
+    pub(crate) fn put_back(&mut self, path: PathBuf) {
+        self.first = Some(path);
+    }
+
+    /// These paths are to be read, but for what was done.
+    pub(crate) fn postpone(
+        &mut self,
+        paths: &BTreeMap<PathBuf, ()>,
+        done: &BTreeMap<PathBuf, ()>,
+    ) -> Result<(), AllocError> {
+        for path in paths.keys() {
+            if !done.contains_key(path) {
+                self.later.insert(path.clone()?, ())?;
+            }
+        }
+        Ok(())
+    }
+
+    /// What the events name first is to be read.
+    pub(crate) fn postpone_all(&mut self, events: &[DebouncedEvent]) -> Result<(), AllocError> {
+        for event in events {
+            if let Some(path) = event.first_path() {
+                self.later.insert(path.clone()?, ())?;
+            }
+        }
+        Ok(())
+    }
+
+    /// What isn't there yet is to be read.
+    pub(crate) fn look_again(&mut self) -> Result<(), AllocError> {
         for path in self.paths.keys() {
-            name_path(&mut batch, path)?;
+            self.later.insert(path.clone()?, ())?;
         }
-        Ok(batch)
+        Ok(())
     }
 
     /// Notes at which of the paths that the batch wants nothing stands, and what else the index forgets with them.
@@ -89,6 +128,9 @@ impl Missing {
 
     /// Notes what the index has of the path and below it.
     fn note_below(&mut self, index: &DocumentIndex, path: &PathBuf) -> Result<(), AllocError> {
+        if !index.has_below(path) {
+            return Ok(());
+        }
         for path in index.at_or_below(path)? {
             self.paths.insert(path, ())?;
         }
@@ -102,6 +144,8 @@ impl Missing {
         {
             let mut spare = PathBuf::empty(self.alloc);
             drop_at_or_below(&mut self.paths, path, &mut spare);
+            drop_at_or_below(&mut self.due, path, &mut spare);
+            drop_at_or_below(&mut self.later, path, &mut spare);
         }
     }
 
@@ -117,8 +161,10 @@ impl Missing {
         Ok(())
     }
 
-    /// Notes whether the path is missing.
+    /// Notes whether the path, which was to be read, is missing.
     fn note_one(&mut self, path: &PathBuf, is_missing: bool) -> Result<(), AllocError> {
+        self.due.remove(path);
+        self.later.remove(path);
         if is_missing {
             self.paths.insert(path.clone()?, ())?;
         } else {

@@ -156,6 +156,14 @@ impl<'n, R: DebouncerRuntime + AllocGlobal, E: Write + Drop> FolderReports<'n, R
         self.waiting.next_within(pause)
     }
 
+    /// Returns whether the program's life is over, or the clock can't be read, or no more can come.
+    pub fn is_over(&self) -> bool
+        ensures { result ≡ true → (self.now.awaited.has_end ≡ true)
+            ⊎ (self.now.awaited.queue.is_open ≡ false) }
+    {
+        self.waiting.is_over()
+    }
+
     /// Returns what waits for these reports, as `program_frame::reports::hand_on` takes it, and what is watched, which ends with it.
     pub fn apart(self) -> (ReportWait<R>, FolderWatch<'n, R, E>)
         ensures tied { IsTied result.1.debouncer.began result.0.queue }

@@ -120,7 +120,7 @@ impl<R: Wait + Clock + Copy + Drop> ReportWait<R> {
     }
 
     /// Returns whether the life is over, or the clock can't be read, or no more can come.
-    fn is_over(&self) -> bool
+    pub(crate) fn is_over(&self) -> bool
         ensures { result ≡ true → (self.now.has_end ≡ true) ⊎ (self.now.queue.is_open ≡ false) }
     {
         if self.input.has_come() || !self.queue.is_open() {

@@ -1,11 +1,11 @@
-use Rattle.std.proofs.Common.{refl}
-use Rattle.std.proofs.lemmas.Result.{on_ok_weaker}
+use Rattle.std.proofs.Common.{ap}
 use Rattle.document_index.proofs.indexer.Indexer.begin.Goals as goal
 
 pub returns : goal.returns
 returns g c = record {
-  begun = on_ok_weaker c.take_batch.result
-      (λ taken. (c.in_ok-batch.ensures.0, rw (c.as_slice.ensures.value, c.in_ok-batch.ensures.1) at taken))
-      c.take_batch.ensures.taken;
-  same = refl;
+  begun = rw (ap (λ k. k.index) c.say_skipped.ensures.kept) (
+    c.in_ok-batch.ensures.0,
+    rw (c.as_slice.ensures.value, c.in_ok-batch.ensures.1) at c.in_ok-take_batch.ensures.taken,
+  );
+  same = c.say_skipped.ensures.same;
 }

@@ -1,4 +1,3 @@
-use Rattle.std.proofs.Common.{◌∙◌, ap}
 use Rattle.std.proofs.KnownBytes.{Appends-trans}
 use Rattle.std.proofs.lemmas.Result.{on_ok_weaker}
 use Rattle.document_index.proofs.service.Service.answer_line.Goals as goal
@@ -9,5 +8,4 @@ returns g c = record {
       (λ last. rw c.answer.ensures.unchanged
       (c.in_ok-catch_up.ensures.caught, Appends-trans _ _ _ _ _ c.in_ok-answer.ensures.written last))
       c.write_now.ensures.written;
-  same = ap (λ i. i.documents) c.answer.ensures.unchanged ∙ c.catch_up.ensures.same;
 }

@@ -1,8 +1,0 @@
-use Rattle.std.proofs.Common.{◌≡◌, ◌++◌, map}
-use Rattle.std.specs.Map.{keys_of}
-use Rattle.reader_paths.specs.Plan.Naming.{naming}
-use Rattle.program_logic.proofs.words.missing.Missing.batch.Given as goal
-
--- the events so far, and those of the paths that are left, are those of all
-abbrev pub invariant-loop-path : goal.invariant-loop-path
-invariant-loop-path l = l.batch.items ++ map naming l.path-iterator ≡ map naming (keys_of l.self.paths.entries)

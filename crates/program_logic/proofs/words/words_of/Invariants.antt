@@ -1,9 +1,0 @@
-use Rattle.std.proofs.Common.{◌≡◌}
-use Rattle.unicode_segmentation.specs.Iter.{unicode_words_left}
-use Rattle.unicode_segmentation.specs.Word.{words}
-use Rattle.program_logic.specs.Words.{no_words, with_folded}
-use Rattle.program_logic.proofs.words.words_of.Given as goal
-
--- the words so far, with those that are left, are the text's
-abbrev pub invariant-loop-word : goal.invariant-loop-word
-invariant-loop-word l = with_folded l.words (unicode_words_left l.word-iterator) ≡ with_folded no_words (words l.text)
