@@ -3,7 +3,7 @@ ghost use Rattle.std.specs.Prelude.{◌≡◌, ◌+◌, ◌-◌, ◌^◌, [], le
 ghost use Rattle.notify_paths.specs.Errors.{out_of_memory};
 ghost use Rattle.notify_watch.specs.declared.config.WatcherKind.TheVariants as watcher_kind;
 ghost use Rattle.poll_watcher.specs.Roots.Deep.{too_deep};
-ghost use Rattle.poll_watcher.specs.Roots.Polled.{IsThere, IsUnwatchError, ListsOrRefuses, WatchesOrRefuses};
+ghost use Rattle.poll_watcher.specs.Roots.Polled.{IsThere, IsUnwatchError, IsWatchError, ListsOrRefuses, WatchesOrRefuses};
 ghost use Rattle.poll_listing.specs.Listing.{IsListing};
 ghost use Rattle.poll_watcher.specs.Work.{EndsPolling, FindsTree, IsUnbegun, Works, WorksLast, exchanged, last_of};
 
@@ -20,6 +20,7 @@ use notify_paths::{Error, ErrorKind, PathBuf};
 use notify_types::{Event, RecursiveMode};
 use notify_watch::{Config, EventHandler, ListingWatcher, Task, Watcher, WatcherKind};
 use poll_listing::Listing;
+use poll_rounds::{Closed, NotesClosed};
 use std::alloc::{Allocator, Global};
 use std::fs::Files;
 use std::io;
@@ -382,6 +383,21 @@ impl<F: Drop, R: Wait + Drop, A: Allocator, D: Drop> RoundTask<F, R, A, D> {
     }
 }
 
+/// Why a path can't be watched of which the first listing noted these. If the look at it failed, which is the first that
+/// is noted then, that is why, and not that nothing stands there; but what permission closes counts as missing.
+fn refusal_of<A: Allocator + Copy>(error: Error<A>, closed: &[Closed<A>]) -> Error<A>
+    requires { IsWatchError error }
+    ensures { IsWatchError result }
+{
+    match (&error.kind, closed) {
+        (ErrorKind::PathNotFound, [(_path, cause), ..])
+            if *cause != io::ErrorKind::PermissionDenied => {
+            Error::new(*error.paths.allocator(), ErrorKind::Io(*cause))
+        }
+        _ => error,
+    }
+}
+
 /// One round over the thread's own listing, if it has one. The watcher's lock is held.
 fn held_round<F: EventHandler<Result<Event<A>, Error<A>>>, A: Allocator + Copy, D: RoundFolders<A>>(
     watched: &mut Watched<A>,
@@ -558,36 +574,42 @@ impl<R: Clock + Wait + Files + Alloc + Copy + Drop, A: Allocator + Copy> PollWat
     fn watch_silently(&self, path: &PathBuf<A>, mode: RecursiveMode) -> Result<(), Error<A>>
         ensures { WatchesOrRefuses (path.now, mode) result }
     {
-        let mut folders = self.folders();
+        let mut folders = self.kept_folders();
         let mut watched = self.shared.watched.lock(&self.rt);
         self.follow_root(&mut watched, path)?;
         folders.follow(&mut watched.followed);
         let done = watched.polled.watch(&mut folders, path, mode);
         folders.follow(&mut watched.followed);
         watched.unfollow(path);
-        if done.is_ok() {
-            self.leave_out(&mut watched, &folders);
-            self.count_deep(&mut watched);
+        match done {
+            Ok(()) => {
+                self.leave_out(&mut watched, &folders);
+                self.count_deep(&mut watched);
+                Ok(())
+            }
+            Err(error) => Err(refusal_of(error, folders.closed())),
         }
-        done
     }
 
     /// Watches a path, takes what stands there as known, and lists it.
     fn list_silently(&self, path: &PathBuf<A>, mode: RecursiveMode) -> Result<Listing<A>, Error<A>>
         ensures { ListsOrRefuses (path.now, mode) result }
     {
-        let mut folders = self.folders();
+        let mut folders = self.kept_folders();
         let mut watched = self.shared.watched.lock(&self.rt);
         self.follow_root(&mut watched, path)?;
         folders.follow(&mut watched.followed);
         let listed = watched.polled.watch_listed(&mut folders, path, mode);
         folders.follow(&mut watched.followed);
         watched.unfollow(path);
-        if listed.is_ok() {
-            self.leave_out(&mut watched, &folders);
-            self.count_deep(&mut watched);
+        match listed {
+            Ok(listing) => {
+                self.leave_out(&mut watched, &folders);
+                self.count_deep(&mut watched);
+                Ok(listing)
+            }
+            Err(error) => Err(refusal_of(error, folders.closed())),
         }
-        listed
     }
 
     /// Watches a path no longer, and forgets what it showed.
@@ -730,8 +752,8 @@ impl<R: Wait + Copy + Drop, A: Allocator + Copy> PollWatcher<R, A> {
         folders
     }
 
-    /// The folders that the rounds look at. A path's first listing has nothing to keep: there what permission closes
-    /// counts as missing, and the first round says that it is closed.
+    /// The folders that rounds look at, and first listings. A first listing has nothing to keep: what can't be looked
+    /// at counts as missing there, and the first round says that it is closed, and why.
     fn kept_folders(&self) -> RealFolders<R, A>
         ensures { result.numbers ≡ self.now.config.moves }
     {
