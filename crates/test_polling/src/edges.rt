@@ -6,3 +6,5 @@
 mod disks;
 #[cfg(test)]
 mod folders;
+#[cfg(test)]
+mod times;

@@ -1,5 +1,5 @@
 //! When files were modified, as far as it can be relied on.
-ghost use Rattle.std.specs.Prelude.{◌≡◌, ◌↔◌, ◌+◌, ◌-◌, ◌^◌, min, true, Some, None};
+ghost use Rattle.std.specs.Prelude.{◌≡◌, ◌↔◌, ◌+◌, ◌-◌, ◌^◌, min, true};
 ghost use Rattle.poll_watcher.specs.Entries.Times.{IsAhead, IsOld};
 
 use std::fs::Metadata;
@@ -16,20 +16,35 @@ const STEP: u64 = 11_000_000;
 /// How much longer a wait is, in nanoseconds: the clock may be slowed while it lasts, and a sleep isn't.
 const SLACK: u64 = 100_000;
 
+/// How long after a wait it waits again, in nanoseconds, if no round begins: a second.
+const AGAIN: u64 = 1_000_000_000;
+
 /// Modified times beside the clock. One that is young, less than a step older than the look at it, can be
 /// that of a later change too.
 #[derive(Clone, Copy, Debug)]
 pub struct ModifiedTimes {
     /// A moment before the look, in nanoseconds since 1970: what is a step older isn't young.
     passed: u64,
+    /// When it waited last since the round began, likewise, or 0.
+    waited: u64,
 }
 
 impl ModifiedTimes {
+    /// Returns those of the first round.
     pub fn new() -> ModifiedTimes {
-        ModifiedTimes { passed: 0 }
+        ModifiedTimes {
+            passed: 0,
+            waited: 0,
+        }
     }
 
-    /// Waits until the time isn't young, and answers whether it is worth another look.
+    /// Begins anew: it waits once in a round. Where nobody says that a round begins, it waits once in a second.
+    pub fn begin(&mut self) {
+        self.waited = 0;
+    }
+
+    /// Waits until the time isn't young, unless it has waited already, and answers whether it is worth another look.
+    /// After a wait all is old that wasn't written since it began, whatever there is: so one is enough.
     pub fn waits_for(&mut self, clock: &impl Clock, metadata: &Metadata) -> bool {
         let Some(modified) = modified_of(metadata) else {
             return false;
@@ -44,36 +59,42 @@ impl ModifiedTimes {
         // The clock was read after the look: whatever it says, something can have been written in between, with
         // the same time. So only the next look tells.
         let left = self.left(modified);
-        if left > 0 {
-            thread::sleep(clock, Duration::from_nanos(left.saturating_add(SLACK)));
-            self.pass(clock);
+        if left == 0 {
+            return true;
         }
+        if self.passed.saturating_sub(self.waited) < AGAIN {
+            return false;
+        }
+        thread::sleep(clock, Duration::from_nanos(left.saturating_add(SLACK)));
+        self.pass(clock);
+        self.waited = self.passed;
         true
     }
 
-    /// When it was modified, in nanoseconds since 1970. `None` if that is young, and so has to be asked for
-    /// again, or isn't known: before 1970, after 2554.
+    /// When it was modified, in nanoseconds since 1970. `None` if that isn't known: before 1970, after 2554. If it is
+    /// young, that is the moment of the look: no earlier or later look tells the same, so the file counts as changed.
     pub fn told(&mut self, clock: &impl Clock, metadata: &Metadata) -> Option<u64> {
-        self.told_of(clock, modified_of(metadata)?)
+        Some(self.told_of(clock, modified_of(metadata)?))
     }
 
-    /// The time, unless it was young: less than a step old before the look, and not ahead of the clock after it.
-    fn told_of(&mut self, clock: &impl Clock, modified: u64) -> Option<u64>
+    /// The time, or this moment if it was young: less than a step old before the look, and not ahead of the clock after
+    /// it.
+    fn told_of(&mut self, clock: &impl Clock, modified: u64) -> u64
         ensures old { IsOld modified self.old.passed
-            → (result ≡ Some modified) × (self.new ≡ self.old) }
+            → (result ≡ modified) × (self.new ≡ self.old) }
         ensures ahead { IsAhead modified self.new.passed → (IsOld modified self.old.passed → ⊥)
-            → result ≡ Some modified }
+            → result ≡ modified }
         ensures young { (IsOld modified self.old.passed → ⊥)
-            → (IsAhead modified self.new.passed → ⊥) → result ≡ None }
+            → (IsAhead modified self.new.passed → ⊥) → result ≡ self.new.passed }
     {
         if self.is_old(modified) {
-            return Some(modified);
+            return modified;
         }
         self.pass(clock);
         if self.is_ahead(modified) {
-            Some(modified)
+            modified
         } else {
-            None
+            self.passed
         }
     }
 

@@ -68,9 +68,9 @@ impl<R: Drop, A: Allocator + Copy> RealFolders<R, A> {
     }
 
     /// Returns the real file system, which tells when files, links and others were modified. A time that is
-    /// less than 11 milliseconds older than the look at it could be that of a later change too: the look
-    /// waits until it is that old, and looks again. If something was written meanwhile, the time isn't told, and
-    /// so is asked for again by the next look.
+    /// less than 11 milliseconds older than the look at it could be that of a later change too: the first look of a
+    /// round that finds one waits until it is that old, and looks again. If something was written meanwhile, the moment
+    /// of the look is told in its place: so what is written all the time counts as changed at each look.
     pub fn with_modified_times(rt: R, alloc: A) -> RealFolders<R, A>
         ensures counted { result.failures ≡ 0 }
         ensures none { result.left_out ≡ 0 }
@@ -201,8 +201,12 @@ impl<R: Files + Clock + Drop, A: Allocator + Copy> NotesClosed<A> for RealFolder
         self.closed.as_slice()
     }
 
+    /// A round or a look begins so.
     fn forget_closed(&mut self) {
         self.closed.clear();
+        if let Some(times) = &mut self.times {
+            times.begin();
+        }
     }
 }
 
