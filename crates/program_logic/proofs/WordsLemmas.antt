@@ -1,5 +1,4 @@
 pub mod Nothing
 pub mod IndexLaw
 pub mod WordLemmas
-pub mod Anew
 pub mod Catching

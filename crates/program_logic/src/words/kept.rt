@@ -4,7 +4,7 @@ ghost use Rattle.std.specs.Map.{keys_of};
 ghost use Rattle.debounce_model.specs.Play.{events_of};
 ghost use Rattle.program_frame.specs.declared.fault.Fault.TheVariants.{Memory};
 ghost use Rattle.reader_paths.specs.Plan.Naming.{naming};
-ghost use Rattle.program_logic.specs.Words.Kept.{Takes, TakesAnew, anew, asks_anew, is_prompt};
+ghost use Rattle.program_logic.specs.Words.Kept.{Takes, asks_anew, is_prompt};
 
 use crate::words::Words;
 use crate::words::before::Before;
@@ -133,23 +133,6 @@ impl FollowingIndex {
     {
         let before = Before::of(self.alloc, &self.index, batch)?;
         documents.read(paths, &before)
-    }
-
-    /// Reads all anew: what stands at each path that the index has, and then at those that are listed. So it becomes
-    /// the index of what stands there, whatever was never reported. An error is as that of `take_batch`.
-    pub fn read_anew<D: ReadsDocuments>(
-        &mut self,
-        documents: &D,
-        listed: Vec<DebouncedEvent>,
-    ) -> Result<(), Fault>
-        ensures anew { OnOk result (TakesAnew (D.reads documents.now)
-            (anew self.old.index listed.items) self.old.index self.new.index) }
-        ensures err { IfErr result (λ e. e ≡ Memory) }
-    {
-        let mut listed = listed;
-        let mut batch = self.index.named()?;
-        batch.append(&mut listed)?;
-        self.take_batch(documents, batch.as_slice())
     }
 
     /// Takes at once what the batch tells of removals, renames and moves, and notes what else it wants as due, for
