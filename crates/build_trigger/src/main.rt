@@ -39,7 +39,7 @@ const ABOUT: &str = "Prints a line for each burst of changes below folders.";
 
 /// What memory it takes, for its help.
 const MEMORY: &str =
-    "Memory: some 200 bytes for each path, and what is reported while the output isn't read.";
+    "Memory: some 200 bytes for each path, a burst, and what is reported while the output isn't read.";
 
 /// How long nothing is reported after a burst, in milliseconds, if no word says it.
 const QUIET: u64 = 500;
