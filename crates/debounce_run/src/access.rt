@@ -1,8 +1,7 @@
-//! The book of a running debouncer under its lock, and the ways to it.
+//! The book of a running debouncer under its lock, and the values by which threads reach it.
 //!
-//! The lock is that of `debounce_lock`: the contract of each call of an [`Access`] says what it adds to the
-//! history of the book, so what comes back at the end is what was under the lock. What is done under it is a
-//! step of `debounce_book`.
+//! Each thread has an [`Access`] to the book. A call locks the book, takes one step of `debounce_book`, and unlocks.
+//! Its contract says what the step adds to the history of the book.
 ghost use Rattle.std.specs.Prelude.{◌≡◌, ◌++◌, ◌∷◌, [], Ok, true, IfErr, IfOk, OnErr, OnOk};
 ghost use Rattle.std.specs.Arc.{arc_value};
 ghost use Rattle.notify_paths.specs.Errors.{out_of_memory};
@@ -33,7 +32,8 @@ use std::sync::{Arc, Wait};
 use std::thread;
 use std::time::{Clock, Duration};
 
-/// A way to a book. Each call that names the runtime waits for the lock, and holds it meanwhile.
+/// Access to a book under its lock. A call that takes the runtime `rt` waits for the lock, and holds it until it
+/// returns.
 pub struct Access<C: FileIdCache<A> + Drop, A: Allocator> {
     lock: BookLock<C, A>,
     pass: BookPass<C, A>,
@@ -66,7 +66,8 @@ impl<C: FileIdCache<A> + Drop, A: Allocator> Model for Access<C, A> {
 }
 
 impl<C: FileIdCache<A> + Drop, A: Allocator + Copy> Access<C, A> {
-    /// Puts a new book under a lock. This way to it alone takes entries out, emits and feeds.
+    /// Puts a new book under a lock. The access that it returns has all rights: to take entries out of the journal, to
+    /// emit, and to feed.
     pub fn open(alloc: A, book: Book<C, A>) -> Result<Access<C, A>, AllocError>
         requires { IsFresh book }
         ensures seen { IfOk result (λ a. (a.seen ≡ opening book) × (a.out ≡ [])) }
@@ -82,7 +83,7 @@ impl<C: FileIdCache<A> + Drop, A: Allocator + Copy> Access<C, A> {
         Ok(Access { lock, pass })
     }
 
-    /// Another way to the book, which alone emits from then on.
+    /// Makes another access to the book, to which the right to emit goes over.
     pub fn telling(&mut self) -> Result<Access<C, A>, AllocError>
         requires { self.old.tells ≡ true }
         ensures same { StaysButTells self.old self.new }
@@ -94,7 +95,7 @@ impl<C: FileIdCache<A> + Drop, A: Allocator + Copy> Access<C, A> {
         Ok(Access { lock, pass })
     }
 
-    /// Another way to the book, which alone feeds from then on.
+    /// Makes another access to the book, to which the right to feed goes over.
     pub fn feeding(&mut self) -> Result<Access<C, A>, AllocError>
         requires { self.old.feeds ≡ true }
         ensures same { StaysButFeeds self.old self.new }
@@ -108,7 +109,7 @@ impl<C: FileIdCache<A> + Drop, A: Allocator + Copy> Access<C, A> {
 }
 
 impl<C: FileIdCache<A> + Drop, A: Allocator> Access<C, A> {
-    /// The pass alone, which says who has seen what, once the book isn't reached by it any longer.
+    /// Gives up the access, and returns its pass. In contracts the pass still says what the access has seen.
     pub fn into_pass(self) -> BookPass<C, A>
         ensures lock { result.table_id ≡ self.lock }
         ensures free { result.me.1 ≡ [] }
@@ -119,7 +120,8 @@ impl<C: FileIdCache<A> + Drop, A: Allocator> Access<C, A> {
         pass
     }
 
-    /// Notes that an event or an error was refused. Nothing else was fed or missed since the last such call.
+    /// Counts an event or an error that was refused as missed. Since this access fed or counted last, nobody else has
+    /// fed or counted anything.
     pub fn miss<R: Wait>(&mut self, rt: &R)
         requires { self.old.feeds ≡ true }
         ensures lasts { Lasts self.old self.new }
@@ -134,8 +136,8 @@ impl<C: FileIdCache<A> + Drop, A: Allocator> Access<C, A> {
 }
 
 impl<C: FileIdCache<A> + Drop, A: Allocator + Copy> Access<C, A> {
-    /// Takes an event or an error at a moment. It is in every history that is seen later, and nothing else was fed
-    /// or missed since the last such call.
+    /// Feeds an event or an error to the book, as of this moment. Since this access fed or counted last, nobody else
+    /// has fed or counted anything.
     pub fn feed<R: Wait>(
         &mut self,
         rt: &R,
@@ -158,8 +160,8 @@ impl<C: FileIdCache<A> + Drop, A: Allocator + Copy> Access<C, A> {
         answer
     }
 
-    /// Emits what is expired at the moment, and then the errors. The history tells that nothing else was emitted
-    /// since the last such call.
+    /// Ticks: emits the events that are old enough at this moment, and then the errors. Since this access ticked last,
+    /// nobody else has emitted anything.
     pub fn tick<R: Wait>(&mut self, rt: &R, now: Moment) -> Ticked<A>
         requires { self.old.tells ≡ true }
         ensures lasts { Lasts self.old self.new }
@@ -197,7 +199,7 @@ impl<C: FileIdCache<A> + Drop, A: Allocator + Copy> Access<C, A> {
         answer
     }
 
-    /// Makes a path, and what is below it, no root.
+    /// Drops the roots at and below a path.
     pub fn unroot<R: Wait>(&mut self, rt: &R, path: &PathBuf<A>) -> Result<(), Error<A>>
         ensures lasts { Lasts self.old self.new }
         ensures ok { OnOk result
@@ -229,8 +231,8 @@ impl<C: FileIdCache<A> + Drop, A: Allocator + Copy> Access<C, A> {
         batch
     }
 
-    /// Takes out the entries so far, or those since the last such call. If a journal is kept, all parts in
-    /// a row are the journal.
+    /// Takes the entries out of the journal: all so far, or those since the last such call. If a journal is kept, all
+    /// parts that were taken out make the whole journal, one after the other.
     pub fn take_journal<R: Wait>(&mut self, rt: &R) -> Vec<Entry<A>, A>
         requires { self.old.keeps ≡ true }
         ensures on { GoesOn self.old self.new }
@@ -246,8 +248,8 @@ impl<C: FileIdCache<A> + Drop, A: Allocator + Copy> Access<C, A> {
         entries
     }
 
-    /// Returns the timeout and a copy of the journal, if one is kept and nothing was taken out of it; else no
-    /// entries. `teller` is the worker's pass, by which all was emitted that was.
+    /// Returns the timeout and a copy of the journal. There are no entries if no journal is kept, or some were taken
+    /// out. `teller` is the worker's pass: it had the right to emit.
     pub fn journal<R: Wait>(
         &mut self,
         rt: &R,
@@ -272,8 +274,8 @@ impl<C: FileIdCache<A> + Drop, A: Allocator + Copy> Access<C, A> {
         journal
     }
 
-    /// Waits until no other reaches the book, and returns it with the count of what was missed. `worker` is the pass by
-    /// which all was emitted that was, and `feed` the one by which all was fed or missed.
+    /// Waits until every other access is gone, and returns the book and how many events and errors were missed.
+    /// `worker` is the pass that had the right to emit, and `feed` the one that had the right to feed.
     pub fn close<R: Wait + Clock>(
         self,
         rt: &R,
@@ -299,7 +301,7 @@ impl<C: FileIdCache<A> + Drop, A: Allocator + Copy> Access<C, A> {
     }
 }
 
-/// The book and the count of what was missed, as they were under the lock.
+/// Takes the book and the count of what was missed out of the value under the lock.
 fn end_of<C: Drop, A: Allocator>(held: Locked<C, A>) -> (Book<C, A>, u64)
     ensures { (result.0 ≡ held.book.value) × (result.1 ≡ held.missed) }
 {

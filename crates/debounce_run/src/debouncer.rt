@@ -75,14 +75,14 @@ pub struct Running<
     worker: Worker<C, L, A>,
 }
 
-/// What is left when a debouncer ends. `N` is what its watcher finds last.
+/// What `finish` returns. `N` is the type of what the watcher found last.
 #[derive(Drop)]
 pub struct Finished<C: Drop, L: Drop, N: Drop, A: Allocator = Global> {
-    /// In it is what was never emitted.
+    /// The debouncer's state with its journal. It still holds what was never emitted.
     pub book: Book<C, A>,
     /// How many events and errors were missed in all.
     pub missed: u64,
-    /// What comes back of the handler.
+    /// The handler, or `NoHandler`.
     pub handler: L,
     /// What the watcher found last.
     pub last: N,
@@ -141,7 +141,7 @@ impl<
 /// How a debouncer is started.
 #[derive(Clone, Copy)]
 pub struct Start {
-    /// How old an event is that is emitted.
+    /// How old an event has to be before it is emitted.
     pub timeout: Duration,
     /// How often the debouncer's thread looks for such events; `None` stands for a quarter of the timeout.
     pub tick_rate: Option<Duration>,
@@ -243,8 +243,8 @@ pub fn new_journaled_debouncer<
     )
 }
 
-/// Starts a debouncer as [`new_debouncer_opt`] or [`new_journaled_debouncer`], whose handler comes back by
-/// [`Debouncer::finish`], for whoever proves what it was called with.
+/// Starts a debouncer as [`new_debouncer_opt`] or [`new_journaled_debouncer`] do, and [`Debouncer::finish`] returns the
+/// handler. With it a caller can prove what the handler was called with.
 pub fn new_debouncer_returning_handler<
     F: DebounceEventHandler<DebounceEventResult<A>> + ReturnedHandler,
     T: Watcher<Feed<C, R, A>, R, A>,
@@ -278,7 +278,7 @@ pub fn new_debouncer_returning_handler<
     )
 }
 
-/// Starts a debouncer. `began` shows what was there of the handler.
+/// Starts a debouncer. `began` notes, for contracts, the handler at the start.
 fn start_debouncer<
     F: DebounceEventHandler<DebounceEventResult<A>>,
     E: Ending<F, L> + Send + 'static,
@@ -327,7 +327,7 @@ fn tick_of(timeout: Duration, tick_rate: Option<Duration>) -> Option<Duration>
     Some(rate)
 }
 
-/// A book of which nothing was asked yet, with a journal or without.
+/// Makes a new book, with a journal or without.
 fn book_of<C: FileIdCache<A> + Drop, A: Allocator + Copy>(
     alloc: A,
     cache: C,
@@ -385,7 +385,7 @@ fn launch<
     }
 }
 
-/// A debouncer but for its watcher.
+/// The parts of a debouncer that are started before its watcher.
 struct Fed<C: FileIdCache<A> + Drop, R: Wait + Drop, L: ReturnedHandler, A: Allocator> {
     feed: Feed<C, R, A>,
     worker: Worker<C, L, A>,
@@ -513,16 +513,14 @@ impl<
         T::kind()
     }
 
-    /// Stops the watcher and the debouncer's thread, waits until both have ended, and returns what is left: the
-    /// book, how many events and errors were missed in all, what comes back of the handler, which was called with just
-    /// what was emitted, and what the watcher found last. A turn that has begun is finished, as by `stop`. The
-    /// watcher looks once more before it ends, so that what changed before this call is reported too, and what it
-    /// reports until it has ended goes to the book.
+    /// Stops the watcher and the debouncer's thread, waits until both have ended, and returns a [`Finished`]. A turn
+    /// that has begun is finished. The watcher looks once more before it ends, so that it also reports what changed
+    /// before this call. All its reports go to the book.
     ///
-    /// In the book is what was never emitted: its `outlook` is what waits, in the order of a batch, and
-    /// `core().pending_errors()` are the errors. A reader that applies each batch and then that outlook
-    /// has applied all that the watcher reported, but for what was missed. The journal comes out by
-    /// `into_journal`, and is not copied; the last part of one that was taken in parts, by `take_journal`.
+    /// The book holds what was never emitted: `outlook` returns the events, in the order of a batch, and
+    /// `core().pending_errors()` the errors. A reader that applies all batches, and then the outlook, has applied all
+    /// that the watcher reported, except what was missed. The book's `into_journal` returns the journal without a copy.
+    /// If parts were taken out before, its `take_journal` returns the last part.
     ///
     /// It waits until the watcher's work has ended: for ever, if that goes on after the watcher's drop.
     pub fn finish(self) -> Finished<C, L, LastOf<T, C, R, A>, A>
@@ -566,11 +564,10 @@ impl<
         self.shared.signals.missed.load(Ordering::SeqCst)
     }
 
-    /// Returns how many turns of the debouncer's thread were refused, since the clock couldn't be read or
-    /// there was no memory for the batch, or for its entry in the journal. Nothing is lost by one: what was due
-    /// waits for the next turn. A turn that only had no memory for the errors' entry in the journal isn't
-    /// counted; they wait too.
-    /// After 2^64 - 1 it begins again at 0.
+    /// Returns how many turns of the debouncer's thread were refused, since the clock couldn't be read, or there was
+    /// no memory for the batch or for its entry in the journal. Nothing is lost: the events that were due wait for
+    /// the next turn. If only the memory for the errors' entry in the journal was missing, the turn isn't counted,
+    /// and the errors wait. After 2^64 - 1 it begins again at 0.
     pub fn refused_turns(&self) -> u64 {
         self.shared.signals.refused_turns.load(Ordering::SeqCst)
     }

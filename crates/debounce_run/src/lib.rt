@@ -1,14 +1,15 @@
 //! The running debouncer: a thread that ticks, a watcher that feeds, and a handler that is called with
 //! batches and errors.
 //!
-//! [`new_debouncer_opt`] starts it all and returns a [`Debouncer`], by which
-//! paths are watched. What happens in a turn of its thread is [`turn`], whose contract says
-//! what the handler is called with; what happens under the lock is a step of `debounce_book`. The watcher's thread is
-//! started by [`watcher_thread`], and a slot under a lock takes what it ends with. [`threads`] runs scripts of commands
-//! over one book, each in a thread of its own.
+//! [`new_debouncer_opt`] starts all of it and returns a [`Debouncer`], by which paths are watched. The debouncer's
+//! thread, the worker, makes one [`turn`] after another: the contract of a turn says with what it calls the handler.
+//! [`watcher_thread`] starts the watcher's thread. [`threads`] runs scripts of commands over one debouncer, each in a
+//! thread of its own.
 //!
-//! The lock is that of `debounce_lock`, and [`access`] has the ways to the book under it: the contract of each
-//! call says what it adds to the history of the book, so what comes back at the end is what was under the lock.
+//! All threads share one book (`debounce_book`): the debouncer's state, with its journal if it keeps one. The book lies
+//! under a lock of `debounce_lock`, and has a history, which lists what happened to it. [`access`] has the calls that
+//! lock the book and take one step. Their contracts say what each call adds to the history. So the contract of
+//! [`Debouncer::finish`] can say how the book that it returns came about.
 //!
 //! ```text
 //! let handler = |outcome: DebounceEventResult| { .. };

@@ -1,9 +1,9 @@
-//! What reaches the book of a running debouncer: a feed, to which its watcher reports, and the turns of its
-//! worker, each of which calls the handler with what one tick emits. [`life::turns`] is all that the worker's
-//! thread does.
+//! The two sides of a running debouncer's book. Its watcher reports to a feed, which puts events and errors in. Its
+//! worker makes turns: each turn ticks, and calls the handler with what the tick emitted. [`life::turns`] is all that
+//! the worker's thread does.
 //!
-//! [`shared::Shared`] is what they have in common: a debouncer's own way to the book, and the signals that its
-//! threads give each other.
+//! [`shared::Shared`] is the part that the debouncer itself keeps: its own access to the book, and the signals between
+//! the threads.
 
 pub mod clock;
 pub mod feed;

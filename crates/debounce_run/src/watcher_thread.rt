@@ -1,4 +1,5 @@
-//! The thread of a watcher. A watcher is made with the work of its thread, and whoever makes it starts the thread.
+//! The thread of a watcher. A call that makes a watcher also returns the work of the watcher's thread, and the caller
+//! starts the thread.
 ghost use Rattle.std.specs.Prelude.{◌≡◌, ◌⊎◌, IfErr, IfOk};
 ghost use Rattle.notify_paths.specs.Errors.{out_of_memory};
 ghost use Rattle.notify_watch.specs.Config.{not_started};
@@ -13,7 +14,7 @@ use std::snapshot::Snapshot;
 use std::sync::Wait;
 use std::thread::{Promise, Threads};
 
-/// With what a watcher was made, as clauses saw it: its handler, and its configuration.
+/// The handler and the configuration with which a watcher was made, for contracts alone.
 #[derive(Drop)]
 pub struct WatcherArguments<F> {
     pub handler: Snapshot<F>,
@@ -21,7 +22,7 @@ pub struct WatcherArguments<F> {
 }
 
 impl<F> WatcherArguments<F> {
-    /// Shows what a watcher is about to be made with.
+    /// Notes the handler and the configuration with which a watcher is about to be made.
     pub fn of(handler: &F, config: Config) -> WatcherArguments<F>
         ensures { (result.handler.value ≡ handler.now) × (result.config ≡ config) }
     {
@@ -32,7 +33,7 @@ impl<F> WatcherArguments<F> {
     }
 }
 
-/// What a watcher's thread promises: the handler comes back, and what was found last, as its work ends.
+/// What a watcher's thread promises: when its work ends, it returns the handler and what was found last.
 #[derive(Drop)]
 pub struct Hands<K: Task> {
     pub made: WatcherArguments<K::Handler>,
@@ -43,16 +44,16 @@ impl<K: Task> Promise<(K::Handler, K::Last)> for Hands<K> {
     ghost kept_by = { λ p r. K.ends p.made.handler.value p.made.config r.0 r.1 };
 }
 
-/// A watcher's thread, which ends with the watcher's handler, and with what was found last. If nobody joins it, both
-/// are dropped when it has ended.
+/// A watcher's thread, which returns the watcher's handler and what was found last. If nobody joins the thread, both
+/// are dropped once it has ended.
 pub type WatcherThread<K, A = Global> = SlotHandle<
     (<K as Task>::Handler, <K as Task>::Last),
     Hands<K>,
     A,
 >;
 
-/// Starts a thread that does the work of a watcher that was made so. If it can't be started, the error is `Memory` or
-/// `Io` of `Other`, and the work is dropped.
+/// Starts a thread that does the work of a watcher. `made` says with what the watcher was made. If the thread can't be
+/// started, the error is `Memory` or `Io` of `Other`, and the work is dropped.
 pub fn start_task<
     F: Drop + Send + 'static,
     R: Threads + Wait + Copy + Send + 'static,
@@ -78,7 +79,7 @@ pub fn start_task<
     }
 }
 
-/// What is answered if a thread isn't started.
+/// The error if a thread isn't started.
 pub(crate) fn start_error<A: Allocator + Copy>(alloc: A, unstarted: Unstarted) -> Error<A>
     ensures { (result ≡ out_of_memory) ⊎ (result ≡ not_started) }
 {

@@ -23,8 +23,8 @@ use std::sync::{Arc, Wait};
 use std::thread::{Promise, Threads};
 use std::time::Clock;
 
-/// What the worker promises: the pass by which it emitted comes back, and what comes back of the handler, which
-/// tells what was emitted.
+/// What the worker promises: it returns its pass, which had the right to emit, and what is left of the handler, which
+/// was called with what was emitted.
 #[derive(Drop)]
 pub(crate) struct Returns<C: FileIdCache<A> + Drop, L: ReturnedHandler, A: Allocator> {
     pub access: Snapshot<Access<C, A>>,
@@ -43,10 +43,10 @@ impl<C: FileIdCache<A> + Drop, L: ReturnedHandler, A: Allocator> Promise<(BookPa
         × L.emitted p.began.value r.1 (picked is_emitting (known_history r.0)) };
 }
 
-/// The debouncer's own thread, which ends with the pass by which it emitted and what comes back of the handler.
+/// The debouncer's own thread. It returns its pass, which had the right to emit, and what is left of the handler.
 pub(crate) type Worker<C, L, A> = SlotHandle<(BookPass<C, A>, L), Returns<C, L, A>, A>;
 
-/// Starts the worker. `E` says how its handler ends.
+/// Starts the worker. `E` says what becomes of its handler.
 pub(crate) fn start_worker<
     F: DebounceEventHandler<DebounceEventResult<A>>,
     E: Ending<F, L> + Send + 'static,
@@ -78,7 +78,7 @@ pub(crate) fn start_worker<
     }
 }
 
-/// Starts a thread that emits by this way to the book.
+/// Starts a thread that emits by this access to the book.
 fn spawned<
     H: DebounceEventHandler<DebounceEventResult<A>>,
     E: Ending<H, L> + Send + 'static,

@@ -1,4 +1,4 @@
--- What a history says of the cache.
+-- The history of a book as a run of commands by the cache's rules.
 use Rattle.std.specs.Prelude.{◌≡◌, ℕ, List, [], ◌∷◌, ◌++◌, None}
 use Rattle.std.specs.List.{AllByRecursion}
 use Rattle.notify_paths.specs.Path.{PathValue}
@@ -14,18 +14,18 @@ abbrev pub opened_core : {C : Type 0} → ℕ → C → Core C
 opened_core timeout cache =
     record { state = empty_state timeout; cache = cache; answer = None; visited = 0 }
 
--- the entry of a command, unless it was refused
+-- the entry of the journal for a command and its reply: none if it was refused
 abbrev pub entry_if : CommandValue → ReplyValue → List EntryValue
 entry_if command (RefusedReply error) = []
 entry_if command reply = entry_of 0 command reply ∷ []
 
--- the entries of the commands that weren't refused, in order
+-- the entries of the journal for commands and their replies, without those that were refused, in order
 abbrev pub taken_in : List CommandValue → List ReplyValue → List EntryValue
 taken_in (command ∷ commands) (reply ∷ replies) = entry_if command reply ++ taken_in commands replies
 taken_in commands replies = []
 
--- a run by the cache's rules, from a core that was just opened to this one. The entries are those of its commands that
--- weren't refused; one that was leaves the state, and may leave another cache
+-- some run of commands by the cache's rules leads from a core that was just opened to this one, and the entries are
+-- those of its commands that weren't refused. A refused command leaves the state as it is, but may change the cache
 pub record RanTo {C : Type 0} (rules : Rules C) (es : List EntryValue) (core : Core C) : Type 0 where
   pub cache : C
   pub commands : List CommandValue
@@ -33,19 +33,20 @@ pub record RanTo {C : Type 0} (rules : Rules C) (es : List EntryValue) (core : C
   pub ran : Run rules (opened_core core.state.timeout cache) commands replies core
   pub entries : taken_in commands replies ≡ es
 
--- a run by the cache's rules, from a core that was just opened to some core with this timeout
+-- some run of commands by the cache's rules leads from a core that was just opened to some core with this timeout, and
+-- the entries are those of its commands that weren't refused
 abbrev pub RanAs : {C : Type 0} → Rules C → ℕ → List EntryValue → Type 0
 RanAs {C} rules timeout es = (core : Core C) × (core.state.timeout ≡ timeout) × RanTo rules es core
 
--- no number stands in the reply
+-- the reply holds no file number
 abbrev pub HasNoNumber : ReplyValue → Type 0
 HasNoNumber (TakenReply answer) = answer ≡ None
 HasNoNumber reply = Unit {0}
 
--- no number stands in any reply of the entries
+-- no reply of the entries holds a file number
 abbrev pub HaveNoNumbers : List EntryValue → Type 0
 HaveNoNumbers es = AllByRecursion (λ e. HasNoNumber e.reply) es
 
--- a cache of these rules has no number of any path
+-- a cache with these rules knows no file number of any path
 abbrev pub NumbersNothing : {C : Type 0} → Rules C → Type 0
 NumbersNothing {C} rules = (cache : C) (path : PathValue) → rules.numbers cache path ≡ None

@@ -12,7 +12,7 @@ use Rattle.debounce_book.specs.Journal.{EntryValue, IsJournal}
 use Rattle.debounce_run.specs.declared.threads.refusal.Refusal.{Refusal}
 use Rattle.debounce_run.specs.declared.threads.refusal.Refusal.TheVariants as refusal
 
--- the commands that came from the script of this number, in the journal's order
+-- the commands in the journal that came from the script of this number, in order
 abbrev pub commands_from : ℕ → List EntryValue → List CommandValue
 commands_from k [] = []
 commands_from k (e ∷ es) = if e.from == k then e.command ∷ commands_from k es else commands_from k es
@@ -31,17 +31,17 @@ has_no_number reply = true
 abbrev pub IsPlain : ℕ → EntryValue → Type 0
 IsPlain count e = (e.from < count) × (has_no_number e.reply ≡ true)
 
--- from each script came its commands in their order
+-- the commands in the journal that came from each script are this script, in order
 abbrev pub AreOrdered : List (List CommandValue) → List EntryValue → Type 0
 AreOrdered scripts entries = (k : ℕ) → k < length scripts → commands_from k entries
     ≡ slice_index_or scripts k []
 
--- the entries are the commands of these scripts
+-- the entries are the commands of these scripts, in an order that keeps that of each script
 pub record AreMerged (scripts : List (List CommandValue)) (entries : List EntryValue) : Type 0 where
   pub plain : AllByRecursion (IsPlain (length scripts)) entries
   pub ordered : AreOrdered scripts entries
 
--- the journal of a run of these scripts: it is legal, and they are its commands
+-- the journal of a run of these scripts side by side: it is legal, and its commands are those of the scripts
 abbrev pub IsRunOf : ℕ → List (List CommandValue) → List EntryValue → Type 0
 IsRunOf timeout scripts journal = IsJournal timeout journal × AreMerged scripts journal
 
@@ -49,7 +49,7 @@ IsRunOf timeout scripts journal = IsJournal timeout journal × AreMerged scripts
 abbrev pub script_values : {Z : Type 0} → List (Vec (Command Z) Z) → List (List CommandValue)
 script_values scripts = map (λ script. command_values script.items) scripts
 
--- the error of a run that has no journal
+-- the error of a run that returns no journal
 abbrev pub refusal_error : Refusal → ErrorValue
 refusal_error refusal.Full = record { kind = FullKind; paths = [] }
 refusal_error refusal.Memory = record { kind = MemoryKind; paths = [] }
@@ -65,6 +65,6 @@ refusal_of (IoKind kind) = refusal.Memory
 refusal_of PathNotFoundKind = refusal.Memory
 refusal_of WatchNotFoundKind = refusal.Memory
 
--- an error of a run that has no journal
+-- the error is one of a run that returns no journal
 abbrev pub IsRefusal : ErrorValue → Type 0
 IsRefusal error = (why : Refusal) × (error ≡ refusal_error why)

@@ -1,4 +1,4 @@
--- What a handler was called with.
+-- With what a handler was called.
 use Rattle.std.specs.Prelude.{◌≡◌, ◌⊎◌, ◌++◌, ℕ, List, [], ◌∷◌, Ok}
 use Rattle.std.specs.declared.vec.Vec.{Vec}
 use Rattle.notify_paths.specs.Errors.{ErrorValue}
@@ -12,7 +12,7 @@ use Rattle.debounce_run.specs.Access.Happened.{HappenedValue, History, Accepted,
 use Rattle.debounce_run.specs.Access.Stands.{Known}
 
 module _ {H A : Type 0} (handles : H → Outcome A → H → Type 0) where
-  -- the handler was called with what this reply gives, unless that is empty
+  -- the handler was called with the batch or the errors of this reply, unless they are empty
   abbrev pub HandsReply : ReplyValue → H → H → Type 0
   HandsReply (BatchReply batch) before after =
       (v : Vec Timed A) × (v.items ≡ batch) × HandsBatch handles (Ok v) before after
@@ -20,23 +20,25 @@ module _ {H A : Type 0} (handles : H → Outcome A → H → Type 0) where
       (v : Vec ErrorValue A) × (v.items ≡ errors) × HandsErrors handles v before after
   HandsReply reply before after = after ≡ before
 
-  -- the handler was called with what was emitted, if something was accepted, and else not at all
+  -- the handler was called with what this entry of the history emitted; not at all, if it emitted nothing
   abbrev pub HandsOne : HappenedValue → H → H → Type 0
   HandsOne (Accepted entry) before after = HandsReply entry.reply before after
   HandsOne h before after = after ≡ before
 
-  -- the handler was called with what was emitted in a history, in order
+  -- the handler was called with all that was emitted in a history, in order, and nothing else
   abbrev pub Handed : H → History → H → Type 0
   Handed before [] after = after ≡ before
   Handed before (h ∷ hs) after = (mid : H) × HandsOne h before mid × Handed mid hs after
 
-  -- the handler was called with just what was emitted in between
+  -- from one state of the worker to a later one: the handler was called with what was emitted in between, and nothing
+  -- else
   abbrev pub HandsOn : Known → H → Known → H → Type 0
   HandsOn old before new after = (new.lock ≡ old.lock)
       × ((hs : History) × Handed before hs after
       × (picked is_emitting new.seen ≡ picked is_emitting old.seen ++ hs))
 
--- whatever was emitted, and the handler was called with: what it leaves at its end tells so
+-- for each history: if the handler was called with what was emitted in it, then what it leaves at its end stands in the
+-- relation `tells` with this history
 pub record LeavesAll {H L A : Type 0} (handles : H → Outcome A → H → Type 0) (ends : H → L → Type 0)
     (tells : L → L → History → Type 0) (handler : H) (began : L) : Type 0 where
   pub told : (hs : History) (last : H) (left : L) → Handed handles handler hs last → ends last left
@@ -47,7 +49,7 @@ abbrev pub tick_of : CommandValue → List ℕ
 tick_of (TickCommand now) = now ∷ []
 tick_of command = []
 
--- the moment of a tick that was accepted
+-- the moment of an entry that is a tick
 abbrev pub tick_in : HappenedValue → List ℕ
 tick_in (Accepted entry) = tick_of entry.command
 tick_in h = []
@@ -57,11 +59,11 @@ abbrev pub ticks_of : History → List ℕ
 ticks_of [] = []
 ticks_of (h ∷ hs) = tick_in h ++ ticks_of hs
 
--- the moments of the ticks that this has seen
+-- the moments of the ticks that the worker has seen
 abbrev pub ticks_by : Known → List ℕ
 ticks_by known = ticks_of (picked is_emitting known.seen)
 
--- the clock was read, and one tick was at the moment that it answered; or there was no tick
+-- the clock was read once, and there was one tick, at the moment that it answered; or there was no tick
 abbrev pub TicksNow : Known → Known → Type 0
 TicksNow old new =
     ((now : ℕ) × Reads old now new × (ticks_by new ≡ ticks_by old ++ now ∷ []))

@@ -1,4 +1,4 @@
--- What a debouncer that runs shows.
+-- What a running debouncer is in contracts.
 use Rattle.std.specs.Prelude.{◌≡◌, ℕ, Bool, true, List, [], ◌∷◌}
 use Rattle.atomic_table.specs.Seated.{TableId}
 use Rattle.debounce_lock.specs.History.{Begins}
@@ -7,9 +7,9 @@ use Rattle.debounce_book.specs.Journal.{EntryValue}
 use Rattle.debounce_run.specs.Access.Happened.{History, Opened}
 use Rattle.debounce_run.specs.Access.Stands.{Known}
 
--- its watcher; with which feed that was made, and with which configuration; of which lock it is; the history as far as
--- it has seen it; the parts of the journal that were taken out, and whether none was; and what was there of its handler
--- at the start
+-- the value of a running debouncer: its watcher; the feed and the configuration with which the watcher was made; the
+-- lock of the book; the history as far as the debouncer has seen it; the entries that were taken out of the journal;
+-- whether none were; and the handler at the start
 pub record RunningValue (T L : Type 0) : Type 0 where
   pub watcher : T
   pub made : Known × Config
@@ -19,7 +19,7 @@ pub record RunningValue (T L : Type 0) : Type 0 where
   pub is_whole : Bool
   pub began : L
 
--- it runs on in the same history, and nothing was taken out of its journal
+-- the same debouncer later: the history may have gone on, and nothing was taken out of the journal
 pub record RunsOn {T L : Type 0} (old new : RunningValue T L) : Type 0 where
   pub made : new.made ≡ old.made
   pub lock : new.lock ≡ old.lock
@@ -28,13 +28,14 @@ pub record RunsOn {T L : Type 0} (old new : RunningValue T L) : Type 0 where
   pub began : new.began ≡ old.began
   pub seen : Begins old.seen new.seen
 
--- it has just been started with this timeout, and with a journal or without
+-- a debouncer that was just started with this timeout, with a journal or without: nothing else has happened
 pub record IsStarted {T L : Type 0} (started : RunningValue T L) (timeout : ℕ) (journaled : Bool) : Type 0 where
   pub seen : started.seen ≡ Opened timeout journaled ∷ []
   pub parts : started.parts ≡ []
   pub is_whole : started.is_whole ≡ true
 
--- its watcher was made with a feed that had seen as much, whose clock wasn't read yet, and with this configuration
+-- the watcher of a debouncer that was just started was made with this configuration, and with a feed that had seen as
+-- much of the history and hadn't read its clock yet
 abbrev pub IsMadeWith : {T L : Type 0} → Config → RunningValue T L → Type 0
 IsMadeWith config started =
     started.made ≡ (record { lock = started.lock; seen = started.seen; moments = [] }, config)

@@ -1,26 +1,26 @@
--- One turn of the worker: a tick, and what the handler is called with.
+-- One turn of the worker: a tick, and the calls of the handler.
 use Rattle.std.specs.Prelude.{◌≡◌, ℕ, List, [], ◌∷◌, Result, Ok, Err}
 use Rattle.std.specs.declared.vec.Vec.{Vec}
 use Rattle.notify_paths.specs.Errors.{ErrorValue}
 use Rattle.notify_types.specs.Event.{Timed}
 use Rattle.notify_watch.specs.Handler.{Outcome}
 
--- a batch, or why there is none
+-- the answer of a tick: a batch, or why there is none
 abbrev pub TickResult : Type 0 → Type 0
 TickResult A = Result (Vec Timed A) ErrorValue
 
--- a handler that was called once if the list isn't empty, and else not
+-- the handler was called once if the list isn't empty, and not at all if it is
 abbrev pub HandsList : {H X : Type 0} → List X → H → (H → Type 0) → H → Type 0
 HandsList [] before once after = after ≡ before
 HandsList (x ∷ xs) before once after = once after
 
--- the handler was called once with the batch if there is one and it isn't empty, and else not
+-- the handler was called once with the batch, or not at all if there is no batch or an empty one
 abbrev pub HandsBatch : {H A : Type 0} → (H → Outcome A → H → Type 0) → TickResult A → H → H → Type 0
 HandsBatch handles (Ok batch) before after =
     HandsList batch.items before (λ h. handles before (Ok batch) h) after
 HandsBatch handles (Err refusal) before after = after ≡ before
 
--- the handler was called once with the errors if there are any, and else not
+-- the handler was called once with the errors, or not at all if there are none
 abbrev pub HandsErrors : {H A : Type 0} → (H → Outcome A → H → Type 0) → Vec ErrorValue A → H → H → Type 0
 HandsErrors handles errors before after =
     HandsList errors.items before (λ h. handles before (Err errors) h) after
@@ -30,8 +30,8 @@ abbrev pub refusal_of : {A : Type 0} → TickResult A → Result (Unit {0}) Erro
 refusal_of (Ok batch) = Ok tt
 refusal_of (Err refusal) = Err refusal
 
--- one tick, then the handler with the batch, then with the errors; the answer is why there is no batch, if there is
--- none
+-- one turn: a tick, then a call of the handler with the batch, then one with the errors. The answer says why there is
+-- no batch, if there is none
 abbrev pub Turns : {G H A : Type 0} → (G → ℕ → TickResult A → Vec ErrorValue A → G → Type 0) →
     (H → Outcome A → H → Type 0)
     → G → ℕ → H → G → H → Result (Unit {0}) ErrorValue → Type 0

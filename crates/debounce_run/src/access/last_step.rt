@@ -1,4 +1,4 @@
-//! What was done under the lock.
+//! The steps that are taken on a book under its lock, as contracts see them.
 use debounce_book::Ticked;
 use debounce_lock::Witness;
 use notify_paths::{Error, PathBuf};
@@ -6,7 +6,7 @@ use notify_types::{Event, Moment, RecursiveMode};
 use std::alloc::Allocator;
 use std::marker::Model;
 
-/// An entry of the history: what happened to a book, as clauses see it. No value of it is made.
+/// An entry of the history of a book, for contracts alone: no value of it is made.
 pub struct Happened;
 
 impl Model for Happened {
@@ -17,19 +17,19 @@ impl Model for Happened {
     ghost view = { λ _. Missed };
 }
 
-/// The last step that was done to a book, for clauses: a book without a journal doesn't show it.
+/// The last step that was taken on a book, for contracts alone. A book without a journal notes no steps itself.
 #[derive(Drop)]
 pub enum LastStep<A: Allocator> {
-    /// Nothing that adds to the history.
+    /// A step that adds nothing to the history.
     Nothing,
-    /// What was refused is noted as missed.
+    /// An event or an error that was refused was counted as missed.
     Missed,
-    /// An event or an error was fed at a moment, to this end.
+    /// An event or an error was fed at a moment, with this answer. The flag says whether the event's path existed.
     Fed(Witness<Result<Event<A>, Error<A>>>, Moment, bool, Witness<Result<(), Error<A>>>),
-    /// A tick at a moment emitted these.
+    /// A tick at a moment emitted this.
     Ticked(Moment, Witness<Ticked<A>>),
-    /// A path was to be a root, to this end.
+    /// A path was to become a root, with this answer.
     Rooted(Witness<PathBuf<A>>, RecursiveMode, Witness<Result<(), Error<A>>>),
-    /// A path was to be no root any longer, to this end.
+    /// A path was to be a root no longer, with this answer.
     Unrooted(Witness<PathBuf<A>>, Witness<Result<(), Error<A>>>),
 }

@@ -1,4 +1,4 @@
-//! What lies under the lock.
+//! The value under the lock of a running debouncer.
 use crate::access::last_step::{Happened, LastStep};
 use debounce_book::Book;
 use debounce_cache::FileIdCache;
@@ -6,8 +6,8 @@ use debounce_lock::{Change, HasHistory, Lock, Pass, Witness};
 use std::alloc::Allocator;
 use std::sync::Arc;
 
-/// A book, how much was missed, and the last step that `Goes` gave back, also if it was refused: from it follows
-/// what the history gains. The count goes no further than 2^64 - 1.
+/// A book, the count of the events and errors that were missed, and the last step. The step is noted also if it was
+/// refused: contracts read off it what was added to the history. The count stops at 2^64 - 1.
 #[derive(Drop)]
 pub struct Locked<C: Drop, A: Allocator> {
     /// Boxed, as the lock moves what it guards.
@@ -27,7 +27,7 @@ impl<C: FileIdCache<A> + Drop, A: Allocator> HasHistory<Happened> for Locked<C, 
     ghost reserved = { reserved_for };
 }
 
-/// The history goes on by the step that was done.
+/// The last step is added to the history.
 pub struct Goes;
 
 impl<C: Drop, A: Allocator> Change<Locked<C, A>, Happened> for Goes {
@@ -36,7 +36,7 @@ impl<C: Drop, A: Allocator> Change<Locked<C, A>, Happened> for Goes {
     ghost makes = { λ before out l after now. Does l.made.value before out after now };
 }
 
-/// All entries are taken out, if a journal is kept.
+/// All entries are taken out of the journal, if one is kept.
 pub struct TakesOut;
 
 impl<C: Drop, A: Allocator> Change<Locked<C, A>, Happened> for TakesOut {
@@ -45,7 +45,7 @@ impl<C: Drop, A: Allocator> Change<Locked<C, A>, Happened> for TakesOut {
     ghost makes = { λ before out l after now. TakesAll l.book.value before out after now };
 }
 
-/// What one that reaches a book knows of it: its pass. It has no bytes.
+/// What an access to a book knows of the history: the pass of its lock. It takes no memory.
 pub type BookPass<C, A> = Pass<Locked<C, A>, Happened>;
 
 /// The lock of a book.

@@ -1,4 +1,4 @@
-//! Whether a journal is one of these scripts.
+//! Whether a journal can come from running these scripts side by side.
 ghost use Rattle.std.specs.Prelude.{◌≡◌, ◌↔◌, IsTrue};
 ghost use Rattle.std.specs.List.{AllByRecursion};
 ghost use Rattle.std.specs.Option.{option_map};

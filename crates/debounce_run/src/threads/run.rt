@@ -1,4 +1,4 @@
-//! Scripts in threads.
+//! Runs scripts of commands, each in a thread of its own.
 ghost use Rattle.std.specs.Prelude.{◌≡◌, ◌⊎◌, IfOk, IfErr};
 ghost use Rattle.debounce_book.specs.JournalLaws.{LosesNoChange, GivesRawPaths, InventsNoRename};
 ghost use Rattle.debounce_run.specs.Threads.Merged.{IsRefusal, IsRunOf, script_values};

@@ -12,8 +12,9 @@ use std::io;
 use std::marker::Model;
 use std::time::{Clock, Duration, Instant};
 
-/// A clock that counts from a start. Clauses see the moments that it has answered, in order: only
-/// [`Stopwatch::read`] adds one. Of how they pass std says nothing, and so no clause does.
+/// A clock that counts from a start. In contracts it stands for the moments that it has answered, in order: each call
+/// of [`Stopwatch::read`] adds one. The contract of std's clock doesn't say that its answers ascend, so no contract
+/// here does.
 #[derive(Drop)]
 pub struct Stopwatch {
     start: Instant,
@@ -29,7 +30,7 @@ impl Model for Stopwatch {
     ghost view = { λ s. answered s.answers };
 }
 
-/// The answers of a clock, for clauses. A clock keeps what clauses saw of them, which has no bytes.
+/// The answers of a clock so far, for contracts alone. They take no memory.
 #[derive(Drop)]
 struct Answers {
     before: Option<Witness<Answers>>,
@@ -84,8 +85,8 @@ pub fn now<R: Clock, A: Allocator>(rt: &R, alloc: A, start: Instant) -> Result<M
     moment_of(alloc, start.elapsed(rt))
 }
 
-/// The moment that a clock answered, or why it answered none. Of what std's clock answers no clause of std's says
-/// anything, and so no clause says that `now` passes on its answer.
+/// The moment that a clock answered, or why it answered none. The contract of std's clock doesn't say what it answers,
+/// so no contract here says that `now` passes the answer on.
 fn moment_of<A: Allocator>(alloc: A, answer: io::Result<Duration>) -> Result<Moment, Error<A>>
     ensures ok { IfOk answer (λ elapsed. result ≡ Ok (as_nanos elapsed)) }
     ensures err { IfErr answer (λ error. IsErrOf result (io_error (error_kind error))) }

@@ -1,4 +1,4 @@
-//! What a watcher reports to.
+//! The handler to which a debouncer's watcher reports.
 ghost use Rattle.std.specs.Prelude.{◌≡◌, [], true, IfErr, IfOk, OnErr, OnOk};
 ghost use Rattle.notify_paths.specs.Errors.{out_of_memory};
 ghost use Rattle.debounce_lock.specs.History.{Begins, picked};
@@ -22,8 +22,8 @@ use std::sync::atomic::Ordering;
 use std::sync::{Arc, Wait};
 use std::time::{Clock, Instant};
 
-/// The handler that a debouncer gives to its watcher: it alone feeds events and errors to the book. Clauses
-/// see how much of the book's history it has seen, and what its clock has answered.
+/// The handler that a debouncer gives to its watcher: it alone feeds events and errors to the book. In contracts it
+/// stands for what it has seen of the book's history, and the moments that its clock has answered.
 ///
 /// A debouncer has one, which can't be cloned.
 pub struct Feed<C: FileIdCache<A> + Drop, R: Wait + Drop, A: Allocator = Global> {
@@ -54,7 +54,7 @@ impl<C: FileIdCache<A> + Drop, R: Wait + Drop, A: Allocator> Model for Feed<C, R
 }
 
 impl<C: FileIdCache<A> + Drop, R: Wait + Copy + Drop, A: Allocator + Copy> Shared<C, R, A> {
-    /// The feed of the debouncer, which counts from this start, and alone feeds from then on.
+    /// Makes the feed of a debouncer. It counts moments from this start, and alone feeds from then on.
     pub fn new_feed(&mut self, start: Instant) -> Result<Feed<C, R, A>, Error<A>>
         requires { self.old.owner.feeds ≡ true }
         ensures same { StaysButFeeds self.old.owner self.new.owner }
@@ -82,8 +82,8 @@ impl<
 
     ghost handles = { FeedsItem };
 
-    /// Feeds an event or an error to the book, once, at the moment of the call. One that is refused is counted as
-    /// missed, under the lock for `finish`, and beside it for `Debouncer::missed`.
+    /// Feeds an event or an error to the book, once, at the moment of the call. If it is refused, it is counted as
+    /// missed twice: under the lock, for `Debouncer::finish`, and in a counter without a lock, for `Debouncer::missed`.
     fn handle_event(&mut self, event: Result<Event<A>, Error<A>>)
         ensures again { Unit {0} }
         ensures handled { FeedsItem self.old event self.new }
@@ -96,8 +96,8 @@ impl<
 }
 
 impl<C: FileIdCache<A> + Drop, R: Clock + Files + Wait + Drop, A: Allocator + Copy> Feed<C, R, A> {
-    /// Feeds an event or an error to the book, at the moment of the call, for which it reads its clock. One that is
-    /// refused isn't counted as missed.
+    /// Reads the clock, and feeds an event or an error to the book at this moment. If it is refused, it isn't counted
+    /// here.
     pub(crate) fn feed(&mut self, item: Result<Event<A>, Error<A>>) -> Result<(), Error<A>>
         ensures lock { self.new.lock ≡ self.old.lock }
         ensures ok { OnOk result (FedNow self.old item self.new) }
@@ -115,7 +115,7 @@ impl<C: FileIdCache<A> + Drop, R: Clock + Files + Wait + Drop, A: Allocator + Co
 }
 
 impl<C: FileIdCache<A> + Drop, R: Wait + Drop, A: Allocator> Feed<C, R, A> {
-    /// The pass alone, by which it fed.
+    /// Gives up the feed, and returns its pass, which had the right to feed.
     pub(crate) fn into_pass(self) -> BookPass<C, A>
         ensures lock { result.table_id ≡ self.lock }
         ensures free { result.me.1 ≡ [] }
@@ -131,7 +131,7 @@ impl<C: FileIdCache<A> + Drop, R: Wait + Drop, A: Allocator> Feed<C, R, A> {
     }
 }
 
-/// Whether the first path exists, if that decides what the event is; and else false.
+/// Whether the event's first path exists, where the debouncer needs to know that; else false.
 fn exists<R: Files, A: Allocator>(rt: &R, event: &Event<A>) -> bool {
     if event.kind != EventKind::Modify(ModifyKind::Name(RenameMode::Any)) {
         return false;

@@ -1,4 +1,4 @@
-//! A feed's way to a book.
+//! A feed's access to the book.
 ghost use Rattle.std.specs.Prelude.{◌≡◌, ◌++◌, ◌∷◌, [], true, IfErr, IfOk, OnErr};
 ghost use Rattle.debounce_run.specs.Access.Adds.{FeedsOn, GainsOne};
 ghost use Rattle.debounce_run.specs.Access.Happened.{Missed};
@@ -17,8 +17,8 @@ use std::marker::Model;
 use std::sync::Wait;
 use std::time::Clock;
 
-/// A feed's way to the book, by which alone is fed, and its clock. Clauses see how much of the book's history it
-/// has seen, and what the clock has answered.
+/// A feed's access to the book, which alone has the right to feed, and its clock. In contracts it stands for what it
+/// has seen of the book's history, and the moments that the clock has answered.
 #[derive(Drop)]
 pub struct Feeding<C: FileIdCache<A> + Drop, R: Wait + Drop, A: Allocator> {
     rt: R,
@@ -42,7 +42,7 @@ impl<C: FileIdCache<A> + Drop, R: Wait + Drop, A: Allocator> Model for Feeding<C
 }
 
 impl<C: FileIdCache<A> + Drop, R: Wait + Drop, A: Allocator> Feeding<C, R, A> {
-    /// A feed's way, by one that alone feeds.
+    /// Makes it of the access that has the right to feed.
     pub fn new(rt: R, access: Access<C, A>, clock: Stopwatch) -> Feeding<C, R, A>
         requires { access.feeds ≡ true }
         ensures { (result.lock ≡ access.lock) × (result.seen ≡ access.seen)
@@ -51,7 +51,7 @@ impl<C: FileIdCache<A> + Drop, R: Wait + Drop, A: Allocator> Feeding<C, R, A> {
         Feeding { rt, access, clock }
     }
 
-    /// Notes that an event or an error was refused.
+    /// Counts an event or an error that was refused as missed.
     pub fn miss(&mut self)
         ensures same { (self.new.lock ≡ self.old.lock) × (self.new.moments ≡ self.old.moments) }
         ensures missed { GainsOne self.old.seen Missed self.new.seen }
@@ -59,7 +59,7 @@ impl<C: FileIdCache<A> + Drop, R: Wait + Drop, A: Allocator> Feeding<C, R, A> {
         self.access.miss(&self.rt);
     }
 
-    /// The pass alone, by which it fed.
+    /// Gives up the access, and returns its pass, which had the right to feed.
     pub fn into_pass(self) -> BookPass<C, A>
         ensures lock { result.table_id ≡ self.lock }
         ensures free { result.me.1 ≡ [] }

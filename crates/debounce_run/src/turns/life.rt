@@ -30,8 +30,9 @@ pub struct Pace {
     pub tick: Duration,
 }
 
-/// The worker's life: turns, until it is to stop. Then it returns the pass by which it emitted, what `E` leaves of
-/// the handler, which was called with just what was emitted, and the clock, which gave the moments of all ticks.
+/// All that the worker's thread does: turns, until it is to stop. Then it returns its pass, which had the right to
+/// emit, what `E` leaves of the handler, and the clock. The handler was called with what was emitted and nothing
+/// else, and the clock answered the moment of each tick.
 pub fn turns<
     H: DebounceEventHandler<DebounceEventResult<A>>,
     E: Ending<H, L>,
@@ -63,8 +64,9 @@ pub fn turns<
     (pass, E::end(handler), clock)
 }
 
-/// Takes a turn after each whole sleep, until the stop flag is set, which also ends a sleep. A turn whose clock
-/// or tick is refused is counted: what was due waits for the next. After a refused tick errors were handed out.
+/// Takes a turn after each whole sleep. The stop flag ends this, and also ends a sleep. If the clock can't be read or
+/// the tick is refused, the turn is counted as refused, and the events that were due wait for the next turn. Even
+/// after a refused tick the handler is called with the errors.
 fn work<
     C: FileIdCache<A> + Drop,
     H: DebounceEventHandler<DebounceEventResult<A>>,
@@ -95,7 +97,7 @@ fn work<
     unreachable!()
 }
 
-/// One turn at this moment, for which it reads the clock. It is refused if that can't be read, or its tick is
+/// Reads the clock, and takes one turn at this moment. The turn is refused if the clock can't be read or the tick is
 /// refused.
 fn turn_now<
     C: FileIdCache<A> + Drop,

@@ -1,16 +1,16 @@
-//! What comes back of a handler once the debouncer's thread has ended.
+//! What a debouncer returns of its handler once its thread has ended.
 
-/// What comes back of a handler once the debouncer's thread has ended: itself, or [`NoHandler`].
+/// What a debouncer returns of its handler once its thread has ended: the handler itself, or [`NoHandler`].
 pub trait ReturnedHandler: Send + Drop + 'static {
     ghost use Rattle.debounce_run.specs.Access.Happened.{History};
 
-    /// What was emitted, from what was there at the start to what comes back.
+    /// How the handler at the start, the one that comes back, and all that was emitted in between belong together.
     ghost emitted: { Self → Self → History → Type 0 };
 }
 
-/// How a handler ends.
+/// What becomes of a handler when the worker ends.
 pub trait Ending<H, L> {
-    /// What it makes of a handler.
+    /// Which value it returns for which handler.
     ghost ends: { H → L → Type 0 };
 
     /// Returns what comes back of the handler.
@@ -18,7 +18,7 @@ pub trait Ending<H, L> {
         ensures { ends handler result };
 }
 
-/// Nothing comes back of a handler. It is the end of one that nobody asks for.
+/// Stands for a handler that was dropped, since nobody asked for it back.
 #[derive(Drop)]
 pub struct NoHandler;
 
@@ -35,7 +35,7 @@ impl<H: Drop> Ending<H, NoHandler> for NoHandler {
     }
 }
 
-/// The handler itself comes back.
+/// Returns the handler itself.
 pub struct Returned;
 
 impl<H> Ending<H, H> for Returned {

@@ -1,4 +1,4 @@
-//! What the threads of a debouncer share.
+//! The debouncer's own part of what its threads share.
 ghost use Rattle.std.specs.Prelude.{◌≡◌, [], true, IfErr, IfOk, IfSome, OnOk};
 ghost use Rattle.notify_paths.specs.Errors.{out_of_memory};
 ghost use Rattle.debounce_model.specs.Command.{RootCommand, RootedReply};
@@ -24,22 +24,22 @@ use std::sync::atomic::{AtomicBool, AtomicU64, Ordering};
 use std::sync::{Arc, Wait};
 use std::time::Clock;
 
-/// A debouncer's own way to its book, and the signals that it shares with its worker and its feed.
+/// The debouncer's own access to its book, and the signals between it, its worker and its feed.
 #[derive(Drop)]
 pub struct Shared<C: FileIdCache<A> + Drop, R: Wait + Drop, A: Allocator> {
     pub rt: R,
     pub alloc: A,
-    /// It alone takes entries out.
+    /// It alone takes entries out of the journal.
     pub owner: Access<C, A>,
     pub signals: Arc<Signals, A>,
 }
 
-/// What the threads of a debouncer tell each other. After 2^64 - 1 a count begins again at 0.
+/// The signals between the threads of a debouncer. After 2^64 - 1 a count begins again at 0.
 #[derive(Drop)]
 pub struct Signals {
     /// Set once the worker is to end.
     pub stop: AtomicBool,
-    /// How many events and errors of the watcher were refused, for whoever doesn't wait for the lock.
+    /// How many events and errors of the watcher were refused. It is read without the lock.
     pub missed: AtomicU64,
     /// How many turns of the worker were refused.
     pub refused_turns: AtomicU64,
@@ -86,7 +86,7 @@ impl<C: FileIdCache<A> + Drop, R: Wait + Copy + Drop, A: Allocator + Copy> Share
         })
     }
 
-    /// The worker's way to the book, which alone emits.
+    /// Makes the worker's access to the book, which alone emits.
     pub fn telling(&mut self) -> Result<Access<C, A>, Error<A>>
         requires { self.old.owner.tells ≡ true }
         ensures same { StaysButTells self.old.owner self.new.owner }
@@ -100,7 +100,7 @@ impl<C: FileIdCache<A> + Drop, R: Wait + Copy + Drop, A: Allocator + Copy> Share
         }
     }
 
-    /// The feed's way to the book, which alone feeds.
+    /// Makes the feed's access to the book, which alone feeds.
     pub fn feeding(&mut self) -> Result<Access<C, A>, Error<A>>
         requires { self.old.owner.feeds ≡ true }
         ensures same { StaysButFeeds self.old.owner self.new.owner }
@@ -149,8 +149,8 @@ impl<
 }
 
 impl<C: FileIdCache<A> + Drop, R: Wait + Drop, A: Allocator + Copy> Shared<C, R, A> {
-    /// Returns the timeout and a copy of the journal at the end, if one is kept and nothing was taken out of it;
-    /// else no entries. `teller` is the worker's pass, by which all was emitted that was.
+    /// Returns the timeout and a copy of the journal at the end. There are no entries if no journal is kept, or some
+    /// were taken out. `teller` is the worker's pass: it had the right to emit.
     pub fn into_journal(
         mut self,
         teller: BookPass<C, A>,
@@ -171,8 +171,8 @@ impl<C: FileIdCache<A> + Drop, R: Wait + Drop, A: Allocator + Copy> Shared<C, R,
 }
 
 impl<C: FileIdCache<A> + Drop, R: Wait + Clock + Drop, A: Allocator + Copy> Shared<C, R, A> {
-    /// Waits until no other reaches the book, and returns it with the count of what was missed. `worker` is the pass by
-    /// which all was emitted that was, and by this feed alone was fed.
+    /// Waits until every other access to the book is gone, and returns the book and how many events and errors were
+    /// missed. `worker` is the pass that had the right to emit, and the feed alone had the right to feed.
     pub fn into_book(self, worker: BookPass<C, A>, feed: Feed<C, R, A>) -> (Book<C, A>, u64)
         requires keeps { self.owner.keeps ≡ true }
         requires lock { (worker.table_id ≡ self.owner.lock) × (worker.me.1 ≡ []) }

@@ -1,4 +1,4 @@
-//! The worker's way to a book.
+//! The worker's access to the book.
 ghost use Rattle.std.specs.Prelude.{◌≡◌, ◌++◌, ◌∷◌, [], true, IfErr, IfOk, OnErr};
 ghost use Rattle.debounce_run.specs.Access.Adds.{TicksOn};
 ghost use Rattle.debounce_run.specs.Access.Stands.{known_history, tells_of};
@@ -17,8 +17,8 @@ use std::marker::Model;
 use std::sync::Wait;
 use std::time::Clock;
 
-/// The worker's way to the book, by which alone is emitted, and its clock. Clauses see how much of the book's
-/// history it has seen, and what the clock has answered.
+/// The worker's access to the book, which alone has the right to emit, and its clock. In contracts it stands for what
+/// it has seen of the book's history, and the moments that the clock has answered.
 #[derive(Drop)]
 pub struct Ticking<C: FileIdCache<A> + Drop, R: Wait + Drop, A: Allocator> {
     rt: R,
@@ -42,7 +42,7 @@ impl<C: FileIdCache<A> + Drop, R: Wait + Drop, A: Allocator> Model for Ticking<C
 }
 
 impl<C: FileIdCache<A> + Drop, R: Wait + Drop, A: Allocator> Ticking<C, R, A> {
-    /// The worker's way, by one that alone emits.
+    /// Makes it of the access that has the right to emit.
     pub fn new(rt: R, access: Access<C, A>, clock: Stopwatch) -> Ticking<C, R, A>
         requires { access.tells ≡ true }
         ensures { (result.lock ≡ access.lock) × (result.seen ≡ access.seen)
@@ -51,7 +51,7 @@ impl<C: FileIdCache<A> + Drop, R: Wait + Drop, A: Allocator> Ticking<C, R, A> {
         Ticking { rt, access, clock }
     }
 
-    /// The pass alone, by which it emitted, and the clock.
+    /// Gives up the access, and returns its pass, which had the right to emit, and the clock.
     pub fn into_pass(self) -> (BookPass<C, A>, Stopwatch)
         ensures lock { result.0.table_id ≡ self.lock }
         ensures free { result.0.me.1 ≡ [] }

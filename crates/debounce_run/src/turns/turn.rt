@@ -1,4 +1,4 @@
-//! A feed, over whatever is fed, and a turn of the worker, over whatever gives ticks.
+//! One feed and one turn, over traits: a real book implements them, and so do the stand-ins of tests.
 ghost use Rattle.std.specs.Prelude.{◌≡◌, ℕ, Bool, Result};
 ghost use Rattle.debounce_run.specs.Turns.Turn.{Turns, HandsBatch, HandsErrors, refusal_of};
 
@@ -7,40 +7,40 @@ use notify_types::{DebouncedEvent, Moment};
 use notify_watch::{DebounceEventHandler, DebounceEventResult};
 use std::alloc::Allocator;
 
-/// Where events and errors are fed: a feed's way to its book, and in a test what stands for one. `I` is an event
-/// and `E` an error.
+/// Takes events and errors: a feed's access to the book, or a stand-in for it in a test. `I` is an event and `E` an
+/// error.
 ///
 /// The parameters have no bounds, so that the trait can be implemented over any allocator.
 pub trait FeedGate<I, E> {
-    /// What one feed answers and leaves.
+    /// What one call of `feed` answers, and the value after it.
     ghost feeds: { Self → Result I E → ℕ → Bool → Result (Unit {0}) E → Self → Type 0 };
 
-    /// Takes an event at a moment, or keeps an error of the watcher. `exists` says whether an event's
-    /// first path exists then.
+    /// Takes an event at a moment, or an error of the watcher. `exists` says whether the event's first path existed at
+    /// this moment.
     fn feed(&mut self, item: Result<I, E>, now: Moment, exists: bool) -> Result<(), E>
         ensures { feeds self.old item now exists result self.new };
 }
 
-/// What a turn is taken over: the worker's way to its book, and in a test what stands for one. `E` is an error,
-/// `B` a batch and `L` a list of errors.
+/// Ticks: the worker's access to the book, or a stand-in for it in a test. `E` is an error, `B` a batch and `L` a
+/// list of errors.
 ///
 /// The parameters have no bounds, so that the trait can be implemented over any allocator.
 pub trait TickGate<E, B, L> {
-    /// What one tick emits and leaves.
+    /// What one tick emits, and the value after it.
     ghost ticks: { Self → ℕ → Result B E → L → Self → Type 0 };
 
-    /// Emits what is expired at the moment: the batch, or why there is none, and beside it the errors.
+    /// Emits what is old enough at this moment: the batch, or why there is none, and apart from it the errors.
     fn tick(&mut self, now: Moment) -> (Result<B, E>, L)
         ensures { ticks self.old now result.0 result.1 self.new };
 }
 
-/// What is fed and takes turns: whatever is both. Of a debouncer's own ways none is, as its feed may not emit,
-/// and its worker may not feed.
+/// Takes events and ticks: whatever does both. In a running debouncer nothing does, since the feed may not emit and the
+/// worker may not feed.
 pub trait Gate<I, E, B, L>: FeedGate<I, E> + TickGate<E, B, L> {}
 
 impl<I, E, B, L, G: FeedGate<I, E> + TickGate<E, B, L>> Gate<I, E, B, L> for G {}
 
-/// One feed: what a watcher's event comes to.
+/// Feeds one event or error.
 pub fn feed_one<I, E, G: FeedGate<I, E>>(
     gate: &mut G,
     item: Result<I, E>,
@@ -52,8 +52,8 @@ pub fn feed_one<I, E, G: FeedGate<I, E>>(
     gate.feed(item, now, exists)
 }
 
-/// One turn of the worker: one tick, whose batch goes to the handler if there is one and it isn't
-/// empty, and then the errors if there are any. If the tick is refused, that is the answer.
+/// Takes one turn: ticks once, calls the handler with the batch unless it is empty, and then with the errors if there
+/// are any. The answer says whether the tick was refused, and why.
 pub fn turn<
     A: Allocator,
     G: TickGate<Error<A>, Vec<DebouncedEvent<A>, A>, Vec<Error<A>, A>>,
@@ -69,8 +69,7 @@ pub fn turn<
     answer
 }
 
-/// Calls the handler with the batch, if there is one and it isn't empty. If it was refused, that is
-/// the answer.
+/// Calls the handler with the batch, if there is one and it isn't empty. If the batch was refused, the answer says why.
 fn hand_batch<A: Allocator, H: DebounceEventHandler<DebounceEventResult<A>>>(
     batch: Result<Vec<DebouncedEvent<A>, A>, Error<A>>,
     handler: &mut H,
