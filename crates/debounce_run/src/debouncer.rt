@@ -45,9 +45,9 @@ use std::time::{Clock, Duration};
 /// A debouncer that runs: a watcher of type `T` feeds it, and a thread of its own calls the handler.
 /// `C` is the cache of file numbers, and `R` the runtime.
 ///
-/// Clauses see its watcher, with what it was made, the history of its book as far as it has seen it, and the
-/// parts of the journal that were taken out. `L` is what comes back of the handler at the end; of [`NoHandler`]
-/// clauses see nothing.
+/// In contracts it stands for its watcher, the feed and the configuration with which the watcher was made, the history
+/// of its book as far as it has seen it, and the entries that were taken out of the journal. `L` is the handler that
+/// [`Debouncer::finish`] returns, or [`NoHandler`], of which contracts say nothing.
 ///
 /// Dropping it asks its thread to end, and waits neither for it nor for the watcher's thread. What still waits
 /// then is dropped.
@@ -156,9 +156,8 @@ pub struct Start {
 /// timeout. The watcher is made with the debouncer's [`Feed`] and with `config`.
 ///
 /// A tick rate above the timeout is refused as `Generic`, with the empty text, before memory is asked
-/// for and before anything starts. Otherwise what fails is a clock or a thread (`Io`), an allocation
-/// (`Memory`), or the watcher, whose own error is passed on; then nothing goes on running, once the
-/// debouncer's thread has seen that it is to end.
+/// for and before anything starts. Otherwise the error is `Io` if a clock or a thread fails, `Memory` if an allocation
+/// fails, or the watcher's own error. Then the debouncer's thread, if it was started, ends by itself.
 ///
 /// A thread sleeps a millisecond at least, also if the tick rate is less, and looks ten times a second
 /// whether it is to end.
