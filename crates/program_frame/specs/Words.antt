@@ -35,7 +35,7 @@ status_of_kind DisplayVersion = 0
 status_of_kind OutOfMemory = 4
 status_of_kind kind = 2
 
--- the status is that of one of the kinds, or memory ran out
+-- the exit status is that of an error of one of these kinds, or that of a failed allocation
 abbrev pub IsStatusAmong : Kinds → ℕ → Type 0
 IsStatusAmong kinds status =
     (status ≡ 4) ⊎ ((kind : ErrorKind) × IsAmong kind kinds × (status ≡ status_of_kind kind))

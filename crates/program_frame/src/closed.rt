@@ -1,4 +1,4 @@
-//! How a program ends whose watcher can't look at all paths.
+//! The exit status of a program whose watcher couldn't look at some paths.
 ghost use Rattle.std.specs.Prelude.{◌≡◌, ◌⊎◌, Ok, Err, MatchResult};
 ghost use Rattle.program_frame.specs.Faults.{ended};
 ghost use Rattle.program_frame.specs.declared.fault.Fault.TheVariants.{Incomplete};
@@ -13,19 +13,20 @@ pub struct ClosedPaths {
 }
 
 impl ClosedPaths {
-    /// Returns the number of a watcher that has looked at all.
+    /// Returns the number for a watcher that could look at all paths.
     pub fn new() -> ClosedPaths {
         ClosedPaths {
             count: AtomicU64::new(0),
         }
     }
 
-    /// Takes the number.
+    /// Sets the number.
     pub(crate) fn set(&self, paths: u64) {
         self.count.store(paths, Ordering::SeqCst);
     }
 
-    /// Returns how the program ends after this run: if it went well, but there are such paths, not all could be done.
+    /// Returns how the program ends after this run. A run that went well counts as incomplete if there are such
+    /// paths.
     pub fn end(&self, run: Result<(), Fault>) -> Result<(), Fault>
         ensures { MatchResult run (λ _. (result ≡ Ok tt) ⊎ (result ≡ Err Incomplete))
             (λ fault. result ≡ Err fault) }
@@ -34,7 +35,7 @@ impl ClosedPaths {
     }
 }
 
-/// How a program ends after this run, if its watcher couldn't look at so many paths.
+/// Returns how a program ends after this run, if its watcher couldn't look at so many paths.
 fn ended(paths: u64, run: Result<(), Fault>) -> Result<(), Fault>
     ensures { result ≡ ended paths run }
 {

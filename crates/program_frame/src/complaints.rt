@@ -7,21 +7,21 @@ use crate::ends::{write_names_skipped, write_too_deep};
 use crate::fault::Fault;
 use std::io::Write;
 
-/// A program's name, and where it says what goes wrong with what it watches.
+/// Writes what goes wrong with the folders that a program watches: the program's name, and where it writes.
 #[derive(Drop)]
 pub struct Complaints<'n, E: Drop> {
     program: &'n str,
     err: E,
-    /// It has said that names are left out.
+    /// Whether it has said that names are skipped.
     has_left_out: bool,
-    /// It has said that folders lie too deep.
+    /// Whether it has said that folders lie too deep.
     has_too_deep: bool,
-    /// Where it notes how many paths can't be looked at, if it does.
+    /// Where the number of paths that can't be looked at is noted, if anywhere.
     closed: Option<&'n ClosedPaths>,
 }
 
 impl<'n, E: Write + Drop> Complaints<'n, E> {
-    /// Returns those of this program, which has said nothing yet.
+    /// Makes one for a program that has said nothing yet.
     pub fn new(program: &'n str, err: E) -> Complaints<'n, E>
         ensures program { result.program ≡ program.entry }
         ensures output { result.err ≡ err }
@@ -36,7 +36,7 @@ impl<'n, E: Write + Drop> Complaints<'n, E> {
         }
     }
 
-    /// Returns the same, which note at the end how many paths can't be looked at.
+    /// Also notes, at the end, how many paths can't be looked at.
     pub fn counting(self, closed: &'n ClosedPaths) -> Complaints<'n, E>
         ensures program { result.program ≡ self.entry.program }
         ensures output { result.err ≡ self.entry.err }
@@ -56,8 +56,8 @@ impl<'n, E: Write + Drop> Complaints<'n, E> {
         }
     }
 
-    /// Says which one of several folders can't be watched, if the fault is about that, and returns the fault by
-    /// which the program ends, as [`Fault::say_watched`].
+    /// If the fault says that a folder can't be watched, writes which of several it is. Returns the fault with which
+    /// the program ends, as [`Fault::say_watched`] does.
     pub fn refuse(&mut self, fault: Fault, folder: &str) -> Fault
         ensures fault { result ≡ said_fault fault }
         ensures silent { said_fault fault ≡ fault → E.contents self.new.err
@@ -68,7 +68,7 @@ impl<'n, E: Write + Drop> Complaints<'n, E> {
         fault.say_watched(self.program, folder, &mut self.err)
     }
 
-    /// Says by [`write_names_skipped`] how many names are left out, the first time that any is.
+    /// Writes how many names are skipped ([`write_names_skipped`]), the first time that some are.
     pub fn leave_out(&mut self, names: u64)
         ensures none { names ≡ 0 → self.new ≡ self.old }
         ensures once { self.old.has_left_out ≡ true → self.new ≡ self.old }
@@ -83,7 +83,7 @@ impl<'n, E: Write + Drop> Complaints<'n, E> {
         let _ = write_names_skipped(names, self.program, &mut self.err);
     }
 
-    /// Says by [`write_too_deep`] how many folders aren't looked into, the first time that any isn't.
+    /// Writes how many folders aren't looked into ([`write_too_deep`]), the first time that some aren't.
     pub fn leave_deep(&mut self, folders: u64)
         ensures none { folders ≡ 0 → self.new ≡ self.old }
         ensures once { self.old.has_too_deep ≡ true → self.new ≡ self.old }

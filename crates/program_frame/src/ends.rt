@@ -24,8 +24,8 @@ pub fn end<E: Write>(run: Result<(), Fault>, program: &str, watched: &str, err: 
     }
 }
 
-/// Writes that the program watches this from now on: `NAME: watching FOLDER`. Whoever starts the program
-/// waits for this line, since what changes after it is reported.
+/// Writes that the program watches this from now on: `NAME: watching FOLDER`. Changes after this line are reported,
+/// so a script that starts the program waits for the line.
 pub fn write_watching<E: Write>(watched: &str, program: &str, err: &mut E) -> io::Result<()>
     ensures line { OnOk result (Appends (E.contents err.old) (E.contents err.new)
         (watching_line program.now watched.now)) }
@@ -33,7 +33,7 @@ pub fn write_watching<E: Write>(watched: &str, program: &str, err: &mut E) -> io
     writeln!(err, "{program}: watching {watched}")
 }
 
-/// Writes a line for each error that the watcher had. It looks again, so no change is lost by one.
+/// Writes a line for each error of the watcher. The watcher looks again later, so no change is lost.
 pub fn write_errors<E: Write>(errors: &[Error], program: &str, err: &mut E)
     ensures none { errors.now ≡ [] → E.contents err.new ≡ E.contents err.old }
 {
@@ -42,7 +42,7 @@ pub fn write_errors<E: Write>(errors: &[Error], program: &str, err: &mut E)
     }
 }
 
-/// Writes the error's line: which path can't be looked at, and why, or else the error's word.
+/// Writes the line of an error: which path can't be looked at and why, or else the error's name.
 fn write_error<E: Write>(error: &Error, program: &str, err: &mut E) -> io::Result<()> {
     match (&error.kind, error.paths.as_slice()) {
         (ErrorKind::Io(cause), [path]) => {
@@ -56,8 +56,8 @@ fn write_error<E: Write>(error: &Error, program: &str, err: &mut E) -> io::Resul
     }
 }
 
-/// Writes how many events, errors and batches were lost, if any was: an allocation failed, or the clock
-/// could not be read.
+/// Writes how many events, errors and batches were lost, if some were. They are lost if an allocation fails or the
+/// clock can't be read.
 pub fn write_missed<E: Write>(missed: u64, program: &str, err: &mut E)
     ensures none { missed ≡ 0 → E.contents err.new ≡ E.contents err.old }
 {
@@ -66,8 +66,8 @@ pub fn write_missed<E: Write>(missed: u64, program: &str, err: &mut E)
     }
 }
 
-/// Writes how many folders aren't looked into, if any isn't:
-/// `NAME: 3 folders lie 64 levels deep, and what is in them is left out`.
+/// Writes into how many folders the watcher doesn't look, if there are some: `NAME: 3 folders lie 64 levels deep, and
+/// what is in them is left out`.
 pub fn write_too_deep<E: Write>(folders: u64, program: &str, err: &mut E) -> io::Result<()>
     ensures none { folders ≡ 0 → E.contents err.new ≡ E.contents err.old }
     ensures line { OnOk result (Appends (E.contents err.old) (E.contents err.new)
@@ -88,7 +88,7 @@ pub fn write_too_deep<E: Write>(folders: u64, program: &str, err: &mut E) -> io:
     )
 }
 
-/// Writes how many names are left out, if any is: `NAME: 3 names are not UTF-8 and are left out`.
+/// Writes how many names are skipped, if some are: `NAME: 3 names are not UTF-8 and are left out`.
 pub fn write_names_skipped<E: Write>(names: u64, program: &str, err: &mut E) -> io::Result<()>
     ensures none { names ≡ 0 → E.contents err.new ≡ E.contents err.old }
     ensures line { OnOk result (Appends (E.contents err.old) (E.contents err.new)

@@ -16,29 +16,29 @@ use std::io::Write;
 pub enum Fault {
     /// A word after the program's name isn't UTF-8.
     NotUtf8,
-    /// A pattern isn't a regular expression. Who read it has said so, with the pattern and the place.
+    /// A pattern isn't a regular expression. A line with the pattern and the place was written already.
     NotPattern,
     /// An allocation failed.
     Memory,
     /// The folder or file that is to be watched isn't there.
     NotThere,
-    /// The folder and its copy lie one in the other.
+    /// Of a folder and its copy, one lies in the other.
     NotApart,
     /// The folder or file can't be watched.
     CannotWatch,
-    /// One of several folders can't be watched. Who tried has said which one, and why.
+    /// One of several folders can't be watched. A line that says which one and why was written already.
     NotWatched,
     /// The file of hints isn't there.
     NoHints,
-    /// Hints are to be read from standard input, which the program reads for something else.
+    /// Hints are to be read from standard input, but the program reads something else there.
     InputTaken,
-    /// A word says what stands after each hint, and none where hints are read.
+    /// An option says what ends each hint, but none says where hints are read.
     ZerosWithoutHints,
     /// The output can't be written, for instance since its reader is gone.
     OutputFailed,
     /// A thread can't be started.
     NoThread,
-    /// Something that was to be done failed, and was said when it did.
+    /// Something that the program was to do failed. A line about it was written when it did.
     Incomplete,
     /// A call of the file system failed.
     Io,
@@ -67,7 +67,7 @@ impl Fault {
         }
     }
 
-    /// Returns the exit status of a program that ends so.
+    /// Returns the exit status of a program that ends with this fault.
     pub fn status(self) -> u8
         ensures { result ≡ fault_status self }
     {

@@ -1,3 +1,3 @@
-//! Runs of a program that follows reports, which a fault ended: what the source gave until then, and what the program
-//! was called with. A program that says what it has done after a fault stands on this. The definitions stand in `specs/`,
-//! the proofs in `proofs/`; there is no code here.
+//! Runs that a fault ended: what the source of reports had given until then, and with what the program was called. A
+//! contract that says what a program has done when it ends with a fault uses these definitions. They stand in
+//! `specs/` and the proofs in `proofs/`; there is no code here.

@@ -5,7 +5,7 @@
 //! read_hints(&mut rt.reader(), lines, &mut sink)?;
 //! ```
 //!
-//! The sink gets each hint, and finds by a [`HintedFolder`] which path it names.
+//! The sink gets each hint. A [`HintedFolder`] says which path the hint names.
 
 mod folder;
 mod lines;

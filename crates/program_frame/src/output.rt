@@ -1,4 +1,4 @@
-//! Bytes that are out at once.
+//! Writing with a flush.
 ghost use Rattle.std.specs.Prelude.{◌≡◌, OnOk, OnErr, IfErr};
 ghost use Rattle.std.specs.Io.KnownBytes.{Appends};
 ghost use Rattle.program_frame.specs.Whole.Output.{WritesFront};

@@ -16,10 +16,10 @@ use clap::ArgMatches;
 pub use hints::{HintWords, hints_of};
 use std::time::Duration;
 
-/// How old an event is when it is emitted, at least, in milliseconds, if no word says it.
+/// How old an event is when it is emitted, at least, in milliseconds, if no option says it.
 const TIMEOUT: u64 = 500;
 
-/// How long the watcher sleeps between two looks, in milliseconds, if no word says it.
+/// How long the watcher sleeps between two looks, in milliseconds, if no option says it.
 const INTERVAL: u64 = 250;
 
 /// How long one of the `--ticks` is, in milliseconds.
@@ -103,7 +103,7 @@ pub fn number_of(matches: &ArgMatches<'_>, name: &str, other: u64) -> u64
     matches.get_one::<u64>(name).unwrap_or(other)
 }
 
-/// Returns the life that the words give, if one does.
+/// Returns after how long the program is to end, if an option says it.
 fn life_of(matches: &ArgMatches<'_>) -> Option<Duration>
     ensures endless { one_text (found_of matches.now) (codes "seconds") ≡ None
         → one_text (found_of matches.now) (codes "ticks") ≡ None → result ≡ None }

@@ -1,8 +1,8 @@
-//! The loop of a program that follows reports, over whatever gives them.
+//! The loop of a program that follows reports, over any source.
 //!
-//! [`hand_on`] hands on each report that is given until the life is over, and [`take_rest`] what was not
-//! given yet. Their contracts say so of any [`GivesReports`] and any [`TakesReports`], by what the two say of
-//! their own calls.
+//! [`hand_on`] passes each report to the program until the run is over, and [`take_rest`] passes on the reports that
+//! are left. Their contracts hold for each source ([`GivesReports`]) and each program ([`TakesReports`]), and use
+//! what these two say of their own calls.
 
 mod batch_taker;
 mod batches;

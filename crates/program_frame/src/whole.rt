@@ -1,7 +1,7 @@
-//! Bytes that are written whole, or as far as the output takes them.
+//! Writing all bytes, or as many as the output takes.
 //!
-//! Std says nothing of what its `write_all` has written when it fails. Here that is a beginning of the
-//! bytes.
+//! The contract of std's `write_all` doesn't say what was written when it fails. The one here does: a beginning of
+//! the bytes.
 //!
 //! ```text
 //! write_bytes(text.as_bytes(), &mut out)?;

@@ -17,12 +17,12 @@ use std::{env, io};
 /// The version of each program, which is that of the Rust crate.
 const VERSION: &str = "0.6.0";
 
-/// A place on a command line, as `DIR`: how `--help` writes it, and what it says of it.
+/// A place on a command line, as `DIR`: its name and its text in `--help`.
 #[derive(Clone, Copy, Debug)]
 pub struct PlaceWord<'a> {
-    /// How it is written.
+    /// Its name.
     pub name: &'a str,
-    /// What is said of it.
+    /// The text that explains it.
     pub help: &'a str,
 }
 
@@ -61,7 +61,7 @@ pub fn command_of_places<'a>(
     with_options(alloc, line)
 }
 
-/// Returns a place of this id, which has to be given.
+/// Returns a required place with this id.
 pub fn place_arg<'a>(alloc: Global, id: &'a str, place: PlaceWord<'a>) -> Arg<'a>
     ensures id { result.id ≡ id.entry }
     ensures local { result.global ≡ false }
@@ -262,8 +262,8 @@ pub fn words_of<R: Env + AllocGlobal>(rt: &R) -> Result<Vec<String>, Fault>
     }
 }
 
-/// Reads the words by the command line. If they don't fit, or ask for help or the version, what there is to
-/// say was printed, and the program ends with this status.
+/// Reads the words of the command line. If they don't fit, or ask for help or the version, it prints the text for
+/// that, and the error is the program's exit status.
 pub fn matches_of<'a, R: Print + Eprint>(
     rt: &R,
     command: Result<Command<'a>, AllocError>,
@@ -282,8 +282,8 @@ pub fn matches_of<'a, R: Print + Eprint>(
     }
 }
 
-/// Prints what there is to say, and returns the status: 0 for help and the version, 4 if an allocation
-/// failed, and else 2.
+/// Prints the text of the error, and returns the exit status: 0 for help and the version, 4 if an allocation failed,
+/// and else 2.
 fn print<R: Print + Eprint>(rt: &R, error: &Error) -> u8
     ensures status { result ≡ status_of_kind (kind_of error.now) }
     ensures known { (result ≡ 0) ⊎ ((result ≡ 2) ⊎ (result ≡ 4)) }

@@ -1,4 +1,4 @@
--- Hints: what the lines of an input ask for, and how they are given.
+-- Hints: what the lines of an input ask for, and the calls that pass them on.
 use Rattle.std.specs.Prelude.{◌≡◌, ◌≤◌, ℕ, Bool, true, false, not, ◌&&◌, List, [], ◌∷◌, ◌++◌, map, length, nat_le, ◌==◌, Option, None, Some, if◌then◌else◌, vec_capacity, ◌⊎◌}
 use Rattle.std.specs.Str.{is_utf8}
 use Rattle.std.specs.List.{list_any}
@@ -11,7 +11,7 @@ abbrev pub end_byte : Ends → ℕ
 end_byte Lines = 10
 end_byte Zeros = 0
 
--- the byte stands before the first line, or is one alone
+-- put a byte before the first line of these; if there are no lines, it is a line by itself
 abbrev pub with_first : ℕ → List (List ℕ) → List (List ℕ)
 with_first byte [] = (byte ∷ []) ∷ []
 with_first byte (line ∷ lines) = (byte ∷ line) ∷ lines
@@ -30,7 +30,8 @@ longest = 4096
 abbrev pub text_in : List ℕ → Option (List ℕ)
 text_in bytes = if is_utf8 bytes then Some bytes else None
 
--- what a line asks for: a look at the path that it names, or, if it is empty, too long or not UTF-8, at all
+-- what a line asks for: a look at the path that it names. An empty line, and one that is too long or not UTF-8, asks
+-- for a look at everything
 abbrev pub hint_of : List ℕ → Option (List ℕ)
 hint_of line =
     if not (length line == 0) && nat_le (length line) longest then text_in line else None
@@ -39,8 +40,8 @@ hint_of line =
 abbrev pub hints_of : Ends → List ℕ → List (Option (List ℕ))
 hints_of ends bytes = map hint_of (lines_of (end_byte ends) bytes)
 
--- the hints are given one after the other, until one is answered by false; the last answer is this, or true if
--- there is none
+-- the hints are passed on one after the other, until a call answers false. This is the last answer, or true if there
+-- was no call
 abbrev pub Gives : {S : Type 0} → (S → Option (List ℕ) → Bool → S → Type 0) → List (Option (List ℕ)) → Bool → S → S →
     Type 0
 Gives takes [] on old new = (on ≡ true) × (new ≡ old)
@@ -48,13 +49,14 @@ Gives {S} takes (hint ∷ hints) on old new =
     (takes old hint false new × (on ≡ false))
     ⊎ ((between : S) × takes old hint true between × Gives takes hints on between new)
 
--- whatever follows: who gives the hints that are left from here on has given all of them
+-- for each way to go on: if the hints that are left are passed on from here, then all of them have been passed on
+-- from the beginning
 abbrev pub Leads : {S : Type 0} → (S → Option (List ℕ) → Bool → S → Type 0) → (List ℕ → List (Option (List ℕ))) → S →
     (List ℕ → List (Option (List ℕ))) → S → Type 0
 Leads {S} takes all old left now =
     (more : List ℕ) (on : Bool) (new : S) → Gives takes (left more) on now new → Gives takes (all more) on old new
 
--- a line that is being read: what stands after it, and its bytes, unless they are too many
+-- a line that is being read: the byte that ends it, and its bytes so far, unless the line is too long
 pub record LinesValue : Type 0 where
   pub ends : Ends
   pub held : Option (List ℕ)
@@ -86,6 +88,6 @@ held_hint (Some line) = hint_of line
 abbrev pub IsHeld : {A : Type 0} → Vec ℕ A → Type 0
 IsHeld bytes = (longest ≤ vec_capacity bytes) × (length bytes.items ≤ longest)
 
--- what was read of the line is this, in which no line ends
+-- these bytes of the line were read, and none of them ends a line
 abbrev pub Holds : LinesValue → List ℕ → Type 0
 Holds lines line = (lines.held ≡ held_of line) × (list_any (λ byte. byte == end_byte lines.ends) line ≡ false)

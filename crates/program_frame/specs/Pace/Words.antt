@@ -1,4 +1,4 @@
--- Numbers that the words of a command line give.
+-- The numbers on a command line.
 use Rattle.std.specs.Prelude.{◌≡◌, ◌<◌, ◌^◌, ℕ, List, Option, Some}
 use Rattle.std.specs.Duration.{as_nanos}
 use Rattle.std.specs.declared.time.Duration.{Duration}
@@ -11,10 +11,10 @@ abbrev pub Reads : List ℕ → ℕ → Type 0
 Reads text n = let digits = without_leading_plus text in
     IsNumeral 10 digits × (digits_value 10 digits ≡ n) × (n < 2 ^ 64)
 
--- the words give this number by this name
+-- the command line has this number for the option of this name
 abbrev pub Gives : ArgMatches → List ℕ → ℕ → Type 0
 Gives matches name n = (text : List ℕ) × (one_text (found_of matches) name ≡ Some text) × Reads text n
 
--- the life is so many nanoseconds long
+-- the program is to end after so many nanoseconds
 abbrev pub IsLife : Option Duration → ℕ → Type 0
 IsLife life nanos = (d : Duration) × (life ≡ Some d) × (as_nanos d ≡ nanos)

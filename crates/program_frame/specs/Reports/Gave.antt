@@ -1,23 +1,24 @@
--- What a source gave, and what a program was called with, one beside the other.
+-- What a source of reports gave, and with what a program was called.
 use Rattle.std.specs.Prelude.{◌≡◌, ℕ, List, [], ◌∷◌, ◌++◌, Option, Some, Ok, map}
 use Rattle.std.specs.declared.time.Duration.{Duration}
 use Rattle.program_frame.specs.declared.reports.source.WaitResult.TheVariants.{Over}
 use Rattle.program_frame.specs.declared.reports.source.Rest.{Rest}
 use Rattle.program_frame.specs.Reports.Loop.{Calls, Program, Source, Step, wait_result_of}
 
--- each wait gave one of these, in order, and the last that the life is over
+-- each wait gave one of these steps, in order, and the last wait said that the run is over
 abbrev pub GaveEach : {S : Type 0} → Source S → List Step → S → S → Type 0
 GaveEach source [] s s' = (pause : Option Duration) × source.gives s pause Over s'
 GaveEach {S} source (step ∷ steps) s s' =
     (pause : Option Duration) × (s1 : S) × source.gives s pause (wait_result_of step) s1 × GaveEach source steps s1 s'
 
--- these are all that the source gave, in order: what was waited for, and then what was left; so much was lost
+-- these steps are all that the source gave, in order: by waits, and then from what was left at the end. So much was
+-- lost
 abbrev pub Gave : {S : Type 0} → Source S → S → List Step → ℕ → Type 0
 Gave {S} source s steps missed =
     (waited : List Step) × (s' : S) × (rest : Rest) × GaveEach source waited s s' × source.ends s' (Ok rest)
     × (steps ≡ waited ++ map (λ report. Some report) rest.reports.items) × (missed ≡ rest.missed)
 
--- the program was called with each of these, in order, once, and no call failed
+-- the program was called once for each of these steps, in order, and no call failed
 abbrev pub CalledWith : {P : Type 0} → Program P → List Step → P → P → Type 0
 CalledWith program [] p p' = p' ≡ p
 CalledWith {P} program (step ∷ steps) p p' =

@@ -7,7 +7,7 @@ ghost use Rattle.program_frame.specs.Hints.Places.{place_below, place_of};
 use notify_paths::{Error, PathBuf};
 use std::alloc::{Allocator, Global};
 
-/// A folder that is watched, as the watcher names it, and as the system does, if it says so.
+/// A folder that is watched, by the path that the watcher uses, and by its real path if the system says it.
 #[derive(Drop)]
 pub struct HintedFolder<A: Allocator = Global> {
     pub given: PathBuf<A>,

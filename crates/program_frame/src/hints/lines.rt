@@ -7,7 +7,7 @@ use crate::hints::reading::TakesHints;
 use std::alloc::{AllocError, Allocator, Global};
 use std::marker::Model;
 
-/// How many bytes a path has at most. A longer line asks for a look at all.
+/// How many bytes a path has at most. A longer line asks for a look at everything.
 const LONGEST: usize = 4_096;
 
 /// What stands after each path.
@@ -30,7 +30,7 @@ impl Ends {
     }
 }
 
-/// The line that is being read. All memory that it takes is asked for at its beginning.
+/// The line that is being read. All its memory is allocated at the beginning.
 #[derive(Drop)]
 pub struct HintLines<A: Allocator = Global> {
     ends: Ends,
@@ -60,8 +60,8 @@ impl<A: Allocator> HintLines<A> {
         })
     }
 
-    /// Takes more bytes, and gives the hint of each line that ends in them, until one is answered by
-    /// false. Answers whether none was.
+    /// Takes more bytes, and passes the hint of each line that ends in them to the sink, until the sink answers
+    /// false. Returns false if it did.
     pub fn take<T: TakesHints>(&mut self, bytes: &[u8], sink: &mut T) -> bool
         ensures same { self.new.ends ≡ self.old.ends }
         ensures taken { (line : _) → Holds self.old line → result ≡ true → (rest : _)
@@ -83,7 +83,7 @@ impl<A: Allocator> HintLines<A> {
         true
     }
 
-    /// Gives the hint of the last line, if something stands in it. Answers whether the sink goes on.
+    /// Passes the hint of the last line to the sink, if the line isn't empty. Returns whether the sink takes more.
     pub fn finish<T: TakesHints>(&mut self, sink: &mut T) -> bool
         ensures { (line : _) → Holds self.old line
             → Gives T.takes (hints_of self.old.ends line) result sink.old sink.new }
@@ -111,7 +111,7 @@ impl<A: Allocator> HintLines<A> {
         }
     }
 
-    /// Gives the hint of the line, and begins the next one. Answers whether the sink goes on.
+    /// Passes the hint of the line to the sink, and begins the next line. Returns whether the sink takes more.
     fn give<T: TakesHints>(&mut self, sink: &mut T) -> bool
         ensures given { T.takes sink.old (held_hint self.old.held) result sink.new }
         ensures left { self.new ≡ record self.old { held = Some [] } }
@@ -125,7 +125,7 @@ impl<A: Allocator> HintLines<A> {
         goes_on
     }
 
-    /// The path that the line names. `None` stands for all.
+    /// The path that the line names. `None` asks for a look at everything.
     fn hint(&self) -> Option<&str>
         ensures { option_copied result ≡ held_hint self.now.held }
     {

@@ -12,26 +12,27 @@ use std::io::{ErrorKind, Read};
 /// How many bytes are asked for at once.
 const CHUNK: usize = 4_096;
 
-/// Takes hints. Each call answers whether it takes more.
+/// Takes hints. The answer of each call says whether it takes more.
 pub trait TakesHints {
-    /// What a call with this hint, which answers so, makes of the sink. A hint is a path's text; `None` is a
-    /// look at all.
+    /// A call: the sink before, the hint, the answer, and the sink after. A hint is a path's text, or `None` for a
+    /// look at everything.
     ghost takes: { Self → Option (List ℕ) → Bool → Self → Type 0 };
 
     /// Asks for a look at the path.
     fn look_at(&mut self, path: &str) -> bool
         ensures { takes self.old (Some path.now) result self.new };
 
-    /// Asks for a look at all.
+    /// Asks for a look at everything.
     fn look_at_all(&mut self) -> bool
         ensures { takes self.old None result self.new };
 }
 
-/// Reads hints to the input's end, and gives each to the sink, until one is answered by false. A line that is
-/// empty, has more than 4,096 bytes or isn't UTF-8 asks for a look at all. What stands after the last end is a
-/// hint too. An error of the input ends it in the same way, and is returned. Answers whether the sink goes on.
+/// Reads hints to the input's end, and passes each to the sink, until the sink answers false. A line that is empty,
+/// has more than 4,096 bytes or isn't UTF-8 asks for a look at everything. Text after the last end of a line is a
+/// hint too. An error of the input ends the reading in the same way, and is returned. The answer says whether the
+/// sink takes more.
 ///
-/// It waits for the input as long as that takes.
+/// It waits for the input, however long that takes.
 pub fn read_hints<S: Read, A: Allocator, T: TakesHints>(
     source: &mut S,
     mut lines: HintLines<A>,

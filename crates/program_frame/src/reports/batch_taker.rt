@@ -1,4 +1,4 @@
-//! A program that takes batches, as one that follows reports.
+//! Makes a program that takes reports of one that takes batches.
 ghost use Rattle.std.specs.Prelude.{◌≡◌, ◌==◌, ◌++◌, [], length, None, Some, if◌then◌else◌};
 ghost use Rattle.program_frame.specs.Reports.Batches.{EndsBy, TakesBatch, TakesEvents, TakesIfSome, of_batches};
 ghost use Rattle.program_frame.specs.Faults.{end_status};
@@ -14,10 +14,10 @@ use std::marker::Model;
 use std::mem;
 use std::time::Duration;
 
-/// How long nothing is reported before events that were asked for come again, in milliseconds.
+/// How long nothing is reported before a program gets the events again for which it asked, in milliseconds.
 const PAUSE: u64 = 1000;
 
-/// A program that takes batches, the places that its words name, and where its errors are written to.
+/// A program that takes batches, the places on its command line, and where its errors are written.
 #[derive(Drop)]
 pub struct BatchTaker<'n, P: Drop, E: Drop> {
     alloc: Global,
@@ -26,7 +26,7 @@ pub struct BatchTaker<'n, P: Drop, E: Drop> {
     program: P,
     /// The events that the program asked for again.
     waiting: Vec<DebouncedEvent>,
-    /// How long it waits before they come again.
+    /// How long it waits before it gets them again.
     pause: Duration,
     err: E,
 }
@@ -45,7 +45,7 @@ impl<'n, P: Drop, E: Drop> Model for BatchTaker<'n, P, E> {
 }
 
 impl<'n, P: TakesBatches, E: Write + Drop> BatchTaker<'n, P, E> {
-    /// Returns the program of this name, which has asked for nothing yet.
+    /// Makes one for the program of this name, which has asked for no events again yet.
     pub fn new(
         alloc: Global,
         name: &'n str,
@@ -75,8 +75,9 @@ impl<'n, P: TakesBatches, E: Write + Drop> BatchTaker<'n, P, E> {
         self.program.wants_initial()
     }
 
-    /// Says how many events, errors and batches were lost, if any was, and has the program take once more what it
-    /// asked for, at the end. What it asks for again then is said, a line each, and is not done.
+    /// Ends the program: writes how many events, errors and batches were lost, if some were, and gives the program
+    /// once more the events for which it had asked. For those that it asks for again, it writes a line each, and they
+    /// stay undone.
     pub fn finish(&mut self, missed: u64) -> Result<(), Fault>
         ensures ended { EndsBy P.takes self.old result self.new }
     {
@@ -89,15 +90,15 @@ impl<'n, P: TakesBatches, E: Write + Drop> BatchTaker<'n, P, E> {
         Err(Fault::Incomplete)
     }
 
-    /// Returns the exit status of the program's run, and writes the line of its fault, as [`end`], for what is
-    /// watched as the words have it.
+    /// Returns the exit status of the program's run, and writes the line of its fault, as [`end`] does. The line
+    /// names what is watched as the command line does.
     pub fn end(mut self, run: Result<(), Fault>, watched: &str) -> u8
         ensures status { result ≡ end_status run }
     {
         end(run, self.name, watched, &mut self.err)
     }
 
-    /// Has the program take what it asked for, if it asked for something.
+    /// Gives the program the events for which it asked, if there are some.
     fn hand_again(&mut self) -> Result<(), Fault>
         ensures again { TakesIfSome P.takes self.old.waiting self.old result self.new }
     {
@@ -108,7 +109,7 @@ impl<'n, P: TakesBatches, E: Write + Drop> BatchTaker<'n, P, E> {
         self.hand(events)
     }
 
-    /// Has the program take these events, and keeps what it asks for again.
+    /// Gives the program these events, and keeps those for which it asks again.
     fn hand(&mut self, events: Vec<DebouncedEvent>) -> Result<(), Fault>
         ensures taken { TakesEvents P.takes events.items self.old result self.new }
     {
@@ -119,7 +120,7 @@ impl<'n, P: TakesBatches, E: Write + Drop> BatchTaker<'n, P, E> {
         Ok(())
     }
 
-    /// Puts what was asked for again before the batch, and has the program take all.
+    /// Gives the program the events for which it asked again, and then those of the batch, in one call.
     fn hand_batch(&mut self, mut batch: Vec<DebouncedEvent>) -> Result<(), Fault>
         ensures taken { TakesBatch P.takes batch self.old result self.new }
     {
@@ -157,7 +158,7 @@ impl<P: TakesBatches, E: Write + Drop> TakesReports for BatchTaker<'_, P, E> {
         }
     }
 
-    /// What was asked for comes again after a pause.
+    /// After a pause the program gets the events again for which it asked.
     fn patience(&self) -> Option<Duration> {
         if self.waiting.is_empty() {
             None
@@ -171,7 +172,7 @@ impl<P: TakesBatches, E: Write + Drop> TakesReports for BatchTaker<'_, P, E> {
     }
 }
 
-/// Writes a line for each event that was asked for in vain.
+/// Writes a line for each event that stays undone.
 fn write_undone<E: Write>(events: &[DebouncedEvent], program: &str, err: &mut E) {
     for event in events {
         if let Some(path) = event.first_path() {

@@ -12,38 +12,38 @@ pub struct Places {
     pub second: PathBuf,
 }
 
-/// What a program answers that has taken a batch.
+/// A program's answer to a batch.
 #[derive(Drop)]
 pub enum Taken {
     /// All was done.
     All,
-    /// Something failed, and the program asks for these events again. They come before those of the next batch, or
-    /// else after a pause, and once more at the end; what was asked for then and is asked for again ends the
-    /// program by `Fault::Incomplete`. If none are asked for, all was done.
+    /// Something failed, and the program asks for these events again. It gets them before the events of the next
+    /// batch, or after a pause, or at the end. If it asks for some of them again at the end, it ends with
+    /// `Fault::Incomplete`. An empty list stands for `All`.
     Again(Vec<DebouncedEvent>),
 }
 
 /// What a program does with the batches of a folder.
 ///
-/// Its ghost members say what its beginning and a batch make of it, for whoever proves something of the program; by
-/// default nothing is said.
+/// The ghost members are for proofs about the program: they say how it begins and how it takes a batch. By default
+/// they say nothing.
 pub trait TakesBatches: Drop {
     ghost use Rattle.program_frame.specs.Reports.Batches.{Begins, Takes, Wants};
 
-    /// What its beginning makes of it.
+    /// How it begins.
     ghost begins: { Begins Self } = { λ _ _ _ _. Unit {0} };
 
-    /// What a batch makes of it.
+    /// How it takes a batch.
     ghost takes: { Takes Self } = { λ _ _ _ _ _. Unit {0} };
 
-    /// What it answers to whether it wants what is there already.
+    /// Whether it wants what is there already.
     ghost wants: { Wants Self } = { λ _ _. Unit {0} };
 
     /// Whether what is there already is in the first batches, as created.
     fn wants_initial(&self) -> bool
         ensures { wants self.now result };
 
-    /// What it does first. The folder is watched: what changes from now on comes in batches. An error ends the
+    /// Is called first. The folder is watched already: changes from now on come in batches. An error ends the
     /// program.
     fn begin(&mut self, places: &Places) -> Result<(), Fault>
         ensures { begins self.old places.now result self.new };

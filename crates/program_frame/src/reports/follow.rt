@@ -8,8 +8,8 @@ use crate::reports::taker::TakesReports;
 use notify_watch::DebounceEventResult;
 use std::sync::Wait;
 
-/// Hands on each report that the source gives, until the life is over or the program answers a fault. If
-/// nothing came for as long as the program waits, it is told so by `pass`.
+/// Passes each report of the source to the program, until the run is over or the program answers a fault. If nothing
+/// came for as long as the program waits, it calls `pass`.
 pub fn hand_on<R: Wait, S: GivesReports, P: TakesReports>(
     rt: &R,
     source: &mut S,
@@ -29,7 +29,7 @@ pub fn hand_on<R: Wait, S: GivesReports, P: TakesReports>(
     unreachable!()
 }
 
-/// Has the program take each, until it answers a fault.
+/// Passes these reports to the program, until it answers a fault.
 fn take_each<P: TakesReports>(
     reports: Vec<DebounceEventResult>,
     program: &mut P,
@@ -44,8 +44,8 @@ fn take_each<P: TakesReports>(
     Ok(())
 }
 
-/// Has the program take what is left, if that could be had, report by report until it answers a fault. Returns
-/// how many events, errors and batches were lost.
+/// Passes the reports that are left to the program, until it answers a fault. Returns how many events, errors and
+/// batches were lost. If the source failed to return what is left, its fault is the answer.
 pub fn take_rest<P: TakesReports>(rest: Result<Rest, Fault>, program: &mut P) -> Result<u64, Fault>
     ensures { TakesRest
         (record { begins = P.begins; patience = P.waits; takes = P.takes; passes = P.passes })

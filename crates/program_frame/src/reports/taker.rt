@@ -7,27 +7,27 @@ use std::time::Duration;
 
 /// A program that follows reports.
 ///
-/// Its ghost members say what its calls make of it, for whoever proves something of the program; by default
-/// nothing is said, but of how long it waits.
+/// The ghost members are for proofs about the program: they say what each call does. By default they say nothing,
+/// except how long the program waits.
 pub trait TakesReports: Drop {
     ghost use Rattle.std.specs.declared.alloc.Global.{Global};
     ghost use Rattle.std.specs.declared.time.Duration.{Duration};
     ghost use Rattle.notify_watch.specs.Handler.{Outcome};
     ghost use Rattle.program_frame.specs.Reports.Loop.{Answer};
 
-    /// What its beginning answers and leaves.
+    /// How it begins: the program before, its answer, and the program after.
     ghost begins: { Self → Answer → Self → Type 0 } = { λ _ _ _. Unit {0} };
 
-    /// What a report makes of it.
+    /// How it takes a report.
     ghost takes: { Self → Outcome Global → Answer → Self → Type 0 } = { λ _ _ _ _. Unit {0} };
 
     /// How long it waits for the next report at most.
     ghost waits: { Self → Option Duration } = { λ _. None };
 
-    /// What a wait that gave nothing makes of it.
+    /// How it takes a wait in which nothing came.
     ghost passes: { Self → Answer → Self → Type 0 } = { λ _ _ _. Unit {0} };
 
-    /// What it does once the folder is watched: what changes from now on is reported.
+    /// Is called once the folder is watched: changes from now on are reported.
     fn begin(&mut self) -> Result<(), Fault>
         ensures { begins self.old result self.new };
 
@@ -35,11 +35,11 @@ pub trait TakesReports: Drop {
     fn take(&mut self, report: DebounceEventResult) -> Result<(), Fault>
         ensures { takes self.old report result self.new };
 
-    /// How long it waits for the next report at most. `None` says: as long as it takes.
+    /// How long it waits for the next report at most. `None` stands for no limit.
     fn patience(&self) -> Option<Duration>
         ensures { result ≡ waits self.now };
 
-    /// What it does if nothing was reported for so long.
+    /// Is called if nothing was reported for so long.
     fn pass(&mut self) -> Result<(), Fault>
         ensures { passes self.old result self.new };
 }
