@@ -10,8 +10,8 @@ use Rattle.program_reports.specs.Folders.Rest.{IsLeft}
 use Rattle.program_reports.specs.Folders.Start.{Followed, IsOpened, IsStartFault}
 use Rattle.program_reports.specs.Folders.Waits.{GivesOne}
 
--- a folder's reports: a wait gives the next of its queue, and at the end what was emitted was given or is left, and
--- what waits is left
+-- the reports of a folder, as a source: a wait gives the next report of the queue, and at the end the source gives
+-- all that was emitted and not given yet, and then what is pending
 abbrev pub folder_source : Source Followed
 folder_source = record {
   gives = λ before pause given after. (after.made ≡ before.made) × (after.seen ≡ before.seen)
@@ -19,11 +19,11 @@ folder_source = record {
   ends = λ s ended. IfErr ended (λ e. e ≡ Memory) × IfOk ended (IsLeft s);
 }
 
--- this is so of the reports of a debouncer that was started at this pace, and of which these paths are roots
+-- `is_so` holds of the reports of some debouncer that was started at this pace and of which these paths are roots
 abbrev pub OfReports : Pace → List PathValue → RecursiveMode → (Followed → Type 0) → Type 0
 OfReports pace paths mode is_so = (s : Followed) × IsOpened pace paths mode s × is_so s
 
--- the folder couldn't be watched, and the program was not called
+-- the folders couldn't be watched, and the program was not called
 abbrev pub NeverBegins : {P : Type 0} → P → Result ℕ Fault → P → Type 0
 NeverBegins before answer after = (fault : Fault) × IsStartFault fault × (answer ≡ Err fault) × (after ≡ before)
 

@@ -1,4 +1,4 @@
-//! Whether two places lie apart.
+//! Checks that neither of two places lies in the other.
 ghost use Rattle.std.specs.Prelude.{◌≡◌, ◌⊎◌, IfErr};
 ghost use Rattle.program_frame.specs.declared.fault.Fault.TheVariants.{NotApart, NotThere};
 
@@ -6,8 +6,8 @@ use program_frame::Fault;
 use std::fs::{self, Files};
 use std::path::{Path, PathBuf};
 
-/// It is a fault if one of the places lies in the other, also if the second isn't there yet, or if the first isn't
-/// there.
+/// Checks that neither of two places lies in the other. The second need not be there yet. It is a fault if one lies
+/// in the other, or if the first isn't there.
 pub(crate) fn check_apart<R: Files + AllocGlobal>(rt: &R, from: &str, to: &str) -> Result<(), Fault>
     ensures err { IfErr result (λ e. (e ≡ NotThere) ⊎ (e ≡ NotApart)) }
 {
@@ -30,7 +30,7 @@ pub(crate) fn check_apart<R: Files + AllocGlobal>(rt: &R, from: &str, to: &str) 
     Ok(())
 }
 
-/// The path of what is there without links and dots. The empty path stands for the current folder.
+/// Returns the path without links and dots of what is there. The empty path stands for the current folder.
 fn real_path<R: Files + AllocGlobal>(rt: &R, place: Path<'_>) -> Option<PathBuf> {
     if place.as_os_str().is_empty() {
         fs::canonicalize(rt, ".").ok()

@@ -1,5 +1,5 @@
-//! What is reported of folders, until a program's life is over: a debouncer that watches them, hints from
-//! another program, the end of standard input, and what still waits then.
+//! The reports of folders, until a program's run is over. Here are a debouncer that watches the folders, hints from
+//! another program, the end of standard input, and the reports that are left at the end.
 //!
 //! ```text
 //! let mut reports = FolderReports::start(rt, &folder, RecursiveMode::Recursive, pace, complaints)?;

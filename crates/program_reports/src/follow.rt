@@ -10,11 +10,10 @@ use program_frame::reports::{TakesReports, hand_on, take_rest};
 use program_frame::{Complaints, Fault, Pace};
 use std::io::Write;
 
-/// Watches the folder, has the program begin, and hands on each report until the program's life is over, and
-/// then what was not given yet: what was emitted, and all that waited, as one batch. What is there already is
-/// reported first if `pace.initial` says so, as created.
-/// Returns how many events, errors and batches were lost: an allocation failed, or the clock could not be
-/// read.
+/// Watches the folder, begins the program, and passes each report to it until the run is over. Then it passes on the
+/// reports that are left: those that were emitted, and then all pending events as one batch. If `pace.initial` says
+/// so, what is there already is reported first, as created.
+/// Returns how many events, errors and batches were lost, since an allocation failed or the clock could not be read.
 pub fn follow_folder<R: DebouncerRuntime + AllocGlobal, P: TakesReports, E: Write + Drop>(
     rt: R,
     folder: &PathBuf,
@@ -31,7 +30,7 @@ pub fn follow_folder<R: DebouncerRuntime + AllocGlobal, P: TakesReports, E: Writ
     follow(rt, reports, program)
 }
 
-/// Watches the file's folder, as [`FolderReports::start_file`], and goes on as [`follow_folder`].
+/// Watches the file's folder as [`FolderReports::start_file`] does, and goes on as [`follow_folder`] does.
 pub fn follow_file<R: DebouncerRuntime + AllocGlobal, P: TakesReports, E: Write + Drop>(
     rt: R,
     folder: &PathBuf,
@@ -48,7 +47,7 @@ pub fn follow_file<R: DebouncerRuntime + AllocGlobal, P: TakesReports, E: Write 
     follow(rt, reports, program)
 }
 
-/// Watches each of the folders, as [`FolderReports::start_all`], and goes on as [`follow_folder`].
+/// Watches each of the folders as [`FolderReports::start_all`] does, and goes on as [`follow_folder`] does.
 pub fn follow_folders<R: DebouncerRuntime + AllocGlobal, P: TakesReports, E: Write + Drop>(
     rt: R,
     folders: &[PathBuf],
@@ -65,7 +64,7 @@ pub fn follow_folders<R: DebouncerRuntime + AllocGlobal, P: TakesReports, E: Wri
     follow(rt, reports, program)
 }
 
-/// Has the program begin, hands on each report until its life is over, and then what was not given yet.
+/// Begins the program, passes each report to it until the run is over, and then those that are left.
 fn follow<R: DebouncerRuntime + AllocGlobal, P: TakesReports, E: Write + Drop>(
     rt: R,
     mut reports: FolderReports<'_, R, E>,

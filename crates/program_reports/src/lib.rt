@@ -1,12 +1,12 @@
-//! The loop of a program that watches: what is reported of a folder until the program's life is over,
-//! and what still waits then.
+//! The loop of a program that watches a folder: it gets each report until its run is over, and then the reports that
+//! are left.
 //!
 //! ```text
 //! let missed = follow_folder(rt, &folder, RecursiveMode::Recursive, pace, &mut program)?;
 //! ```
 //!
-//! A program that is driven by something else, as by its input, starts a [`FolderReports`] of [`folders`], asks for each
-//! report by `next` or `next_within`, and for the rest by `finish`.
+//! A program that has a loop of its own, for instance over its input, starts a [`FolderReports`] of [`folders`]. It
+//! gets each report by `next` or `next_within`, and those that are left by `finish`.
 #![tactic(auto)]
 
 mod apart;

@@ -1,4 +1,4 @@
-//! What a batch says of its paths, one by one.
+//! A batch as steps, each about one path.
 ghost use Rattle.std.specs.Prelude.{◌≡◌, ◌++◌, map, IfOk, OnOk};
 ghost use Rattle.std.specs.Map.{keys_of};
 ghost use Rattle.reader_paths.specs.Plan.Naming.{naming, removing};
@@ -10,11 +10,11 @@ use reader_paths::plan::{name_path, name_removed, wanted};
 use std::alloc::{AllocError, Global};
 use std::collections::BTreeMap;
 
-/// Returns events of one path each, in the order in which a program takes them that keeps something for each path:
-/// first the removals of the batch, in order, and then the paths that the batch wants, as
-/// `reader_paths::plan::wanted`, in their order, with nothing said of each. At a removal drop what is kept of the
-/// path and of all below it, whatever stands there again: the next look reports that as created. At any other look
-/// at what stands there, and make it so. Ask again for what fails.
+/// Returns events of one path each, for a program that keeps something for each path, in the order in which to take
+/// them. First come the removals of the batch, in order, and then the paths that the batch wants
+/// (`reader_paths::plan::wanted`), in their order and without a kind. At a removal, drop what is kept for the path
+/// and all below it, even if something stands there again: the next look reports that as created. At any other event,
+/// look at what stands at the path, and keep that. Ask again for the events of paths that fail.
 pub fn path_by_path(
     alloc: Global,
     batch: &[DebouncedEvent],

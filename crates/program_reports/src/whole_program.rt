@@ -35,13 +35,12 @@ const FOLDER: PlaceWord<'static> = PlaceWord {
 };
 
 /// Runs a program whose words are `DIR`, `--timeout`, `--interval`, `--hints`, `--hints-zero`, `--seconds`,
-/// `--ticks`, `--until-eof` and `--help`:
-/// watches the folder with all below it, says so on `err` (`NAME: watching DIR`), and hands on each batch
-/// until the program's life is over, and then, as one batch, all that waits; what the program asks for again comes
-/// again. Returns the exit status: 1 also if the run went well, but there are paths that couldn't be looked at when
-/// the watcher ended.
-/// Faults, errors of the watcher and the number of lost events are written to `err`; what there is to say of
-/// the words is printed, and that names are left out on the runtime's standard error.
+/// `--ticks`, `--until-eof` and `--help`. It watches the folder and all below it, and writes `NAME: watching DIR` to
+/// `err`. It passes each batch to the program until the run is over, and then all pending events as one batch. The
+/// program gets the events again for which it asks. The answer is the exit status. It is 1 also after a run that went
+/// well, if some paths couldn't be looked at when the watcher ended.
+/// Faults, errors of the watcher and the number of lost events are written to `err`. The texts about the words, for
+/// instance the help, are printed. The line about skipped names goes to the runtime's standard error.
 pub fn run_program<
     R: DebouncerRuntime + AllocGlobal + Env + Print + Eprint,
     P: TakesBatches,
@@ -63,8 +62,8 @@ pub fn run_program<
     }
 }
 
-/// Runs a program as [`run_program`], whose words name a second place after `DIR`. The two must lie apart: if one lies
-/// in the other, it is a fault (`NotApart`), and nothing is watched.
+/// Runs a program as [`run_program`] does, with a second place after `DIR`. If one of the two places lies in the
+/// other, it is a fault (`NotApart`), and nothing is watched.
 pub fn run_program_of_two<
     R: DebouncerRuntime + AllocGlobal + Env + Print + Eprint,
     P: TakesBatches,
@@ -180,7 +179,7 @@ fn run_at<R: DebouncerRuntime + AllocGlobal + Eprint, P: TakesBatches, E: Write 
     }
 }
 
-/// The places that the words name. It is a fault if one of two lies in the other.
+/// Returns the places on the command line. It is a fault if one of two lies in the other.
 fn places_of_line<R: Files + AllocGlobal>(rt: &R, matches: &ArgMatches<'_>) -> Result<Places, Fault>
     ensures ok { IfOk result (λ places. places ≡ named_places matches.now) }
     ensures err { IfErr result IsRefusal }
@@ -205,7 +204,7 @@ fn path_of(alloc: Global, text: &str) -> Result<PathBuf, AllocError>
     }
 }
 
-/// The runtime's standard error. A program's own is lent to who takes its batches.
+/// The runtime's standard error. The `err` of the program is lent to the call that takes batches.
 #[derive(Drop)]
 struct StandardError<R: Drop> {
     rt: R,

@@ -29,14 +29,14 @@ abbrev pub IsListOf : List ErrorValue → List (Outcome Global) → Type 0
 IsListOf [] reports = reports ≡ []
 IsListOf (e ∷ es) reports = (errors : Vec ErrorValue Global) × (errors.items ≡ e ∷ es) × (reports ≡ Err errors ∷ [])
 
--- the reports are what waits: the events as one batch in their order, and then the errors
+-- the reports are what is pending in this state: the events as one batch in their order, and then the errors
 abbrev pub Waits : State → List (Outcome Global) → Type 0
 Waits state reports =
     (events : List Timed) × (batch : List (Outcome Global)) × (errors : List (Outcome Global))
     × IsOutlook state events × IsBatchOf events batch × IsListOf state.errors errors × (reports ≡ batch ++ errors)
 
--- what a debouncer that ended left as reports: what is left in its queue, and then what waits in its book; and how much
--- was missed, or could not be put into the queue, counted to 2^64 - 1
+-- the reports that are left when a debouncer has ended: those in its queue, and then what is pending in its book. The
+-- count is of what was missed or could not be put into the queue, and stops at 2^64 - 1
 pub record IsRestOf {C : Type 0} (book : BookValue C) (queue : List (Outcome Global)) (missed unsent : ℕ) (rest : Rest)
     : Type 0 where
   pub waiting : List (Outcome Global)
@@ -44,17 +44,17 @@ pub record IsRestOf {C : Type 0} (book : BookValue C) (queue : List (Outcome Glo
   pub reports : rest.reports.items ≡ queue ++ waiting
   pub missed_is : rest.missed ≡ min (missed + unsent) (2 ^ 64 - 1)
 
--- how the work of a folder's watcher ends: its feed was called, and with initial events with just what leads from
--- nothing to what was found last
+-- how the work of a folder's watcher ends: it called its feed; with initial events these calls lead from nothing to
+-- the listing that was found last, and there were no others
 abbrev pub ends_polling : Known → Config → Known → LastFound Global → Type 0
 ends_polling begun config now found =
     EndsPolling FeedsItem begun config now found.polled.last
     × FindsTree None found.went_well found.polled.roots found.polled.last
 
--- what is left when the debouncer ends of which this was seen, and whose queue gave this: one history goes on from what
--- was seen, what was emitted in it was given or is left in the queue, each once and in order, it leads to the book, and
--- the reports are those of this queue and this book. What was fed in it is what the watcher's feed shows, whose work
--- has ended with what was found last
+-- what is left when the debouncer of `s` has ended. There is one history: it goes on from what was seen, and leads to
+-- the book. All that was emitted in it was given as a report or is left in the queue, each once and in order. All
+-- that was fed in it came from the watcher, whose work has ended with what it found last. The reports that are left
+-- are those of this queue and this book
 pub record IsLeft (s : Followed) (rest : Rest) : Type 0 where
   pub book : BookValue NoCache
   pub parts : List EntryValue

@@ -1,4 +1,4 @@
-//! A folder that is watched, apart from the wait for its reports.
+//! The watching part of a folder's reports, without the wait for them.
 ghost use Rattle.std.specs.Prelude.{◌≡◌, IfErr, IfOk};
 ghost use Rattle.program_reports.specs.Folders.Rest.{IsLeft};
 ghost use Rattle.program_reports.specs.Folders.Start.{followed};
@@ -17,7 +17,7 @@ use std::io::Write;
 /// The debouncer of a folder's reports.
 pub(crate) type Watching<R> = QueueingDebouncer<RecommendedWatcher<R>, R>;
 
-/// A folder that is watched, apart from the wait for its reports: `FolderReports::apart`.
+/// The watching part of a folder's reports, without the wait for them. `FolderReports::apart` returns it.
 #[derive(Drop)]
 pub struct FolderWatch<'n, R: DebouncerRuntime, E: Drop> {
     rt: R,
@@ -26,7 +26,7 @@ pub struct FolderWatch<'n, R: DebouncerRuntime, E: Drop> {
 }
 
 impl<'n, R: DebouncerRuntime + AllocGlobal, E: Write + Drop> FolderWatch<'n, R, E> {
-    /// Returns what this debouncer watches.
+    /// Makes it of a debouncer that watches folders.
     pub(crate) fn new(
         rt: R,
         debouncer: Watching<R>,
@@ -41,17 +41,17 @@ impl<'n, R: DebouncerRuntime + AllocGlobal, E: Write + Drop> FolderWatch<'n, R, 
         }
     }
 
-    /// How many names of the folder are left out, since they aren't UTF-8.
+    /// Returns how many names in the folder are skipped, since they aren't UTF-8.
     pub(crate) fn names_skipped(&self) -> u64 {
         self.debouncer.watcher().names_skipped()
     }
 
-    /// How many folders lie so deep that what is in them is left out.
+    /// Returns into how many folders the watcher doesn't look, since they lie too deep.
     pub(crate) fn folders_too_deep(&self) -> u64 {
         self.debouncer.watcher().folders_too_deep()
     }
 
-    /// Says how many these are, once each, if any is.
+    /// Writes these two numbers, each once, if it isn't 0.
     pub(crate) fn say_skipped(&mut self)
         ensures same { self.new.debouncer ≡ self.old.debouncer }
     {
@@ -61,7 +61,7 @@ impl<'n, R: DebouncerRuntime + AllocGlobal, E: Write + Drop> FolderWatch<'n, R, 
         self.complaints.leave_deep(folders);
     }
 
-    /// Returns what tells how many paths can't be looked at, also after the end.
+    /// Returns the counter of the paths that can't be looked at. It can be read after the end too.
     fn closed(&self) -> Result<ClosedCount, Fault>
         ensures err { IfErr result (λ e. e ≡ Memory) }
     {
@@ -71,7 +71,7 @@ impl<'n, R: DebouncerRuntime + AllocGlobal, E: Write + Drop> FolderWatch<'n, R, 
         }
     }
 
-    /// Ends the folder's reports, as `FolderReports::finish`.
+    /// Ends the folder's reports, as `FolderReports::finish` does.
     pub fn finish(mut self, waiting: ReportWait<R>) -> Result<Rest, Fault>
         requires tied { IsTied self.debouncer.began waiting.queue }
         ensures ok { IfOk result (IsLeft (followed self.entry.debouncer waiting)) }

@@ -1,8 +1,8 @@
-//! Hints, and the end of standard input, which threads of their own read.
+//! Threads that read hints, and standard input to its end.
 //!
-//! Nothing waits for such a thread. It may stand in a read that nothing in this language can end, and so
-//! whoever waited for it might wait for ever. It holds no report and no part of the debouncer, only the
-//! handle by which it asks the watcher for looks, so nothing is lost when the program ends before it does.
+//! Nothing waits for such a thread. It may be in a read that nothing in this language can end, so a program that
+//! waited for it might wait for ever. The thread holds no report and no part of the debouncer, only the handle by
+//! which it asks the watcher for looks. So nothing is lost if the program ends before the thread does.
 ghost use Rattle.std.specs.Prelude.{◌≡◌, ◌⊎◌, [], Some, IfErr};
 ghost use Rattle.program_frame.specs.declared.fault.Fault.TheVariants.{Memory, NoHints, NoThread};
 
@@ -16,7 +16,7 @@ use std::sync::Wait;
 use std::thread::Threads;
 use std::{fs, io, thread};
 
-/// Standard input, as a file: a thread to which the runtime's own is sent has no proof.
+/// Standard input, opened as a file. A thread that gets the runtime's own standard input can't be proved.
 const STANDARD_INPUT: &str = "/dev/stdin";
 
 /// Asks the watcher for looks in the folders.
@@ -30,8 +30,8 @@ struct HintSink<R: Wait + Drop> {
 impl<R: Wait + Copy + Drop> TakesHints for HintSink<R> {
     ghost takes = { λ before hint on after. after.folders ≡ before.folders };
 
-    /// Looks in each folder that the hint is about. If there is no memory for a path, all is looked at. What lies
-    /// elsewhere is passed over.
+    /// Asks for a look in each folder that the hint is about. If there is no memory for a path, it asks for a look at
+    /// everything. A hint about something else is ignored.
     fn look_at(&mut self, path: &str) -> bool {
         let mut goes_on = true;
         for folder in self.folders.as_slice() {
@@ -64,7 +64,7 @@ fn look_in<R: Wait + Copy + Drop>(
 struct HintTask<R: Wait + Drop> {
     rt: R,
     file: String,
-    /// What the lines are gathered in. It is asked for before the thread starts.
+    /// The buffer for the lines. It is allocated before the thread starts.
     lines: HintLines,
     sink: HintSink<R>,
     input: InputEnd,
@@ -87,7 +87,7 @@ impl<R: Wait + Files + Alloc + Copy + Drop> HintTask<R> {
     }
 }
 
-/// The work of a thread that passes over standard input, and says when that has ended.
+/// The work of a thread that reads standard input and ignores it, and signals its end.
 #[derive(Drop)]
 struct SkipTask<R: Wait + Drop> {
     rt: R,
@@ -104,7 +104,7 @@ impl<R: Wait + Files + Drop> SkipTask<R> {
     }
 }
 
-/// Reads the file's hints. That of a named pipe waits for its writer.
+/// Reads the hints in a file. Opening a named pipe waits for its writer.
 fn read_file<R: Wait + Files + Alloc + Copy + Drop>(
     rt: &R,
     file: &str,
@@ -117,8 +117,8 @@ fn read_file<R: Wait + Files + Alloc + Copy + Drop>(
     read_hints(&mut source, lines, sink)
 }
 
-/// Refuses a file of hints that isn't there. One that is may be a named pipe, which is opened later, by the
-/// thread that reads it: that waits for the pipe's writer.
+/// Refuses a file of hints that isn't there. It isn't opened here: a named pipe is opened by the thread that reads
+/// it, since that waits for the pipe's writer.
 pub(crate) fn check_hints<R: Files>(rt: &R, words: Option<HintWords<'_>>) -> Result<(), Fault>
     ensures err { IfErr result (λ e. e ≡ NoHints) }
 {
@@ -163,7 +163,7 @@ pub(crate) fn start_hints<R: DebouncerRuntime>(
     start(&rt, run)
 }
 
-/// Starts a thread that passes over standard input, and says when that has ended.
+/// Starts a thread that reads standard input and ignores it, and signals its end.
 pub(crate) fn start_skipping<
     R: Threads
         + Wait
@@ -207,7 +207,7 @@ fn hinted_folders<R: Files + Alloc>(
     Ok(hinted)
 }
 
-/// The folder, which the system may name otherwise.
+/// A folder for hints, with its real path if the system says it.
 fn hinted_folder<R: Files + Alloc>(
     rt: &R,
     alloc: Global,

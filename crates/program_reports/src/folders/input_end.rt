@@ -19,7 +19,7 @@ pub(crate) struct InputEnd {
 }
 
 impl InputEnd {
-    /// Returns the end of an input, if it is asked for.
+    /// Makes one, if the program asks for the end of its input.
     pub(crate) fn new(alloc: Global, is_asked: bool) -> Result<InputEnd, Fault>
         ensures err { IfErr result (λ e. e ≡ Memory) }
     {
@@ -31,7 +31,7 @@ impl InputEnd {
         })
     }
 
-    /// Returns the same end, for another thread.
+    /// Returns the same signal, for another thread.
     pub(crate) fn share(&self) -> Result<InputEnd, Fault>
         ensures err { IfErr result (λ e. e ≡ Memory) }
     {
@@ -42,14 +42,14 @@ impl InputEnd {
         Ok(InputEnd { ended })
     }
 
-    /// The input has ended.
+    /// Signals that the input has ended.
     pub(crate) fn set(&self) {
         if let Some(ended) = &self.ended {
             ended.store(true, Ordering::SeqCst);
         }
     }
 
-    /// Whether it has.
+    /// Whether the input has ended.
     pub(crate) fn has_come(&self) -> bool
         ensures { result ≡ true → is_some self.now.ended ≡ true }
     {
@@ -59,7 +59,7 @@ impl InputEnd {
         }
     }
 
-    /// How long to wait at once, of so long: only a moment, if the input may end meanwhile.
+    /// Returns how much of this time to wait at once: only a moment, if the input may end meanwhile.
     pub(crate) fn nap(&self, left: Option<Duration>) -> Option<Duration>
         ensures whole { is_some self.now.ended ≡ false → result ≡ left }
         ensures some { is_some self.now.ended ≡ true → IsSome result }

@@ -1,4 +1,4 @@
-//! A debouncer that watches folders, until a program's life is over.
+//! A debouncer that watches folders, until a program's run is over.
 ghost use Rattle.std.specs.Prelude.{◌≡◌, ◌≤◌, ◌<◌, ◌+◌, ◌*◌, ◌^◌, ◌⊎◌, ◌∷◌, [], min, false, None, IsSome, IfErr, IfOk, IfSome, OnOk};
 ghost use Rattle.std.specs.Duration.{as_nanos};
 ghost use Rattle.std.specs.Time.{FitsClock, instant_nanos};
@@ -21,7 +21,7 @@ use std::time::{Clock, Duration, Instant};
 /// 40 microseconds: at sixty a second a quarter of a hundredth.
 const SHORTEST_TICK: u64 = 16;
 
-/// A debouncer that watches folders, and when the program's life is over.
+/// A debouncer that watches folders, and the time at which the program's run is over.
 #[derive(Drop)]
 pub(crate) struct Live<R: DebouncerRuntime> {
     rt: R,
@@ -31,7 +31,7 @@ pub(crate) struct Live<R: DebouncerRuntime> {
 }
 
 impl<R: DebouncerRuntime + AllocGlobal> Live<R> {
-    /// Starts the debouncer, which watches nothing yet. The life begins with this call.
+    /// Starts the debouncer, which watches nothing yet. The time of the run counts from this call.
     pub(crate) fn start(rt: R, pace: Pace<'_>) -> Result<Live<R>, Fault>
         ensures opened { IfOk result (λ live. live.reports.debouncer.seen
             ≡ Opened (as_nanos pace.entry.timeout) false ∷ []) }
@@ -84,8 +84,8 @@ impl<R: DebouncerRuntime + AllocGlobal> Live<R> {
         }
     }
 
-    /// Starts the thread that reads hints, or standard input to its end, if the program wants one. Hints that
-    /// come by standard input have its end.
+    /// Starts the thread that reads hints, or the one that reads standard input to its end, if the program wants it.
+    /// If hints come by standard input, the end of the hints is its end.
     pub(crate) fn start_reading(&self, folders: &[PathBuf], pace: Pace<'_>) -> Result<(), Fault>
         ensures err { IfErr result (λ e. (e ≡ Memory) ⊎ (e ≡ NoThread)) }
     {
@@ -116,7 +116,7 @@ impl<R: DebouncerRuntime + AllocGlobal> Live<R> {
         }
     }
 
-    /// Starts the thread that passes over standard input, if its end is the program's.
+    /// Starts the thread that reads standard input and ignores it, if its end is to end the program.
     fn skip_input(&self, until_eof: bool) -> Result<(), Fault>
         ensures err { IfErr result (λ e. (e ≡ Memory) ⊎ (e ≡ NoThread)) }
     {
@@ -144,14 +144,14 @@ impl<R: DebouncerRuntime + AllocGlobal> Live<R> {
     }
 }
 
-/// The moment that lies so far ahead. If the clock can't be read, there is none.
+/// Returns the moment that lies so far ahead. If the clock can't be read, there is none.
 fn end_of<R: Clock>(rt: &R, life: Option<Duration>) -> Option<Instant>
     ensures endless { life ≡ None → result ≡ None }
 {
     end_from(Instant::now(rt).ok()?, life)
 }
 
-/// The moment that lies so long after this one, if the clock counts so far.
+/// Returns the moment that lies so long after this one, if the clock counts so far.
 fn end_from(start: Instant, life: Option<Duration>) -> Option<Instant>
     ensures endless { life ≡ None → result ≡ None }
     ensures moment { IfSome result (λ end. IfSome life
@@ -162,7 +162,7 @@ fn end_from(start: Instant, life: Option<Duration>) -> Option<Instant>
     start.checked_add(life?)
 }
 
-/// How long a tick is: `None`, a quarter of the timeout, unless that is shorter than the shortest.
+/// Returns the tick rate: `None`, which stands for a quarter of the timeout, unless that is below the shortest tick.
 fn tick_of(timeout: Duration) -> Option<Duration>
     // So it is never refused as too slow.
     ensures fits { IfSome result (λ tick. as_nanos tick ≤ as_nanos timeout) }

@@ -1,4 +1,4 @@
-//! What is reported of a folder.
+//! The reports of a folder.
 ghost use Rattle.std.specs.Prelude.{◌≡◌, ◌≢◌, ◌⊎◌, ◌++◌, ◌∷◌, [], true, false, None, IfErr, IfOk, OnOk};
 ghost use Rattle.std.specs.Option.{option_to_list};
 ghost use Rattle.notify_types.specs.declared.event.RecursiveMode.TheVariants.{NonRecursive};
@@ -19,7 +19,7 @@ use std::marker::Model;
 use std::slice;
 use std::time::Duration;
 
-/// The reports of a folder, until a program's life is over.
+/// The reports of a folder, until a program's run is over.
 #[derive(Drop)]
 pub struct FolderReports<'n, R: DebouncerRuntime, E: Drop> {
     watch: FolderWatch<'n, R, E>,
@@ -36,10 +36,10 @@ impl<'n, R: DebouncerRuntime, E: Drop> Model for FolderReports<'n, R, E> {
 }
 
 impl<'n, R: DebouncerRuntime + AllocGlobal, E: Write + Drop> FolderReports<'n, R, E> {
-    /// Watches the folder from now on, and reads hints if `pace.hints` says so. What is there already is
-    /// reported if `pace.initial` says so, as created. The life begins with this call. That names are left out,
-    /// since they aren't UTF-8, and that folders aren't looked into, since they lie 64 levels deep, is said once
-    /// each, by the first of these calls and `finish` that finds any.
+    /// Watches the folder from now on, and reads hints if `pace.hints` says so. If `pace.initial` says so, what is
+    /// there already is reported as created. The time of the run counts from this call. It writes how many names are
+    /// skipped, since they aren't UTF-8, and into how many folders the watcher doesn't look, since they lie 64 levels
+    /// deep. Each of these lines is written once, by this call or, if there are none yet, by `finish`.
     pub fn start(
         rt: R,
         folder: &PathBuf,
@@ -58,8 +58,8 @@ impl<'n, R: DebouncerRuntime + AllocGlobal, E: Write + Drop> FolderReports<'n, R
         Ok(FolderReports::of(rt, live, complaints))
     }
 
-    /// Watches the file's folder, as `start`, with what is in it. A link at the file's path is followed: what is
-    /// reported of the file is what it leads to.
+    /// Watches the file's folder and what is in it, as `start` does. A link at the file's path is followed, so the
+    /// reports about the file are about what the link leads to.
     pub fn start_file(
         rt: R,
         folder: &PathBuf,
@@ -79,8 +79,8 @@ impl<'n, R: DebouncerRuntime + AllocGlobal, E: Write + Drop> FolderReports<'n, R
         Ok(FolderReports::of(rt, live, complaints))
     }
 
-    /// Watches each of the folders from now on, in order, as `start`. One of them that can't be watched is said
-    /// (`NAME: cannot watch FOLDER`), and the fault that is left then is returned.
+    /// Watches each of the folders from now on, in order, as `start` does. If one of them can't be watched, it writes
+    /// `NAME: cannot watch FOLDER` and returns the fault with which the program ends.
     pub fn start_all(
         rt: R,
         folders: &[PathBuf],
@@ -110,29 +110,28 @@ impl<'n, R: DebouncerRuntime + AllocGlobal, E: Write + Drop> FolderReports<'n, R
         FolderReports { watch, waiting }
     }
 
-    /// Returns how many names of the folder are left out, since they aren't UTF-8, as far as it was looked at
+    /// Returns how many names in the folder were skipped in the looks so far, since they aren't UTF-8
     /// (`PollWatcher::names_skipped`).
     pub fn names_skipped(&self) -> u64 {
         self.watch.names_skipped()
     }
 
-    /// Returns how many folders lie so deep that what is in them is left out, as far as was looked at
+    /// Returns into how many folders the watcher didn't look so far, since they lie too deep
     /// (`PollWatcher::folders_too_deep`).
     pub fn folders_too_deep(&self) -> u64 {
         self.watch.folders_too_deep()
     }
 
-    /// Says how many names are left out, and how many folders lie too deep, each once, if any is
-    /// (`NAME: 3 names are not UTF-8 and are left out`,
-    /// `NAME: 2 folders lie 64 levels deep, and what is in them is left out`).
+    /// Writes how many names are skipped, and how many folders lie too deep, each once, if there are some (`NAME: 3
+    /// names are not UTF-8 and are left out`, `NAME: 2 folders lie 64 levels deep, and what is in them is left out`).
     pub fn say_skipped(&mut self)
         ensures same { self.new ≡ self.old }
     {
         self.watch.say_skipped();
     }
 
-    /// Waits for the next report. `None` says that the life is over, as by the end of the input, or that the
-    /// clock can't be read.
+    /// Waits for the next report. `None` says that the run is over, by the clock or by the end of the input, or that
+    /// the clock can't be read.
     pub fn next(&mut self) -> Option<DebounceEventResult>
         ensures made { self.new.made ≡ self.old.made }
         ensures seen { self.new.seen ≡ self.old.seen }
@@ -145,7 +144,7 @@ impl<'n, R: DebouncerRuntime + AllocGlobal, E: Write + Drop> FolderReports<'n, R
         self.waiting.next()
     }
 
-    /// Waits so long for the next report. `None` says that none came, or what it says of `next`.
+    /// Waits for the next report, no longer than this. `None` says that none came, or what it says for `next`.
     pub fn next_within(&mut self, pause: Duration) -> Option<DebounceEventResult>
         ensures made { self.new.made ≡ self.old.made }
         ensures seen { self.new.seen ≡ self.old.seen }
@@ -173,9 +172,9 @@ impl<'n, R: DebouncerRuntime + AllocGlobal, E: Write + Drop> FolderReports<'n, R
         (waiting, watch)
     }
 
-    /// Stops the watcher and the debouncer, waits until both have ended, and returns what was not given
-    /// yet. Nothing is lost but what is counted as missed. How many paths the last look couldn't look at is noted
-    /// (`Complaints::counting`).
+    /// Stops the watcher and the debouncer, waits until both have ended, and returns the reports that were not given
+    /// yet. Nothing is lost except what is counted as missed. It notes how many paths couldn't be looked at in the
+    /// last look (`Complaints::counting`).
     pub fn finish(self) -> Result<Rest, Fault>
         ensures ok { IfOk result (IsLeft self.entry) }
         ensures err { IfErr result (λ e. e ≡ Memory) }
@@ -185,7 +184,7 @@ impl<'n, R: DebouncerRuntime + AllocGlobal, E: Write + Drop> FolderReports<'n, R
     }
 }
 
-/// Watches each of the folders, in order. One that can't be watched is said, and ends it.
+/// Watches each of the folders, in order, up to the first that can't be watched, and writes which one that is.
 fn watch_each<R: DebouncerRuntime + AllocGlobal, E: Write + Drop>(
     live: &mut Live<R>,
     folders: &[PathBuf],

@@ -1,4 +1,4 @@
-//! What is left when a debouncer ends.
+//! The reports that are left when a debouncer ends.
 ghost use Rattle.std.specs.Prelude.{◌≡◌, ◌++◌, List, IfErr, IfOk, OnOk};
 ghost use Rattle.std.specs.declared.alloc.Global.{Global};
 ghost use Rattle.notify_watch.specs.Handler.{Outcome};
@@ -12,7 +12,7 @@ use program_frame::Fault;
 use program_frame::reports::Rest;
 use std::alloc::{AllocError, Global};
 
-/// What was emitted and not given, and then what waits.
+/// Returns the reports that were emitted and not given, and then what is pending.
 pub(crate) fn rest_of(alloc: Global, last: LastReports) -> Result<Rest, Fault>
     ensures ok { IfOk result (IsRestOf last.book last.queue.items last.missed last.unsent) }
     ensures err { IfErr result (λ e. e ≡ Memory) }
@@ -31,7 +31,7 @@ pub(crate) fn rest_of(alloc: Global, last: LastReports) -> Result<Rest, Fault>
     })
 }
 
-/// Appends what waits: the events, and then the errors.
+/// Appends what is pending: the events as one batch, and then the errors.
 fn push_waiting(
     alloc: Global,
     reports: &mut Vec<DebounceEventResult>,

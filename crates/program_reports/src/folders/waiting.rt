@@ -1,4 +1,4 @@
-//! The wait for what is reported, until a program's life is over.
+//! The wait for reports, until a program's run is over.
 ghost use Rattle.std.specs.Prelude.{◌≡◌, ◌≢◌, ◌⊎◌, ◌≤◌, ◌<◌, ◌+◌, ◌-◌, ◌++◌, true, false, None, IfSome, IsSome, ◌||◌, is_some};
 ghost use Rattle.std.specs.Duration.{as_nanos};
 ghost use Rattle.std.specs.Option.{option_to_list};
@@ -13,11 +13,11 @@ use std::marker::Model;
 use std::sync::Wait;
 use std::time::{Clock, Duration, Instant};
 
-/// The wait for what is reported of a folder, until a program's life is over: `FolderReports::apart`. It owns the
-/// queue of the reports.
+/// The wait for the reports of a folder, until a program's run is over. It owns the queue of the reports.
+/// `FolderReports::apart` returns it.
 ///
-/// It asks for no more than a wait needs: in a method of a trait, a call that may wait has a proof only over
-/// bounds of the kit's own.
+/// Its type asks only for what a wait needs: a call that may wait can be proved in a trait's method only if the
+/// bounds are those of the kit.
 #[derive(Drop)]
 pub struct ReportWait<R: Wait + Clock + Drop> {
     rt: R,
@@ -39,7 +39,7 @@ impl<R: Wait + Clock + Drop> Model for ReportWait<R> {
 }
 
 impl<R: Wait + Clock + Copy + Drop> ReportWait<R> {
-    /// Waits for what comes by the queue until the end, if there is one, and while the input goes on.
+    /// Makes the wait: for the reports of this queue, until the end if there is one, and while the input goes on.
     pub(crate) fn new(
         rt: R,
         queue: ReportQueue<DebounceEventResult>,
@@ -93,7 +93,7 @@ impl<R: Wait + Clock + Copy + Drop> ReportWait<R> {
         self.wait_while(Some(pause))
     }
 
-    /// Waits for the next report, so long at most if that is said, and only while the input goes on.
+    /// Waits for the next report, no longer than the pause if there is one, and only while the input goes on.
     fn wait_while(&mut self, pause: Option<Duration>) -> Option<DebounceEventResult>
         ensures end { self.new.has_end ≡ self.old.has_end }
         ensures lock { self.new.queue.lock ≡ self.old.queue.lock }
@@ -119,7 +119,7 @@ impl<R: Wait + Clock + Copy + Drop> ReportWait<R> {
         unreachable!()
     }
 
-    /// Returns whether the life is over, or the clock can't be read, or no more can come.
+    /// Returns whether the run is over, the clock can't be read, or no more reports can come.
     pub(crate) fn is_over(&self) -> bool
         ensures { result ≡ true → (self.now.has_end ≡ true) ⊎ (self.now.queue.is_open ≡ false) }
     {
@@ -132,7 +132,7 @@ impl<R: Wait + Clock + Copy + Drop> ReportWait<R> {
         }
     }
 
-    /// Waits for the next report, so long at most if that is said.
+    /// Waits for the next report, no longer than the pause if there is one.
     fn give(&mut self, pause: Option<Duration>) -> WaitResult
         ensures nothing { result ≡ Nothing → IsSome pause }
         ensures over { result ≡ Over
@@ -163,7 +163,7 @@ impl<R: Wait + Clock + Copy + Drop> GivesReports for ReportWait<R> {
     }
 }
 
-/// What is left of a wait after a nap. A wait without an end has none after it either.
+/// Returns what is left of a pause after a part of it. A pause without an end stays so.
 fn left_after(left: Option<Duration>, nap: Duration) -> Option<Duration>
     ensures endless { left ≡ None → result ≡ None }
     ensures some { IsSome left → IsSome result }
@@ -173,14 +173,14 @@ fn left_after(left: Option<Duration>, nap: Duration) -> Option<Duration>
     Some(left?.saturating_sub(nap))
 }
 
-/// How long it is to the end. `None` says that it has come, or that the clock can't be read.
+/// Returns how long it is until the end. `None` says that the end has come, or that the clock can't be read.
 fn left<R: Clock>(rt: &R, end: Instant) -> Option<Duration>
     ensures some { IfSome result (λ left. as_nanos left ≢ 0) }
 {
     left_from(Instant::now(rt).ok()?, end)
 }
 
-/// How long it is from now to the end. `None` says that it has come.
+/// Returns how long it is from now to the end. `None` says that the end has come.
 fn left_from(now: Instant, end: Instant) -> Option<Duration>
     ensures over { instant_nanos end ≤ instant_nanos now → result ≡ None }
     ensures some { IfSome result (λ left. as_nanos left ≢ 0) }
