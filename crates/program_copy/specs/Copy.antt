@@ -1,4 +1,4 @@
--- What a copy has.
+-- What a copy has of its folder.
 use Rattle.std.specs.Prelude.{List}
 use Rattle.notify_paths.specs.Path.{PathValue}
 use Rattle.reader_paths.specs.declared.plan.action.Standing.{Standing}

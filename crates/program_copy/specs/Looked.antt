@@ -1,4 +1,4 @@
--- What was seen at the paths of a batch.
+-- What looks found at the paths of a batch.
 use Rattle.std.specs.Prelude.{◌≡◌, Bool, true, false, not, ◌||◌, List, Option, None, Some, if◌then◌else◌}
 use Rattle.notify_paths.specs.Path.{PathValue}
 use Rattle.reader_paths.specs.Plan.{look_at, stands}
@@ -12,20 +12,22 @@ use Rattle.program_copy.specs.declared.seen.Seen.TheVariants.{Stands, Other, Not
 abbrev pub PathMap : Type 0
 PathMap = List (PathValue × Unit {0})
 
--- what was seen elsewhere
+-- what looks found that the copy is not to have, or at paths that aren't wanted
 abbrev pub OthersSeen : Type 0
 OthersSeen = List (PathValue × Seen)
 
--- what a look may answer
+-- which answers a look at a path may have
 abbrev pub Sees : Type 1
 Sees = PathValue → Seen → Type 0
 
--- a look at the path gave this for its copy: what stands there, if the path is wanted, and else nothing
+-- a look at the path was made, and this is what the copy is to have there: what stands there, if the path is wanted,
+-- and else nothing
 abbrev pub IsSeen : Sees → PathValue → Bool → Option Standing → Type 0
 IsSeen sees path is_wanted standing =
     (seen : Seen) × sees path seen × (standing ≡ (if is_wanted then standing_of seen else None))
 
--- so it is in what was looked at: there the path is missing if a look found nothing
+-- a look at the path was made, and its result is noted: `standing` is what the copy is to have there, and `other`
+-- says so if the look found nothing
 abbrev pub IsNoted : Sees → PathValue → Bool → Option Standing → Option Seen → Type 0
 IsNoted sees path is_wanted standing other =
     (seen : Seen) × sees path seen × (standing ≡ (if is_wanted then standing_of seen else None))
@@ -35,21 +37,22 @@ IsNoted sees path is_wanted standing other =
 abbrev pub is_known : CopiedValue → OthersSeen → PathValue → Bool
 is_known standing others path = stands (look_at standing) path || stands (look_at others) path
 
--- each path that was looked at is noted with what a look gave
+-- for each path that was looked at, the result of a look is noted
 abbrev pub AreSeen : Sees → PathMap → CopiedValue → OthersSeen → Type 0
 AreSeen sees wanted standing others = (path : PathValue) → is_known standing others path ≡ true →
     IsNoted sees path (stands (look_at wanted) path) (look_at standing path) (look_at others path)
 
--- what was looked at before is known still
+-- each path that was looked at before still counts as looked at
 abbrev pub StayKnown : CopiedValue → OthersSeen → CopiedValue → OthersSeen → Type 0
 StayKnown standing others standing' others' = (path : PathValue) → is_known standing others path ≡ true →
     is_known standing' others' path ≡ true
 
--- a reader of the batches has the path: it is wanted, or no removal takes it away
+-- whether a program that plays the batches has the path: it is wanted, or no removal takes it away
 abbrev pub is_kept : PathMap → PathMap → PathValue → Bool
 is_kept wanted removed path = stands (look_at wanted) path || not (stands (look_at removed) path)
 
--- a copy is to have nothing of what was seen: nothing is there, or what isn't copied, in the place of what a reader has
+-- whether the copy is to have nothing at a path after this look: the look found nothing there; or something that
+-- isn't copied, for instance a link, where a program that plays the batches has the path
 abbrev pub lets_go_of : Option Seen → Bool → Bool
 lets_go_of None kept = false
 lets_go_of (Some (Stands standing)) kept = false

@@ -1,10 +1,10 @@
--- What a copy is to have of what a look answers.
+-- What a copy is to have, by what a look found.
 use Rattle.std.specs.Prelude.{Option, None, Some}
 use Rattle.reader_paths.specs.declared.plan.action.Standing.{Standing}
 use Rattle.program_copy.specs.declared.seen.Seen.{Seen}
 use Rattle.program_copy.specs.declared.seen.Seen.TheVariants.{Stands, Other, Nothing, Closed}
 
--- what is copied of what was seen
+-- what the copy is to have at the path: what stands there, if it is copied
 abbrev pub standing_of : Seen → Option Standing
 standing_of (Stands standing) = Some standing
 standing_of Other = None

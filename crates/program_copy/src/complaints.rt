@@ -1,4 +1,4 @@
-//! What is said of paths at which something fails: once, and again after it has changed.
+//! Lines about paths at which something fails. Each is written once, and again after something has changed.
 use crate::NAME;
 use notify_paths::{Error, ErrorKind, PathBuf};
 use program_frame::write_errors;
@@ -10,20 +10,20 @@ use std::{io, mem};
 /// What failed, in a word, and why.
 type Said = (&'static str, io::ErrorKind);
 
-/// What was said, and where that goes.
+/// The failures about which lines were written, and where they are written.
 #[derive(Drop)]
 pub(crate) struct SaidOnce<E: Drop> {
     alloc: Global,
     said: BTreeMap<PathBuf, Said>,
-    /// What was said before what failed is tried again.
+    /// The failures that were known when the last new attempt began.
     before: BTreeMap<PathBuf, Said>,
-    /// At what the watcher couldn't look, and why.
+    /// The paths at which the watcher couldn't look, and why.
     watched: BTreeMap<PathBuf, io::ErrorKind>,
     pub(crate) err: E,
 }
 
 impl<E: Write + Drop> SaidOnce<E> {
-    /// Returns that of a program that has said nothing yet.
+    /// Makes one for a program that has written nothing yet.
     pub(crate) fn new(alloc: Global, err: E) -> SaidOnce<E> {
         SaidOnce {
             alloc,
@@ -34,12 +34,12 @@ impl<E: Write + Drop> SaidOnce<E> {
         }
     }
 
-    /// All that failed is tried again: what doesn't fail then will be said anew when it does.
+    /// A new attempt begins at all that failed. What goes well then gets a line again when it fails later.
     pub(crate) fn begin_again(&mut self) {
         self.before = mem::replace(&mut self.said, BTreeMap::new(self.alloc));
     }
 
-    /// All that failed was tried again.
+    /// The new attempt is over.
     pub(crate) fn end_again(&mut self) {
         self.before = BTreeMap::new(self.alloc);
     }
@@ -50,7 +50,7 @@ impl<E: Write + Drop> SaidOnce<E> {
         self.before = BTreeMap::new(self.alloc);
     }
 
-    /// Says the watcher's errors.
+    /// Writes the watcher's errors.
     pub(crate) fn say_errors(&mut self, errors: &[Error]) -> Result<(), AllocError> {
         write_errors(errors, NAME, &mut self.err);
         for error in errors {
@@ -61,8 +61,8 @@ impl<E: Write + Drop> SaidOnce<E> {
         Ok(())
     }
 
-    /// Says that a look of the mirror's own fails at the path, unless the watcher has said so, which says it again if
-    /// the path was open meanwhile.
+    /// Writes that a look of the mirror's own failed at the path, unless the watcher has reported it. The watcher
+    /// reports it again if the path could be read meanwhile.
     pub(crate) fn say_look(
         &mut self,
         word: &'static str,
@@ -75,7 +75,7 @@ impl<E: Write + Drop> SaidOnce<E> {
         }
     }
 
-    /// Says that something fails at the path, if that wasn't said yet.
+    /// Writes that something fails at the path, unless that was written already.
     pub(crate) fn say(
         &mut self,
         word: &'static str,
@@ -92,7 +92,7 @@ impl<E: Write + Drop> SaidOnce<E> {
     }
 }
 
-/// Whether this was said of the path.
+/// Whether this failure at the path was written already.
 fn is_said(said: &BTreeMap<PathBuf, Said>, path: &PathBuf, what: Said) -> bool {
     match said.get(path) {
         Some((word, kind)) => *word == what.0 && *kind == what.1,

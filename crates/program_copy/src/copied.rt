@@ -29,7 +29,7 @@ impl Model for Copied {
 }
 
 impl Copied {
-    /// Returns that of a copy which has nothing yet.
+    /// Makes one for a copy that has nothing yet.
     pub fn new(alloc: Global) -> Copied
         ensures { result ≡ [] }
     {
@@ -39,7 +39,7 @@ impl Copied {
         }
     }
 
-    /// The copy has the path.
+    /// Notes that the copy has the path.
     pub fn insert(&mut self, path: &PathBuf, standing: Standing) -> Result<(), AllocError>
         ensures { OnOk result (self.new ≡ insert_entry path_cmp self.old path.now standing) }
     {
@@ -47,7 +47,7 @@ impl Copied {
         Ok(())
     }
 
-    /// The copy has the path no longer.
+    /// Notes that the copy has the path no longer.
     pub fn remove(&mut self, path: &PathBuf)
         ensures without { self.new ≡ remove_entry (is_at (path_cmp path.now)) self.old }
         ensures gone { look_at self.new path.now ≡ None }

@@ -1,7 +1,7 @@
 //! A folder and its copy on a disk.
 //!
-//! A [`FolderCopy`] is a folder and its copy, for a mirror. All that it changes goes through a [`Disk`], which takes
-//! a `Target` and no other path. [`RealDisk`] is that of a runtime.
+//! A [`FolderCopy`] is a folder and its copy, for a mirror. It makes all changes through a [`Disk`], whose changing
+//! calls take a `Target` and no other path. [`RealDisk`] is the disk of a runtime.
 //!
 //! ```text
 //! let disk = RealDisk::new(rt);

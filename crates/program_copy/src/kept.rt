@@ -1,4 +1,4 @@
-//! A copy, and what is known of it.
+//! A copy, and what is known about it.
 ghost use Rattle.std.specs.Prelude.{◌≡◌, None, Some, IfOk, OnOk};
 ghost use Rattle.reader_paths.specs.Plan.{look_at};
 
@@ -11,16 +11,16 @@ use reader_paths::plan::Standing;
 use std::alloc::{AllocError, Global};
 use std::io;
 
-/// A copy, and what it has of its folder: just what calls that went well have left.
+/// A copy, and what it has of its folder, as far as calls that went well have put it there.
 #[derive(Drop)]
 pub struct Kept<C: Drop> {
     pub copy: C,
     pub copied: Copied,
-    /// What came along with moves, and wasn't put there since.
+    /// What came to its path by a move of the copy, and wasn't copied there since.
     pub(crate) came: Came,
 }
 
-/// What the copy had of the path, which counts as copied as this. What came along with a move does so once.
+/// Returns what the copy had at the path, where this counts as copied. That it came by a move is said once.
 fn had_of(came: &mut Came, path: &PathBuf, was: Option<Standing>) -> Had {
     match (came.take(path), was) {
         (_, None) => Had::Nothing,
@@ -30,7 +30,7 @@ fn had_of(came: &mut Came, path: &PathBuf, was: Option<Standing>) -> Had {
 }
 
 impl<C: FolderAndCopy> Kept<C> {
-    /// Returns that of a copy which has nothing yet.
+    /// Makes one for a copy that has nothing yet.
     pub(crate) fn new(alloc: Global, copy: C) -> Kept<C> {
         Kept {
             copy,
@@ -39,8 +39,8 @@ impl<C: FolderAndCopy> Kept<C> {
         }
     }
 
-    /// Has what stands at the path stand in the copy too. What the copy has of another kind there makes way, with
-    /// all below it.
+    /// Puts what stands at the path into the copy. If the copy has a thing of another kind there, that is removed
+    /// first, with all below it.
     pub(crate) fn put(
         &mut self,
         path: &PathBuf,
@@ -56,7 +56,7 @@ impl<C: FolderAndCopy> Kept<C> {
         self.put_there(path, standing, was)
     }
 
-    /// Removes what the copy has of the path, if that is of another kind, with all below it.
+    /// Removes what the copy has at the path and all below it, if it is of another kind.
     fn clear_way(
         &mut self,
         path: &PathBuf,
@@ -69,7 +69,7 @@ impl<C: FolderAndCopy> Kept<C> {
         }
     }
 
-    /// Has what stands at the path stand in the copy too, where nothing of another kind is.
+    /// Puts what stands at the path into the copy, where nothing of another kind stands.
     fn put_there(
         &mut self,
         path: &PathBuf,
@@ -87,7 +87,7 @@ impl<C: FolderAndCopy> Kept<C> {
         Ok(done)
     }
 
-    /// Removes from the copy what it has of the path, where something of another kind has come, and all below it.
+    /// Removes what the copy has at the path and all below it, since something of another kind has come there.
     fn make_way(&mut self, path: &PathBuf, was: Standing) -> Result<io::Result<bool>, AllocError> {
         let below = self.copied.below(path)?;
         // What is in a folder goes before the folder.
@@ -99,8 +99,8 @@ impl<C: FolderAndCopy> Kept<C> {
         Ok(self.take_out(path, was))
     }
 
-    /// Removes from the copy what it has of the path, of which it is to have nothing, and all below it that is to
-    /// go with it. What is its own goes too, if that is allowed.
+    /// Removes what the copy has at the path, where it is to have nothing, and all below it that is to go too. What
+    /// the copy has of its own is also removed, if the program may do that.
     pub(crate) fn remove(
         &mut self,
         path: &PathBuf,
@@ -118,8 +118,8 @@ impl<C: FolderAndCopy> Kept<C> {
         }
     }
 
-    /// Removes these, if the copy is to have nothing of them. Says whether anything was done, and whether nothing
-    /// stays.
+    /// Removes those of the paths at which the copy is to have nothing. Returns whether anything was done, and
+    /// whether nothing is left.
     fn remove_below(
         &mut self,
         below: &[(PathBuf, Standing)],
@@ -138,7 +138,8 @@ impl<C: FolderAndCopy> Kept<C> {
         Ok((done, is_whole))
     }
 
-    /// Removes what the copy has of the path alone, and then whatever stands there, if that is to be cleared.
+    /// Removes what the copy has at the path, but nothing below it. Then it removes whatever still stands there, if
+    /// the path is to be cleared.
     fn remove_one(&mut self, path: &PathBuf, done: bool, clears: bool) -> io::Result<bool>
         ensures { OnOk result (look_at self.new.copied path.now ≡ None) }
     {
@@ -149,7 +150,7 @@ impl<C: FolderAndCopy> Kept<C> {
         Ok(done)
     }
 
-    /// Removes what the copy has of the path alone, if it has anything.
+    /// Removes what the copy has at the path, if it has anything there, but nothing below it.
     fn take_known(&mut self, path: &PathBuf) -> io::Result<bool>
         ensures { OnOk result (look_at self.new.copied path.now ≡ None) }
     {
@@ -159,7 +160,7 @@ impl<C: FolderAndCopy> Kept<C> {
         }
     }
 
-    /// Removes what the copy has of the path alone.
+    /// Removes what the copy has at the path, but nothing below it.
     fn take_out(&mut self, path: &PathBuf, standing: Standing) -> io::Result<bool>
         ensures { OnOk result (look_at self.new.copied path.now ≡ None) }
     {

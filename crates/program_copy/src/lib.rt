@@ -1,9 +1,9 @@
-//! A mirror: a copy that follows its folder, whatever both are.
+//! A mirror: a copy that follows its folder. The folder and the copy can be anything that implements a trait.
 //!
-//! A [`FolderAndCopy`] is asked path by path: what stands in the folder, and to put a path into its copy or to
-//! take one out. A [`Mirror`] takes batches and says which of these calls they ask for: what went well is in
-//! [`Copied`], and what failed waits until it is tried again. What a batch tells as moved is moved in the
-//! copy before all else. [`files`] are the folder and the copy of the real file system.
+//! A [`FolderAndCopy`] has a call for each step: to look at a path of the folder, to put a path into the copy, and to
+//! remove one. A [`Mirror`] takes batches and makes the calls that they need. [`Copied`] lists what the calls that
+//! went well have put into the copy, and the paths of those that failed are tried again later. If a batch says that
+//! something moved, the mirror first moves it in the copy. [`files`] has a folder and a copy on a disk.
 //!
 //! ```text
 //! let mut mirror = Mirror::new(rt.alloc(), copy, leave, rt.stdout(), rt.stderr());

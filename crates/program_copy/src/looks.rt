@@ -1,4 +1,4 @@
-//! Looks at a folder.
+//! The looks at a folder that a batch asks for.
 ghost use Rattle.std.specs.Prelude.{◌≡◌, None, true, false, slice_get, IfOk, IfSome, OnOk, if◌then◌else◌};
 ghost use Rattle.std.specs.List.{list_all};
 ghost use Rattle.std.specs.Map.{keys_of};
@@ -18,17 +18,17 @@ use reader_paths::plan::{Standing, wanted};
 use std::alloc::{AllocError, Global};
 use std::collections::BTreeMap;
 
-/// What was seen at the paths of a batch: at those that it wants, and where nothing stands there, or an
-/// event says that it was removed, at all that was copied there and below.
+/// The results of the looks for a batch: at the paths that it wants, and, where nothing stands or an event says that
+/// a path was removed, at all that was copied there and below.
 #[derive(Drop)]
 pub(crate) struct Looks {
     alloc: Global,
     pub(crate) wanted: BTreeMap<PathBuf, ()>,
     /// What stands at the wanted paths, if it is copied.
     pub(crate) standing: BTreeMap<PathBuf, Standing>,
-    /// What was seen elsewhere.
+    /// The other results: what isn't copied, and what stands at paths that aren't wanted.
     pub(crate) others: BTreeMap<PathBuf, Seen>,
-    /// At which paths of these an event says that something was removed.
+    /// Those of these paths that were removed according to an event.
     pub(crate) removed: BTreeMap<PathBuf, ()>,
 }
 
@@ -150,7 +150,7 @@ impl Looks {
         Ok(())
     }
 
-    /// Looks at the path, if that wasn't done yet, for an event that takes it away or not.
+    /// Looks at the path, if that wasn't done yet. `is_removal` says whether an event removes it.
     fn look<C: FolderAndCopy>(
         &mut self,
         copy: &C,
@@ -215,7 +215,7 @@ impl Looks {
         self.standing.contains_key(path) || self.others.contains_key(path)
     }
 
-    /// Notes what was seen at a path that wasn't looked at yet.
+    /// Notes the result of a look at a path that wasn't looked at yet.
     fn note<C: FolderAndCopy>(
         &mut self,
         copy: &C,
@@ -247,7 +247,7 @@ impl Looks {
         Ok(())
     }
 
-    /// What a copy is to have of what was seen at the path.
+    /// Returns what the copy is to have, by what was found at the path.
     fn copied_of(&self, path: &PathBuf, seen: &Seen) -> Option<Standing>
         ensures { result ≡ (if stands (look_at self.now.wanted.entries) path.now
             then standing_of seen.now else None) }
@@ -271,15 +271,16 @@ impl Looks {
         self.wanted.contains_key(path)
     }
 
-    /// Whether a reader of the batches has the path, as what was copied and no event takes away.
+    /// Whether a program that plays the batches has the path, for instance since it was copied and no event removes
+    /// it.
     pub(crate) fn is_wanted(&self, path: &PathBuf) -> bool
         ensures { result ≡ is_kept self.now.wanted.entries self.now.removed.entries path.now }
     {
         self.wanted.contains_key(path) || !self.removed.contains_key(path)
     }
 
-    /// Whether the copy is to have nothing of the path: nothing is there, or something that isn't copied, as a
-    /// link, has come there.
+    /// Whether the copy is to have nothing at the path: nothing stands there, or something has come there that isn't
+    /// copied, for instance a link.
     pub(crate) fn lets_go(&self, path: &PathBuf) -> bool
         ensures { result ≡ lets_go_of (look_at self.now.others.entries path.now)
             (is_kept self.now.wanted.entries self.now.removed.entries path.now) }
@@ -291,7 +292,8 @@ impl Looks {
         }
     }
 
-    /// What goes of what was copied below the path: each topmost path of which the copy is to have nothing.
+    /// Returns the paths to remove below this one: those at which the copy is to have nothing, without the paths
+    /// below them.
     pub(crate) fn gone_below(
         &self,
         copied: &Copied,

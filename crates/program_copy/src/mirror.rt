@@ -28,7 +28,7 @@ use std::io;
 use std::io::Write;
 use std::time::Duration;
 
-/// After how many milliseconds what waits is tried again.
+/// After how many milliseconds the paths that wait are tried again.
 const PAUSE: u64 = 1000;
 
 /// Whether both are the same.
@@ -43,7 +43,7 @@ fn is_like(one: Option<Standing>, other: Option<Standing>) -> bool
     )
 }
 
-/// Whether an event of the batch asks to look at all anew, since the watcher lost some.
+/// Whether an event of the batch asks to read all again, since the watcher lost some.
 fn asks_anew(report: &DebounceEventResult) -> bool
     ensures { result ≡ asks_anew report.now }
 {
@@ -53,7 +53,7 @@ fn asks_anew(report: &DebounceEventResult) -> bool
     }
 }
 
-/// Whether one of the events asks for that.
+/// Whether one of the events asks to read all again.
 fn has_request(batch: &[DebouncedEvent]) -> bool
     ensures { result ≡ has_request batch.now }
 {
@@ -65,40 +65,40 @@ fn tells_moves(batch: &[DebouncedEvent]) -> bool {
     batch.iter().any(|event| event.event.tracker().is_some())
 }
 
-/// What the words allow.
+/// What the command line allows.
 #[derive(Clone, Copy, Debug)]
 pub struct Leave {
-    /// What the copy has and the folder never had may be removed.
+    /// Whether things may be removed that the copy has and the folder never had.
     pub delete: bool,
-    /// Nothing is done.
+    /// Whether this is a dry run, which changes nothing.
     pub dry_run: bool,
 }
 
-/// A copy that follows its folder, where what it does is said. After each batch the copy has, at each path that
-/// was reported, what a reader of the batches has there, or the path waits.
+/// A copy that follows its folder, and writes what it does. After each batch, at each path of the batch, the copy has
+/// what a program that plays the batches has there; or the path waits to be tried again.
 #[derive(Drop)]
 pub struct Mirror<C: Drop, O: Drop, E: Drop> {
     pub(crate) alloc: Global,
     leave: Leave,
     pub kept: Kept<C>,
-    /// The moves of the last batch that told any.
+    /// The moves of the last batch that had some.
     pub(crate) earlier: Option<Moves>,
     pub waiting: OwedPaths,
-    /// After how long what waits is tried again.
+    /// After how long the paths that wait are tried again.
     pause: Duration,
-    /// Something has failed since what waits was last tried again.
+    /// Whether something has failed since the paths that wait were last tried again.
     pub has_failed: bool,
-    /// The folder isn't there. Its copy stays as it is until the folder is there again.
+    /// Whether the folder is missing. Then its copy stays as it is until the folder is there again.
     is_gone: bool,
     /// The number of the copy's folder, if it was there when it was last asked for.
     copy_number: Option<u64>,
-    /// What the copy has beside the folder wasn't removed since the folder was there again.
+    /// Whether what the copy has and the folder hasn't is still to be removed, since the folder is there again.
     has_beside: bool,
     pub(crate) words: Words<O, E>,
 }
 
 impl<C: FolderAndCopy, O: Write + Drop, E: Write + Drop> Mirror<C, O, E> {
-    /// Returns the mirror of the copy. It says on `out` what it does, and on `err` what failed.
+    /// Makes the mirror of this copy. It writes to `out` what it does, and to `err` what failed.
     pub fn new(alloc: Global, copy: C, leave: Leave, out: O, err: E) -> Mirror<C, O, E> {
         let copy_number = copy.copy_number();
         Mirror {
@@ -121,8 +121,7 @@ impl<C: FolderAndCopy, O: Write + Drop, E: Write + Drop> Mirror<C, O, E> {
         self.kept.copy.folder()
     }
 
-    /// Tries once more what waits. The copy isn't complete if something fails still, or if events were
-    /// lost.
+    /// Tries the paths that wait once more. The copy is incomplete if something still fails, or if events were lost.
     pub fn end(&mut self, missed: u64) -> Result<(), Fault>
         ensures ok { OnOk result ((missed ≡ 0) × (self.new.has_failed ≡ false)) }
         ensures again { OnOk result (WaitOrAreCopied (C.sees self.old.kept.copy)
@@ -136,7 +135,7 @@ impl<C: FolderAndCopy, O: Write + Drop, E: Write + Drop> Mirror<C, O, E> {
         Ok(())
     }
 
-    /// Tries again what waits.
+    /// Tries the paths that wait again.
     fn try_again(&mut self) -> Result<(), Fault>
         ensures { OnOk result (WaitOrAreCopied (C.sees self.old.kept.copy)
             (events_of (again_of self.old.waiting)) self.new.waiting self.new.kept.copied) }
@@ -151,7 +150,7 @@ impl<C: FolderAndCopy, O: Write + Drop, E: Write + Drop> Mirror<C, O, E> {
         Ok(())
     }
 
-    /// Makes the moves that the batch tells, and then carries out what it asks for, and these events.
+    /// Makes the moves of the batch, and then does what the batch and these events ask for.
     fn take_moved(
         &mut self,
         batch: Vec<DebouncedEvent>,
@@ -167,8 +166,8 @@ impl<C: FolderAndCopy, O: Write + Drop, E: Write + Drop> Mirror<C, O, E> {
         self.take_both(events, added)
     }
 
-    /// Makes the moves that the batch tells, if the folder and its copy are there. Returns removals of what came
-    /// along and isn't told yet.
+    /// Makes the moves of the batch, if the folder and its copy are there. Returns removals for what moved along and
+    /// isn't in the batch yet.
     fn move_first(&mut self, batch: &[DebouncedEvent]) -> Result<Vec<DebouncedEvent>, Fault> {
         self.kept.came.forget_told(self.alloc);
         if !tells_moves(batch) || !self.has_folders()? {
@@ -178,8 +177,8 @@ impl<C: FolderAndCopy, O: Write + Drop, E: Write + Drop> Mirror<C, O, E> {
         self.make_moves(batch)
     }
 
-    /// Returns those of the removals at whose paths nothing stands, to be carried out before the batch. The others
-    /// wait: the next batch may tell them.
+    /// Returns those of the removals at whose paths nothing stands: they are done before the batch. The others wait,
+    /// since the next batch may have their moves.
     fn gone_of(&mut self, left: Vec<DebouncedEvent>) -> Result<Vec<DebouncedEvent>, Fault> {
         let mut gone = Vec::new(self.alloc);
         for event in left {
@@ -191,7 +190,7 @@ impl<C: FolderAndCopy, O: Write + Drop, E: Write + Drop> Mirror<C, O, E> {
         Ok(gone)
     }
 
-    /// Whether something may stand at the event's path: then it waits.
+    /// Whether something may stand at the event's path. Then the path waits.
     fn is_still(&mut self, event: &DebouncedEvent) -> Result<bool, Fault> {
         let Some(path) = event.first_path() else {
             return Ok(false);
@@ -204,7 +203,7 @@ impl<C: FolderAndCopy, O: Write + Drop, E: Write + Drop> Mirror<C, O, E> {
         Ok(true)
     }
 
-    /// Carries out what the batch asks for, and then these events.
+    /// Does what the batch asks for, and then what these events ask for.
     fn take_both(
         &mut self,
         batch: Vec<DebouncedEvent>,
@@ -218,7 +217,7 @@ impl<C: FolderAndCopy, O: Write + Drop, E: Write + Drop> Mirror<C, O, E> {
         self.take_batch(batch)
     }
 
-    /// Carries out what the batch asks for, and what waits at its paths.
+    /// Does what the batch asks for, and tries again what waits at its paths.
     fn take_batch(&mut self, batch: Vec<DebouncedEvent>) -> Result<(), Fault>
         ensures { OnOk result (WaitOrAreCopied (C.sees self.old.kept.copy)
             (events_of batch.items) self.new.waiting self.new.kept.copied) }
@@ -229,7 +228,7 @@ impl<C: FolderAndCopy, O: Write + Drop, E: Write + Drop> Mirror<C, O, E> {
         self.carry_out_all(events.as_slice())
     }
 
-    /// Returns what a batch is taken with that asks to look at all anew, and else nothing.
+    /// Returns the events to add to a batch that asks to read all again; none for another batch.
     fn anew(&self, is_asked: bool) -> Result<Vec<DebouncedEvent>, Fault>
         ensures { IfOk result (λ added. IsTakenWith (C.names self.now.kept.copy) is_asked
             self.now.kept.copied added.items) }
@@ -281,7 +280,7 @@ impl<C: FolderAndCopy, O: Write + Drop, E: Write + Drop> Mirror<C, O, E> {
         self.keep_unlike(batch, &looks)
     }
 
-    /// Carries out the plan for the batch, over what was seen.
+    /// Does the actions for the batch, by what the looks found.
     fn carry_plan(&mut self, batch: &[DebouncedEvent], looks: &Looks) -> Result<(), Fault> {
         for action in &plan(self.alloc, &looks.standing, batch)? {
             self.carry_out(action, looks)?;
@@ -289,7 +288,7 @@ impl<C: FolderAndCopy, O: Write + Drop, E: Write + Drop> Mirror<C, O, E> {
         Ok(())
     }
 
-    /// The paths of the batch wait for the folder, or for its copy.
+    /// Lets the paths of the batch wait, until the folder and its copy are there.
     fn keep_for_later(&mut self, batch: &[DebouncedEvent]) -> Result<(), Fault>
         ensures wait { OnOk result (AllWait (events_of batch.now) self.new.waiting) }
         ensures same { self.new.kept ≡ self.old.kept }
@@ -301,7 +300,7 @@ impl<C: FolderAndCopy, O: Write + Drop, E: Write + Drop> Mirror<C, O, E> {
         Ok(())
     }
 
-    /// The event's path waits.
+    /// Lets the event's path wait.
     fn keep_event(
         &mut self,
         event: &DebouncedEvent,
@@ -327,7 +326,7 @@ impl<C: FolderAndCopy, O: Write + Drop, E: Write + Drop> Mirror<C, O, E> {
         Ok(self.has_folder() && has_copy)
     }
 
-    /// Whether the folder is there. Says so if it isn't any more.
+    /// Whether the folder is there. Writes a line when it is gone.
     fn has_folder(&mut self) -> bool
         ensures same { self.new.kept ≡ self.old.kept }
     {
@@ -341,8 +340,8 @@ impl<C: FolderAndCopy, O: Write + Drop, E: Write + Drop> Mirror<C, O, E> {
         has_folder
     }
 
-    /// Whether the copy's folder is there. Says so if it isn't any more. In another one in its place all has to
-    /// be copied again.
+    /// Whether the copy's folder is there. Writes a line when it is gone. If another folder stands in its place, all
+    /// has to be copied again.
     fn has_copy(&mut self) -> Result<bool, Fault>
         ensures same { OnOk result (self.new.kept ≡ self.old.kept) }
     {
@@ -363,7 +362,7 @@ impl<C: FolderAndCopy, O: Write + Drop, E: Write + Drop> Mirror<C, O, E> {
         Ok(number.is_some())
     }
 
-    /// All that was copied waits.
+    /// Lets all that was copied wait.
     fn copy_again(&mut self) -> Result<(), Fault>
         ensures same { OnOk result (self.new.kept ≡ self.old.kept) }
     {
@@ -375,7 +374,7 @@ impl<C: FolderAndCopy, O: Write + Drop, E: Write + Drop> Mirror<C, O, E> {
         Ok(())
     }
 
-    /// Removes what the copy has beside the folder, if that is allowed.
+    /// Removes what the copy has and the folder hasn't, if the program may do that.
     fn remove_beside(&mut self) -> Result<(), Fault> {
         if !self.leave.delete || !self.has_beside || !self.has_folders()? {
             return Ok(());
@@ -386,7 +385,7 @@ impl<C: FolderAndCopy, O: Write + Drop, E: Write + Drop> Mirror<C, O, E> {
         self.take_batch(batch)
     }
 
-    /// A batch of removals of what these events name and wasn't copied: that goes by its own removal.
+    /// Returns a batch of removals for those paths of these events that weren't copied.
     fn not_copied(&self, events: &[DebouncedEvent]) -> Result<Vec<DebouncedEvent>, Fault> {
         let mut batch = Vec::new(self.alloc);
         for event in events {
@@ -399,7 +398,7 @@ impl<C: FolderAndCopy, O: Write + Drop, E: Write + Drop> Mirror<C, O, E> {
         Ok(batch)
     }
 
-    /// Carries the action out, and says what was done, or what failed.
+    /// Does the action, and writes what was done or what failed.
     fn carry_out(&mut self, action: &Action, looks: &Looks) -> Result<(), Fault>
         ensures { OnOk result (IsCarriedOut C.has_put action.now
             (lets_go_of (look_at looks.now.others.entries action.now.path)
@@ -412,8 +411,8 @@ impl<C: FolderAndCopy, O: Write + Drop, E: Write + Drop> Mirror<C, O, E> {
         }
     }
 
-    /// Has what stands at the action's path stand in the copy too. If nothing is there any more, it waits for what is
-    /// reported of it.
+    /// Puts what stands at the action's path into the copy. If nothing is there any more, the path waits for the next
+    /// report about it.
     fn put_there(&mut self, action: &Action, standing: Standing) -> Result<(), Fault>
         ensures { OnOk result (IsCarriedOut C.has_put (record {
           path = action.now.path;
@@ -430,7 +429,8 @@ impl<C: FolderAndCopy, O: Write + Drop, E: Write + Drop> Mirror<C, O, E> {
         }
     }
 
-    /// Has the path wait at which nothing could be put: for what is reported of it, if nothing is there any more.
+    /// Lets the path wait, since nothing could be put there. If nothing stands there any more, it waits for the next
+    /// report about it.
     fn keep_unput(&mut self, action: &Action, error: &io::Error) -> Result<(), Fault>
         ensures wait { OnOk result (waits self.new.waiting action.now.path ≡ true) }
         ensures same { self.new.kept ≡ self.old.kept }
@@ -441,7 +441,7 @@ impl<C: FolderAndCopy, O: Write + Drop, E: Write + Drop> Mirror<C, O, E> {
         self.keep_failed(action, error)
     }
 
-    /// Removes what goes of the path and of what was copied below it.
+    /// Removes from the copy what has to go at the path and below it.
     fn remove_gone(&mut self, path: &PathBuf, looks: &Looks) -> Result<(), Fault>
         ensures { OnOk result (IsCarriedOut C.has_put (record { path = path.now; wanted = None })
             (lets_go_of (look_at looks.now.others.entries path.now)
@@ -459,7 +459,7 @@ impl<C: FolderAndCopy, O: Write + Drop, E: Write + Drop> Mirror<C, O, E> {
         }
     }
 
-    /// Removes the topmost paths that go of what was copied below the path.
+    /// Removes from the copy what has to go below the path, each topmost path with all below it.
     fn remove_below(&mut self, path: &PathBuf, looks: &Looks) -> Result<(), Fault> {
         for below in &looks.gone_below(&self.kept.copied, path)? {
             self.remove(below, looks)?;
@@ -483,7 +483,7 @@ impl<C: FolderAndCopy, O: Write + Drop, E: Write + Drop> Mirror<C, O, E> {
         }
     }
 
-    /// Says what was done, if anything was.
+    /// Writes what was done, if anything was.
     fn say_done(&mut self, action: &Action, is_done: bool) -> Result<(), Fault>
         ensures done { self.new.waiting ≡ self.old.waiting }
         ensures same { self.new.kept ≡ self.old.kept }
@@ -494,7 +494,7 @@ impl<C: FolderAndCopy, O: Write + Drop, E: Write + Drop> Mirror<C, O, E> {
         Ok(())
     }
 
-    /// Says what failed, and has its path wait: it is tried again later.
+    /// Writes what failed, and lets its path wait: it is tried again later.
     fn keep_failed(&mut self, action: &Action, error: &io::Error) -> Result<(), Fault>
         ensures kept { OnOk result (self.new.waiting
             ≡ insert_entry path_cmp self.old.waiting action.now.path (is_some action.now.wanted)) }
@@ -508,7 +508,7 @@ impl<C: FolderAndCopy, O: Write + Drop, E: Write + Drop> Mirror<C, O, E> {
         Ok(())
     }
 
-    /// Has those paths wait at which the copy hasn't what was seen, whatever the reason.
+    /// Lets those paths wait at which the copy hasn't what was found, whatever the reason.
     fn keep_unlike(&mut self, batch: &[DebouncedEvent], looks: &Looks) -> Result<(), Fault>
         ensures like { OnOk result ((path : PathValue) → is_named (events_of batch.now) path ≡ true
             → (waits self.new.waiting path ≡ true)
@@ -521,7 +521,7 @@ impl<C: FolderAndCopy, O: Write + Drop, E: Write + Drop> Mirror<C, O, E> {
         Ok(())
     }
 
-    /// Has the event's path wait if the copy hasn't what was seen there.
+    /// Lets the event's path wait if the copy hasn't what was found there.
     fn keep_event_unlike(&mut self, event: &DebouncedEvent, looks: &Looks) -> Result<(), Fault>
         ensures like { OnOk result (IfSome (slice_get event.now.event.paths 0) (λ path.
             (waits self.new.waiting path ≡ true)
@@ -535,7 +535,7 @@ impl<C: FolderAndCopy, O: Write + Drop, E: Write + Drop> Mirror<C, O, E> {
         }
     }
 
-    /// Has the path wait if the copy hasn't what was seen there.
+    /// Lets the path wait if the copy hasn't what was found there.
     fn keep_if_unlike(&mut self, path: &PathBuf, looks: &Looks) -> Result<(), Fault>
         ensures like { OnOk result ((waits self.new.waiting path.now ≡ true)
             ⊎ (look_at self.new.kept.copied path.now
@@ -553,7 +553,7 @@ impl<C: FolderAndCopy, O: Write + Drop, E: Write + Drop> Mirror<C, O, E> {
         Ok(self.waiting.insert(path, looks.is_named(path))?)
     }
 
-    /// Has those paths wait at which the looks don't say what was reported.
+    /// Lets those paths wait at which the looks found something else than was reported.
     fn keep_others(&mut self, looks: &Looks) -> Result<(), Fault>
         ensures same { OnOk result (self.new.kept ≡ self.old.kept) }
     {
@@ -568,8 +568,9 @@ impl<C: FolderAndCopy, O: Write + Drop, E: Write + Drop> Mirror<C, O, E> {
         Ok(())
     }
 
-    /// Has the path wait, if what was seen there isn't what was reported: nothing stands at a path that is wanted, or
-    /// something does at one that was removed, or nobody can say. Its next report, or a later look, says more.
+    /// Lets the path wait, if the look found something else than was reported: nothing stands at a path that is
+    /// wanted, something stands at one that was removed, or the look failed. The next report about it, or a later
+    /// look, says more.
     fn keep(&mut self, path: &PathBuf, seen: &Seen, is_wanted: bool) -> Result<(), Fault>
         ensures same { self.new.kept ≡ self.old.kept }
     {
@@ -584,7 +585,7 @@ impl<C: FolderAndCopy, O: Write + Drop, E: Write + Drop> Mirror<C, O, E> {
         }
     }
 
-    /// Has a path wait that can't be looked at.
+    /// Lets a path wait that can't be looked at.
     fn keep_closed(
         &mut self,
         path: &PathBuf,
@@ -600,8 +601,8 @@ impl<C: FolderAndCopy, O: Write + Drop, E: Write + Drop> Mirror<C, O, E> {
         Ok(())
     }
 
-    /// Has a path wait that was reported as removed, and at which something stands, of what was copied: it comes
-    /// again as created, unless its folder's names can't be read.
+    /// Lets a copied path wait that was reported as removed, but at which something stands. It is reported again as
+    /// created, unless the names in its folder can't be read.
     fn keep_unseen(&mut self, path: &PathBuf) -> Result<(), Fault>
         ensures same { self.new.kept ≡ self.old.kept }
     {
@@ -618,7 +619,8 @@ impl<C: FolderAndCopy, O: Write + Drop, E: Write + Drop> Mirror<C, O, E> {
         Ok(())
     }
 
-    /// Says which folder permission closes, or which path can't be looked at for another cause.
+    /// Writes which folder can't be entered for want of permission, or which path can't be looked at for another
+    /// reason.
     fn say_closed(&mut self, path: &PathBuf, error: &io::Error) -> Result<(), Fault>
         ensures same { self.new.kept ≡ self.old.kept }
     {
@@ -632,7 +634,7 @@ impl<C: FolderAndCopy, O: Write + Drop, E: Write + Drop> Mirror<C, O, E> {
         }
     }
 
-    /// Says that a folder's names can't be read, if it is one: then it waits.
+    /// If this is a folder whose names can't be read, writes so, and lets it wait.
     fn look_into(&mut self, action: &Action, standing: Standing) -> Result<(), Fault>
         ensures stay { OnOk result (StayWaiting self.old.waiting self.new.waiting) }
         ensures same { self.new.kept ≡ self.old.kept }
@@ -646,7 +648,7 @@ impl<C: FolderAndCopy, O: Write + Drop, E: Write + Drop> Mirror<C, O, E> {
         Ok(())
     }
 
-    /// Says what fails at the path, once.
+    /// Writes what fails at the path, once.
     fn say_trouble(
         &mut self,
         word: &'static str,
@@ -674,7 +676,7 @@ impl<C: FolderAndCopy, O: Write + Drop, E: Write + Drop> TakesReports for Mirror
     ghost waits = { λ mirror. if length mirror.waiting == 0
         && not (mirror.leave.delete && mirror.has_beside) then None else Some mirror.pause };
 
-    /// What stands in the folder is reported: the copy is made as of any other change.
+    /// Asks for reports of what stands in the folder: they make the first copy, as any other change does.
     fn begin(&mut self) -> Result<(), Fault> {
         let _ = write_watching(
             self.kept.copy.folder().as_str(),
@@ -684,8 +686,7 @@ impl<C: FolderAndCopy, O: Write + Drop, E: Write + Drop> TakesReports for Mirror
         self.remove_beside()
     }
 
-    /// Takes a batch, or prints a line for each error. After an error the watcher looks again, so no change
-    /// is lost by one.
+    /// Takes a batch, or writes a line for each error. After an error the watcher looks again, so no change is lost.
     fn take(&mut self, report: DebounceEventResult) -> Result<(), Fault> {
         let added = self.anew(asks_anew(&report))?;
         // What is beside goes before the batch is taken, so that the copy is as the batch says in the end.
@@ -696,7 +697,7 @@ impl<C: FolderAndCopy, O: Write + Drop, E: Write + Drop> TakesReports for Mirror
         }
     }
 
-    /// What waits is tried again after a pause, and so is what is beside.
+    /// After a pause, tries the paths that wait again, and removes what the copy has and the folder hasn't.
     fn patience(&self) -> Option<Duration> {
         if self.waiting.is_empty() && !(self.leave.delete && self.has_beside) {
             None

@@ -1,6 +1,7 @@
 //! The moves of a batch, made in a copy before the batch is carried out.
 //!
-//! A move spares copies and is never needed: the batch decides, and is carried out after it as always.
+//! A move only saves copying. What the copy has in the end is decided by the batch, which is taken after the moves as
+//! always.
 ghost use Rattle.std.specs.Prelude.{◌≡◌, ◌⊎◌, true, OnOk, IfOk};
 ghost use Rattle.std.specs.BTreeMap.{insert_entry, is_at};
 ghost use Rattle.std.specs.List.Sorted.{IsStrictlySortedBy};
@@ -24,7 +25,7 @@ use reader_paths::plan::{Standing, name_removed, target_of};
 use std::alloc::{AllocError, Global};
 use std::io::Write;
 
-/// The moves that the batch tells.
+/// The moves of the batch.
 fn moves_of(alloc: Global, batch: &[DebouncedEvent]) -> Result<Moves, Fault>
     ensures { IfOk result (λ moves. AreMovesOf (events_of batch.now) moves) }
 {
@@ -34,7 +35,7 @@ fn moves_of(alloc: Global, batch: &[DebouncedEvent]) -> Result<Moves, Fault>
     }
 }
 
-/// Where what the batch's events created was before.
+/// The old paths of what the batch's events created.
 fn sources_of(moves: &Moves, batch: &[DebouncedEvent]) -> Result<Sources, Fault>
     ensures { IfOk result (λ sources.
         AreSourcesOf moves.now (events_of batch.now) sources.entries) }
@@ -57,7 +58,7 @@ fn is_due(was: Option<Standing>, old: &Seen, new: &Seen) -> bool
     }
 }
 
-/// Whether what stands at `new` is told to have been at `old`.
+/// Whether the batch says that what stands at `new` was at `old` before.
 fn is_told(sources: &Sources, old: &PathBuf, new: &PathBuf) -> bool
     ensures { result ≡ true → stands (look_at sources.now.entries) new.now ≡ true }
 {
@@ -67,7 +68,7 @@ fn is_told(sources: &Sources, old: &PathBuf, new: &PathBuf) -> bool
     }
 }
 
-/// Notes that what came along from `old` stands at `new` now: if that isn't told yet, it is to be looked at.
+/// Notes that what was at `old` stands at `new` now. If the batch doesn't say so, `new` is to be looked at.
 fn note_came(
     came: &mut Came,
     left: &mut Vec<DebouncedEvent>,
@@ -87,8 +88,8 @@ fn note_came(
 }
 
 impl<C: FolderAndCopy> Kept<C> {
-    /// Has the copy make the move, if it is due. Says whether it was made, and adds removals of what came along and
-    /// isn't told.
+    /// Asks the copy to make the move, if it is due. Returns whether it was made, and adds removals for what moved
+    /// along and isn't in the batch.
     fn try_move(
         &mut self,
         found: &Move,
@@ -114,7 +115,7 @@ impl<C: FolderAndCopy> Kept<C> {
         is_due(self.copied.get(&found.from), &old, &new)
     }
 
-    /// Has the copy make the move, if that is asked for.
+    /// Asks the copy to make the move, if it is due.
     fn make_if(
         &mut self,
         due: bool,
@@ -134,7 +135,7 @@ impl<C: FolderAndCopy> Kept<C> {
         self.move_over(found, sources, left)
     }
 
-    /// Has the copy make the move, and what came along count as copied at its new paths.
+    /// Asks the copy to make the move, and notes all that moved as copied at its new paths.
     fn move_over(
         &mut self,
         found: &Move,
@@ -153,7 +154,7 @@ impl<C: FolderAndCopy> Kept<C> {
         Ok(moved)
     }
 
-    /// Asks the copy to make the move. What it refuses is copied as always.
+    /// Asks the copy to make the move. If it refuses, the batch copies as always.
     fn is_moved(&mut self, found: &Move) -> bool
         ensures moves { C.moves self.old.copy found.now.from found.now.to self.new.copy }
         ensures same { self.new.copied ≡ self.old.copied }
@@ -164,7 +165,7 @@ impl<C: FolderAndCopy> Kept<C> {
         )
     }
 
-    /// Has what stood at these paths count as copied at its new ones, if it was moved.
+    /// If the move was made, notes what stood at these paths as copied at its new ones.
     fn carry_if(
         &mut self,
         moved: bool,
@@ -185,7 +186,7 @@ impl<C: FolderAndCopy> Kept<C> {
         self.carry_all(tree, found, sources, left)
     }
 
-    /// Has what stood at these paths count as copied at its new ones.
+    /// Notes what stood at these paths as copied at its new ones.
     fn carry_all(
         &mut self,
         tree: &[(PathBuf, Standing)],
@@ -205,7 +206,7 @@ impl<C: FolderAndCopy> Kept<C> {
         Ok(())
     }
 
-    /// Has what stood at the path count as copied at its new one, if it lies where the move says.
+    /// Notes what stood at the path as copied at its new one, if it lies at or below the move's old path.
     fn carry_one(
         &mut self,
         path: &PathBuf,
@@ -227,7 +228,7 @@ impl<C: FolderAndCopy> Kept<C> {
         }
     }
 
-    /// Has what stood at the old path count as copied at the new one, and notes whether that is told.
+    /// Notes what stood at the old path as copied at the new one, and whether the batch says so.
     fn carry_to(
         &mut self,
         old: &PathBuf,
@@ -246,7 +247,7 @@ impl<C: FolderAndCopy> Kept<C> {
         note_came(&mut self.came, left, old, new, sources)
     }
 
-    /// Has what stood at the old path count as copied at the new one.
+    /// Notes what stood at the old path as copied at the new one.
     fn carry(&mut self, old: &PathBuf, new: &PathBuf, standing: Standing) -> Result<(), AllocError>
         ensures same { self.new.copy ≡ self.old.copy }
         ensures carried { OnOk result (self.new.copied ≡ insert_entry path_cmp
@@ -258,8 +259,8 @@ impl<C: FolderAndCopy> Kept<C> {
 }
 
 impl<C: FolderAndCopy, O: Write + Drop, E: Write + Drop> Mirror<C, O, E> {
-    /// Makes those moves of the batch that are due, in the order of their trackers, before all other actions.
-    /// Returns removals of what came along and isn't told to stand at its new path.
+    /// Makes those moves of the batch that are due, in the order of their trackers, before all other actions. Returns
+    /// removals for what moved along, but isn't at its new path according to the batch.
     pub(crate) fn make_moves(
         &mut self,
         batch: &[DebouncedEvent],
@@ -275,7 +276,7 @@ impl<C: FolderAndCopy, O: Write + Drop, E: Write + Drop> Mirror<C, O, E> {
         Ok(left)
     }
 
-    /// The next batches may tell more of these moves.
+    /// Keeps these moves, since the next batches may have more events of them.
     fn keep_moves(&mut self, moves: Moves)
         ensures same { self.new.kept ≡ self.old.kept }
     {
@@ -284,7 +285,7 @@ impl<C: FolderAndCopy, O: Write + Drop, E: Write + Drop> Mirror<C, O, E> {
         }
     }
 
-    /// Notes what this batch tells of moves that an earlier one told in part.
+    /// Notes what this batch says about moves of which an earlier batch had some events.
     pub(crate) fn tell_more(&mut self, batch: &[DebouncedEvent]) -> Result<(), Fault> {
         if let Some(earlier) = &self.earlier {
             let sources = sources_of(earlier, batch)?;
@@ -331,7 +332,7 @@ impl<C: FolderAndCopy, O: Write + Drop, E: Write + Drop> Mirror<C, O, E> {
         Ok(())
     }
 
-    /// Makes the move if it is due, and says so.
+    /// Makes the move if it is due, and writes that it was made.
     fn make_move(
         &mut self,
         found: &Move,
@@ -348,7 +349,7 @@ impl<C: FolderAndCopy, O: Write + Drop, E: Write + Drop> Mirror<C, O, E> {
         self.say_move(made, found)
     }
 
-    /// Says that the move was made, if it was.
+    /// Writes that the move was made, if it was.
     fn say_move(&mut self, made: bool, found: &Move) -> Result<(), Fault>
         ensures same { self.new.kept ≡ self.old.kept }
     {

@@ -1,4 +1,4 @@
-//! A folder and its copy, and what they are asked.
+//! The trait of a folder and its copy.
 ghost use Rattle.std.specs.Prelude.{◌≡◌, IfOk, OnOk};
 ghost use Rattle.program_copy.specs.Seen.{standing_of};
 
@@ -9,21 +9,21 @@ use program_frame::Fault;
 use reader_paths::plan::Standing;
 use std::io;
 
-/// What a look at a path of the folder answers.
+/// The result of a look at a path of the folder.
 #[derive(Drop)]
 pub enum Seen {
-    /// What is copied.
+    /// A file or a folder, which is copied.
     Stands(Standing),
-    /// What isn't, as a link.
+    /// Something that isn't copied, for instance a link.
     Other,
     /// Nothing is there.
     Nothing,
-    /// What is there can't be said, for instance since permission closes a folder above.
+    /// The look failed, for instance since a folder above can't be entered.
     Closed(io::Error),
 }
 
 impl Seen {
-    /// Returns what the error of a look says.
+    /// Returns the result of a look that failed with this error.
     pub fn of(error: io::Error) -> Seen {
         if is_missing(&error) {
             Seen::Nothing
@@ -32,7 +32,7 @@ impl Seen {
         }
     }
 
-    /// Returns what a copy is to have of it.
+    /// Returns what the copy is to have at the path.
     pub fn standing(&self) -> Option<Standing>
         ensures { result ≡ standing_of self.now }
     {
@@ -61,17 +61,17 @@ pub(crate) fn is_memory(error: &io::Error) -> bool {
 pub enum Had {
     /// Nothing that counts as copied.
     Nothing,
-    /// What was copied there.
+    /// A copy of this kind.
     Copied(Standing),
-    /// What came along with a move, by what the batch tells of it.
+    /// Something of this kind that was moved there in the copy, as the batch says.
     Moved(Standing),
 }
 
-/// A folder and its copy, which are asked by paths of the folder. A call that changes the copy says whether
-/// there was anything to do.
+/// A folder and its copy. All calls take paths of the folder. A call that changes the copy returns whether there was
+/// anything to do.
 ///
-/// Its ghost members say what a look may answer, what may stand in the folder, what was put into the copy last, and
-/// from what a move led to what.
+/// The ghost members are for proofs. They say which results a look may have, what may stand in the folder, what was
+/// put into the copy last, and what a move did.
 pub trait FolderAndCopy: Drop {
     ghost use Rattle.std.specs.Prelude.{List};
     ghost use Rattle.notify_paths.specs.Path.{PathValue};
@@ -79,16 +79,16 @@ pub trait FolderAndCopy: Drop {
     ghost use Rattle.reader_paths.specs.declared.plan.action.Standing.{Standing};
     ghost use Rattle.program_copy.specs.declared.seen.Seen.{Seen};
 
-    /// What a look at the path may answer.
+    /// A look at the path may have this result.
     ghost sees: { Self → PathValue → Seen → Type 0 };
 
     /// These events may name what stands in the folder.
     ghost names: { Self → List Timed → Type 0 };
 
-    /// The last call put this there, and went well.
+    /// The last call put this thing to this path of the copy, and went well.
     ghost has_put: { Self → PathValue → Standing → Type 0 };
 
-    /// A call that was asked to move the one path to the other leads from this to that.
+    /// A call to move the one path to the other, as before and after it.
     ghost moves: { Self → PathValue → PathValue → Self → Type 0 };
 
     /// Returns the folder.
@@ -107,33 +107,32 @@ pub trait FolderAndCopy: Drop {
     fn look_at(&self, path: &PathBuf) -> Seen
         ensures { sees self.now path.now result };
 
-    /// Returns the folder that permission closes above the path, or the path itself.
+    /// Returns the folder above the path that can't be entered for want of permission, or the path itself.
     fn closed_above(&self, path: &PathBuf) -> io::Result<PathBuf>;
 
-    /// It is an error if the folder's names can't be read. What doesn't lie in the folder that is copied is
-    /// left alone.
+    /// It is an error if the names in this folder can't be read. Paths outside of the copied folder are ignored.
     fn check_names(&self, folder: &PathBuf) -> io::Result<()>;
 
     /// Returns a batch that names all that stands in the folder.
     fn all(&self) -> Result<Vec<DebouncedEvent>, Fault>
         ensures { IfOk result (λ batch. names self.now batch.items) };
 
-    /// Returns a batch of removals of what the copy has beside what stands in the folder.
+    /// Returns a batch of removals for what the copy has and the folder hasn't.
     fn beside(&self) -> Result<Vec<DebouncedEvent>, Fault>;
 
-    /// Has what stands at the path of the folder stand in the copy too, of which the copy had this before.
+    /// Puts what stands at the path of the folder into the copy. `had` says what the copy had there before.
     fn put(&mut self, path: &PathBuf, standing: Standing, had: Had) -> io::Result<bool>
         ensures { OnOk result (has_put self.new path.now standing) };
 
-    /// Has what stands in the copy for the path `from` stand there for `to`, if nothing does yet and nothing at or
-    /// below `from` is the copy's own: all of it was copied. In a dry run the copy's own isn't looked for.
+    /// Moves what the copy has for the path `from` to the place for `to`, if nothing stands there yet, and all of it
+    /// was copied. A dry run doesn't check whether all of it was copied.
     fn move_to(&mut self, from: &PathBuf, to: &PathBuf, copied: &Copied) -> io::Result<bool>
         ensures { moves self.old from.now to.now self.new };
 
-    /// Removes from the copy what was put there for this path alone: a folder only if it is empty. What
-    /// stands there of the copy's own stays.
+    /// Removes from the copy what was put there for this path, but nothing below it: a folder only if it is empty.
+    /// What the copy has there of its own stays.
     fn take_out(&mut self, path: &PathBuf, standing: Standing) -> io::Result<bool>;
 
-    /// Removes what stands in the copy for this path, whatever it is, with all below it.
+    /// Removes what stands in the copy for this path, whatever it is, and all below it.
     fn clear(&mut self, path: &PathBuf) -> io::Result<bool>;
 }

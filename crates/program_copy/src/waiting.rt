@@ -1,4 +1,4 @@
-//! What waits to be done.
+//! The paths that are to be tried again.
 ghost use Rattle.std.specs.Prelude.{◌≡◌, ◌==◌, length, true, IfOk, OnOk};
 ghost use Rattle.std.specs.BTreeMap.{insert_entry};
 ghost use Rattle.notify_paths.specs.Path.{path_cmp};
@@ -13,7 +13,7 @@ use std::marker::Model;
 use std::mem;
 use std::ops::Bound;
 
-/// The paths at which a copy may not have what was reported: whether each is wanted.
+/// The paths at which the copy may not have what was reported, and whether each is wanted.
 #[derive(Drop)]
 pub struct OwedPaths {
     alloc: Global,
@@ -29,7 +29,7 @@ impl Model for OwedPaths {
 }
 
 impl OwedPaths {
-    /// Returns that of a copy for which nothing waits.
+    /// Makes one in which no path waits.
     pub(crate) fn new(alloc: Global) -> OwedPaths {
         OwedPaths {
             alloc,
@@ -37,7 +37,7 @@ impl OwedPaths {
         }
     }
 
-    /// Whether nothing waits.
+    /// Whether no path waits.
     pub(crate) fn is_empty(&self) -> bool
         ensures { result ≡ (length self.now == 0) }
     {
@@ -51,7 +51,7 @@ impl OwedPaths {
         self.paths.contains_key(path)
     }
 
-    /// The path waits from now on, and is wanted or not.
+    /// Lets the path wait from now on. `is_wanted` says whether the batches want it.
     pub(crate) fn insert(&mut self, path: &PathBuf, is_wanted: bool) -> Result<(), AllocError>
         ensures put { OnOk result (self.new
             ≡ insert_entry path_cmp self.old path.now is_wanted) }
@@ -62,7 +62,7 @@ impl OwedPaths {
         Ok(())
     }
 
-    /// Takes out all that waits. Returns a batch by which it is looked at again.
+    /// Takes out all paths that wait. Returns a batch by which they are looked at again.
     pub(crate) fn take_all(&mut self) -> Result<Vec<DebouncedEvent>, AllocError>
         ensures { IfOk result (λ batch. batch.items ≡ again_of self.old) }
     {
@@ -70,8 +70,8 @@ impl OwedPaths {
         batch_of(self.alloc, &paths)
     }
 
-    /// Takes out what the batch names, and what waits below a path that it says was removed. Returns a batch by
-    /// which that is looked at again, to come before this one.
+    /// Takes out the paths that the batch names, and those below a path that it removes. Returns a batch by which
+    /// they are looked at again, to be taken before this one.
     pub(crate) fn take_named(
         &mut self,
         batch: &[DebouncedEvent],
@@ -101,7 +101,7 @@ impl OwedPaths {
         Ok(())
     }
 
-    /// What waits at the path, and below it, if that is asked for.
+    /// Returns the paths that wait at this one, and, if asked for, below it.
     fn found(&self, path: &PathBuf, with_below: bool) -> Result<Vec<(PathBuf, bool)>, AllocError> {
         let mut found = Vec::new(self.alloc);
         for (key, is_wanted) in self.paths.range((Bound::Included(path), Bound::Unbounded)) {

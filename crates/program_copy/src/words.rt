@@ -1,4 +1,4 @@
-//! What a mirror says.
+//! The lines that a mirror writes.
 use crate::NAME;
 use crate::complaints::SaidOnce;
 use notify_paths::PathBuf;
@@ -8,7 +8,7 @@ use std::alloc::{AllocError, Global};
 use std::io;
 use std::io::Write;
 
-/// Where a mirror says what it does, and what fails.
+/// Where a mirror writes what it does and what fails.
 #[derive(Drop)]
 pub(crate) struct Words<O: Drop, E: Drop> {
     alloc: Global,
@@ -17,7 +17,7 @@ pub(crate) struct Words<O: Drop, E: Drop> {
 }
 
 impl<O: Write + Drop, E: Write + Drop> Words<O, E> {
-    /// Returns those of a program that has said nothing yet.
+    /// Makes one for a program that has written nothing yet.
     pub(crate) fn new(alloc: Global, out: O, err: E) -> Words<O, E> {
         Words {
             alloc,
@@ -26,7 +26,7 @@ impl<O: Write + Drop, E: Write + Drop> Words<O, E> {
         }
     }
 
-    /// Says what was done.
+    /// Writes what was done.
     pub(crate) fn say_done(&mut self, action: &Action) -> Result<(), Fault> {
         let mut line = Vec::new(self.alloc);
         line.extend_from_slice(word_of(action.wanted).as_bytes())?;
@@ -36,7 +36,7 @@ impl<O: Write + Drop, E: Write + Drop> Words<O, E> {
         write_now(line.as_slice(), &mut self.out)
     }
 
-    /// Says what was moved.
+    /// Writes what was moved.
     pub(crate) fn say_moved(&mut self, from: &PathBuf, to: &PathBuf) -> Result<(), Fault> {
         let mut line = Vec::new(self.alloc);
         line.extend_from_slice(b"move ")?;
@@ -47,7 +47,7 @@ impl<O: Write + Drop, E: Write + Drop> Words<O, E> {
         write_now(line.as_slice(), &mut self.out)
     }
 
-    /// Says what failed, once.
+    /// Writes what failed, once.
     pub(crate) fn say_failed(
         &mut self,
         action: &Action,
@@ -56,7 +56,7 @@ impl<O: Write + Drop, E: Write + Drop> Words<O, E> {
         self.said.say(word_of(action.wanted), &action.path, error)
     }
 
-    /// Says that the folder is gone, or can't be looked at.
+    /// Writes that the folder is gone, or can't be looked at.
     pub(crate) fn say_gone(&mut self, folder: &PathBuf, found: io::Result<bool>) {
         let folder = folder.as_str();
         let _ = match found {
@@ -71,14 +71,14 @@ impl<O: Write + Drop, E: Write + Drop> Words<O, E> {
         };
     }
 
-    /// Says that the copy is gone.
+    /// Writes that the copy is gone.
     pub(crate) fn say_copy_gone(&mut self, copy: &PathBuf) {
         let copy = copy.as_str();
         let _ = writeln!(self.said.err, "{NAME}: {copy} is gone");
     }
 }
 
-/// What is done, in one word.
+/// An action in one word.
 fn word_of(wanted: Option<Standing>) -> &'static str {
     match wanted {
         None => "remove",

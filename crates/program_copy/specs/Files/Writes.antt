@@ -1,15 +1,16 @@
--- What a copy's disk is told to change.
+-- Which paths on a disk a copy changes.
 use Rattle.std.specs.Prelude.{◌≡◌, ◌⊎◌, ℕ, Bool, true, false, List, [], ◌∷◌, ◌++◌, Some, codes}
 use Rattle.std.specs.List.{AllByRecursion}
 use Rattle.notify_paths.specs.Path.{PathValue}
 use Rattle.notify_paths.specs.PathMoves.{child_of}
 use Rattle.reader_paths.specs.Plan.Target.{target_of}
 
--- if anything was done, and this is no dry run, the path was changed last
+-- if something was done, and this is no dry run, then the last change was at this path
 abbrev pub IsChanged : (PathValue → Type 0) → PathValue → Bool → Bool → Type 0
 IsChanged changed path dry_run done = done ≡ true → dry_run ≡ false → changed path
 
--- .. the path of the copy that stands for this path of the folder
+-- if something was done, and this is no dry run, then the last change was at the copy's path for this path of the
+-- folder
 abbrev pub IsChangedFor : (PathValue → Type 0) → PathValue → PathValue → PathValue → Bool → Bool → Type 0
 IsChangedFor changed from to path dry_run done = done ≡ true → dry_run ≡ false →
     (target : PathValue) × (target_of from to path ≡ Some target) × changed target
@@ -19,18 +20,18 @@ abbrev pub Lead : {D : Type 0} → (D → PathValue → D → Type 0) → D → 
 Lead changes old [] new = new ≡ old
 Lead {D} changes old (path ∷ paths) new = (between : D) × changes old path between × Lead changes between paths new
 
--- .. of whose paths each is allowed, and no other calls
+-- calls with allowed paths lead from the one disk to the other, and no other calls were made
 pub record ChangesOnly {D : Type 0} (changes : D → PathValue → D → Type 0) (IsAllowed : PathValue → Type 0)
     (old new : D) : Type 0 where
   pub paths : List PathValue
   pub lead : Lead changes old paths new
   pub allowed : AllByRecursion IsAllowed paths
 
--- a name under which a file is written before it gets its own
+-- a temporary name: a file of the copy is written under it before it gets its own name
 abbrev pub IsPartialName : List ℕ → Type 0
 IsPartialName name = (more : List ℕ) × (name ≡ codes ".folder_mirror.partial" ++ more)
 
--- the copy's path of such a name
+-- a path in the copy's folder with a temporary name
 abbrev pub IsPartial : PathValue → PathValue → Type 0
 IsPartial to path = (name : List ℕ) × IsPartialName name × (child_of to name ≡ Some path)
 
@@ -38,32 +39,32 @@ IsPartial to path = (name : List ℕ) × IsPartialName name × (child_of to name
 abbrev pub IsEither : PathValue → PathValue → PathValue → Type 0
 IsEither one other path = (path ≡ one) ⊎ (path ≡ other)
 
--- this path, or one of the copy's under which a file is written first
+-- this path, or one with a temporary name
 abbrev pub IsPlaceOrBeside : PathValue → PathValue → PathValue → Type 0
 IsPlaceOrBeside to target path = (path ≡ target) ⊎ IsPartial to path
 
--- this path; in a dry run none is
+-- this path; no path in a dry run
 abbrev pub IsAt : Bool → PathValue → PathValue → Type 0
 IsAt dry_run target path = (dry_run ≡ false) × (path ≡ target)
 
--- one of the two paths; in a dry run none is
+-- one of the two paths; no path in a dry run
 abbrev pub IsAtEither : Bool → PathValue → PathValue → PathValue → Type 0
 IsAtEither dry_run one other path = (dry_run ≡ false) × IsEither one other path
 
--- this path, or one of the copy's under which a file is written first; in a dry run none is
+-- this path, or one with a temporary name; no path in a dry run
 abbrev pub IsAtOrBeside : Bool → PathValue → PathValue → PathValue → Type 0
 IsAtOrBeside dry_run to target path = (dry_run ≡ false) × IsPlaceOrBeside to target path
 
--- the path of the copy that stands for this path of the folder; in a dry run none is
+-- the copy's path for this path of the folder; no path in a dry run
 abbrev pub IsFor : Bool → PathValue → PathValue → PathValue → PathValue → Type 0
 IsFor dry_run from to path changed = (dry_run ≡ false) × (target_of from to path ≡ Some changed)
 
--- the copy's path for the one of two or for the other; in a dry run none is
+-- the copy's path for one of these two paths of the folder; no path in a dry run
 abbrev pub IsForEither : Bool → PathValue → PathValue → PathValue → PathValue → PathValue → Type 0
 IsForEither dry_run from to one other changed =
     (dry_run ≡ false) × ((target_of from to one ≡ Some changed) ⊎ (target_of from to other ≡ Some changed))
 
--- the copy's path for this one of the folder, or one under which a file is written first; in a dry run none is
+-- the copy's path for this path of the folder, or one with a temporary name; no path in a dry run
 abbrev pub IsForOrBeside : Bool → PathValue → PathValue → PathValue → PathValue → Type 0
 IsForOrBeside dry_run from to path changed =
     (dry_run ≡ false) × ((target_of from to path ≡ Some changed) ⊎ IsPartial to changed)

@@ -1,9 +1,9 @@
-//! Whether two folders lie apart.
+//! Checks that neither of two folders lies in the other.
 use program_frame::Fault;
 use std::fs::{self, Files};
 use std::path::{Path, PathBuf};
 
-/// It is a fault if one of the folders lies in the other, also if the copy isn't there yet.
+/// Checks that neither of two folders lies in the other. The copy need not be there yet.
 pub fn check_apart<R: Files + AllocGlobal>(rt: &R, from: &str, to: &str) -> Result<(), Fault> {
     let Ok(from) = fs::canonicalize(rt, from) else {
         return Err(Fault::NotThere);
@@ -24,7 +24,7 @@ pub fn check_apart<R: Files + AllocGlobal>(rt: &R, from: &str, to: &str) -> Resu
     Ok(())
 }
 
-/// The path of what is there without links and dots. The empty path stands for the current folder.
+/// Returns the path without links and dots of what is there. The empty path stands for the current folder.
 fn real_path<R: Files + AllocGlobal>(rt: &R, place: Path<'_>) -> Option<PathBuf> {
     if place.as_os_str().is_empty() {
         fs::canonicalize(rt, ".").ok()

@@ -1,4 +1,4 @@
-//! The copy of a folder, and what is done to it.
+//! The copy of a folder, and the changes to it.
 ghost use Rattle.std.specs.Prelude.{◌≡◌, IfOk};
 ghost use Rattle.poll_listing.specs.Listing.{ListingValue};
 ghost use Rattle.reader_paths.specs.Plan.Naming.{namings};
@@ -15,20 +15,20 @@ use reader_paths::plan::Standing;
 use std::io;
 use std::os::unix::fs::MetadataExt;
 
-/// A folder and its copy. Each change takes a `Target`, so nothing outside of the copy is changed, and no
-/// link is followed on the way. It says whether there was anything to do; in a dry run it only says so.
+/// A folder and its copy. Each change goes to a `Target`, so nothing outside of the copy is changed, and no link on
+/// the way is followed. Its answer says whether there was anything to do. A dry run only answers.
 #[derive(Drop)]
 pub struct FolderCopy<D: Drop> {
     disk: D,
     places: Places,
     /// The device of the folder: if it is another one, the folder's disk is gone.
     from_device: u64,
-    /// That of the copy, if it is there: in a dry run it may be missing.
+    /// The device of the copy, if it is there: in a dry run it may be missing.
     to_device: Option<u64>,
 }
 
 impl<D: Disk> FolderCopy<D> {
-    /// Returns the copy `to` of the folder `from`.
+    /// Makes the copy `to` of the folder `from`.
     pub fn new(disk: D, from: PathBuf, to: PathBuf, leave: Leave) -> Result<FolderCopy<D>, Fault> {
         let Ok(found) = disk.look_through(from.as_str()) else {
             return Err(Fault::NotThere);
@@ -45,7 +45,7 @@ impl<D: Disk> FolderCopy<D> {
         })
     }
 
-    /// Has what stands at the path of the folder stand in the copy too, of which the copy had this before.
+    /// Puts what stands at the path of the folder into the copy. `had` says what the copy had there before.
     fn put_into(&mut self, path: &PathBuf, standing: Standing, had: Had) -> io::Result<bool>
         ensures last { IfOk result (IsChangedFor (D.changed self.new.disk) self.old.places.from
             self.old.places.to path.now self.old.places.leave.dry_run) }
@@ -59,8 +59,8 @@ impl<D: Disk> FolderCopy<D> {
             .put(&mut self.disk, path, &target, standing, had)
     }
 
-    /// Has what stands in the copy for the one path stand there for the other, if nothing does yet and all of it was
-    /// copied. It changes nothing but these two.
+    /// Moves what the copy has for the one path to the other, if nothing stands there yet and all of it was copied.
+    /// It changes nothing else.
     fn move_copy(&mut self, from: &PathBuf, to: &PathBuf, copied: &Copied) -> io::Result<bool>
         ensures last { IfOk result (IsChangedFor (D.changed self.new.disk) self.old.places.from
             self.old.places.to to.now self.old.places.leave.dry_run) }
@@ -79,7 +79,7 @@ impl<D: Disk> FolderCopy<D> {
         self.places.move_free(&mut self.disk, &old, &new)
     }
 
-    /// Removes from the copy what was put there for this path alone.
+    /// Removes from the copy what was put there for this path, but nothing below it.
     fn take_from(&mut self, path: &PathBuf, standing: Standing) -> io::Result<bool>
         ensures last { IfOk result (IsChangedFor (D.changed self.new.disk) self.old.places.from
             self.old.places.to path.now self.old.places.leave.dry_run) }
@@ -101,7 +101,7 @@ impl<D: Disk> FolderCopy<D> {
         }
     }
 
-    /// Removes what stands in the copy for this path, whatever it is, with all below it.
+    /// Removes what stands in the copy for this path, whatever it is, and all below it.
     fn clear_at(&mut self, path: &PathBuf) -> io::Result<bool>
         ensures last { IfOk result (IsChangedFor (D.changed self.new.disk) self.old.places.from
             self.old.places.to path.now self.old.places.leave.dry_run) }

@@ -13,16 +13,17 @@ use std::alloc::Global;
 use std::fs::{Metadata, OpenFile};
 use std::io;
 
-/// A disk. What it is told to change has a `Target`, so it lies in a copy.
+/// A disk. A call that changes something takes a `Target`, so it changes something in a copy.
 ///
-/// Its ghost members say what was changed last, from what a call led to what, and where a look found nothing.
+/// The ghost members are for proofs. They say what was changed last, what each call did, and where a look found
+/// nothing.
 pub trait Disk: Drop {
     ghost use Rattle.notify_paths.specs.Path.{PathValue};
 
-    /// The path was changed last, and that went well.
+    /// The last change was at this path, and went well.
     ghost changed: { Self → PathValue → Type 0 };
 
-    /// A call that may change what stands at the path, and nothing else, leads from the one to the other, whether it
+    /// A call on the disk, as before and after it. It may change what stands at the path and nothing else, whether it
     /// goes well or not.
     ghost changes: { Self → PathValue → Self → Type 0 };
 
@@ -58,7 +59,7 @@ pub trait Disk: Drop {
         ensures { IfOk result (λ batch. (listing : ListingValue)
             × (batch.items ≡ namings from.now listing)) };
 
-    /// Returns a batch of removals of what the copy has beside what stands in the folder.
+    /// Returns a batch of removals for what the copy has and the folder hasn't.
     fn beside(&self, from: &PathBuf, to: &PathBuf) -> Result<Vec<DebouncedEvent>, Fault>;
 
     /// Returns what stands at the path and below it, 64 levels deep, if all of that can be looked at.

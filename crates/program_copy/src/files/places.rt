@@ -1,4 +1,4 @@
-//! Where a folder and its copy lie, and what is done there.
+//! The paths of a folder and its copy, and the steps of copying.
 ghost use Rattle.std.specs.Prelude.{◌≡◌, IfOk, OnOk};
 ghost use Rattle.std.specs.Option.{option_map};
 ghost use Rattle.reader_paths.specs.Plan.Target.{target_of};
@@ -15,7 +15,7 @@ use std::alloc::Global;
 use std::fs::Metadata;
 use std::io;
 
-/// A folder, its copy, and what is allowed.
+/// The paths of a folder and its copy, and what the program may do.
 #[derive(Drop)]
 pub(crate) struct Places {
     pub(crate) from: PathBuf,
@@ -24,7 +24,7 @@ pub(crate) struct Places {
 }
 
 impl Places {
-    /// The path of the copy that stands for this one of the folder.
+    /// Returns the copy's path for this path of the folder.
     pub(crate) fn target_of(&self, path: &PathBuf) -> io::Result<Option<Target<'_>>>
         ensures target { IfOk result (λ r. option_map (λ t. t.path) r
             ≡ target_of self.now.from self.now.to path.now) }
@@ -55,7 +55,7 @@ impl Places {
         }
     }
 
-    /// The folder that permission closes above the path, or the path itself.
+    /// Returns the folder above the path that can't be entered for want of permission, or the path itself.
     pub(crate) fn closed_above<D: Disk>(&self, disk: &D, path: &PathBuf) -> io::Result<PathBuf> {
         for folder in path.folders() {
             if disk.look(folder.as_os_str()).is_ok() {
@@ -65,7 +65,7 @@ impl Places {
         parsed(disk.allocator(), path.as_str())
     }
 
-    /// What stands in the copy: a folder, or something else, which counts as a file here.
+    /// Returns what stands in the copy: a folder, or something else, which counts as a file here.
     pub(crate) fn kind_at<D: Disk>(
         &self,
         disk: &D,
@@ -80,8 +80,8 @@ impl Places {
         }
     }
 
-    /// What stands there, and not what a link on the way leads to. In a dry run the folders above may be
-    /// missing, since they weren't made.
+    /// Returns what stands at the target. It is an error if a link is on the way. In a dry run the folders above it
+    /// may be missing, since they weren't made.
     fn found_at<D: Disk>(&self, disk: &D, target: &Target<'_>) -> io::Result<Option<Metadata>> {
         match check_folders(disk, target.path(), &self.to) {
             Err(error) if self.leave.dry_run && is_missing(&error) => return Ok(None),
@@ -94,7 +94,7 @@ impl Places {
         }
     }
 
-    /// Has what stands at the path of the folder stand there too, where the copy had this before.
+    /// Puts what stands at the path of the folder to the target, where the copy had this before.
     pub(crate) fn put<D: Disk>(
         &self,
         disk: &mut D,
@@ -197,8 +197,8 @@ impl Places {
         Ok(true)
     }
 
-    /// Copies the file, unless the copy has the same bytes, or was there before with the same length and time.
-    /// The copy has the old bytes or the new ones at each moment.
+    /// Copies the file, unless the copy has the same bytes, or is an earlier copy with the same length and time. At
+    /// each moment the copy has the old bytes or the new ones.
     pub(crate) fn copy<D: Disk>(
         &self,
         disk: &mut D,
@@ -302,7 +302,8 @@ impl Places {
         Ok(true)
     }
 
-    /// Copies the file beside its place, and then puts it there. What was begun doesn't stay.
+    /// Copies the file under a temporary name, and then gives it its own. If this fails, the temporary file is
+    /// removed.
     fn replace<D: Disk>(
         &self,
         disk: &mut D,
@@ -343,8 +344,8 @@ impl Places {
     }
 }
 
-/// Whether it would be said in a dry run that this was put where the copy had that, if that is known without a look:
-/// what was of another kind stands still, and what came along with a move stands at its old place.
+/// Whether a dry run says that this would be put where the copy had that, if a look isn't needed to know it. In a dry
+/// run a thing of another kind still stands there, and what was moved still stands at its old place.
 fn done_dry(standing: Standing, had: Had) -> Option<bool> {
     match had {
         Had::Nothing => None,
@@ -362,7 +363,7 @@ fn is_known(had: Had) -> bool {
     }
 }
 
-/// Gives the file that was written its place. What was begun doesn't stay.
+/// Gives the file that was written its name. If this fails, the temporary file is removed.
 fn put_there<D: Disk>(
     disk: &mut D,
     partial: &Target<'_>,
@@ -379,7 +380,7 @@ fn put_there<D: Disk>(
     }
 }
 
-/// Gives the file that was written its place, for which a folder makes way.
+/// Gives the file that was written its name. A folder of this name is removed before.
 fn rename_there<D: Disk>(
     disk: &mut D,
     partial: &Target<'_>,
@@ -397,7 +398,7 @@ fn rename_there<D: Disk>(
     disk.rename(partial, target)
 }
 
-/// Removes what was begun, and returns why.
+/// Removes the temporary file, and returns the error.
 fn give_up<D: Disk>(disk: &mut D, partial: &Target<'_>, error: io::Error) -> io::Error
     ensures only { D.changes disk.old partial.now.path disk.new }
 {
@@ -426,7 +427,7 @@ fn is_same<D: Disk>(
     Ok(old.as_slice() == new.as_slice())
 }
 
-/// It is an error if a folder above the path and below the top is none, as a link to one.
+/// It is an error if something above the path and below the top is no folder, for instance a link to one.
 fn check_folders<D: Disk>(disk: &D, path: &PathBuf, top: &PathBuf) -> io::Result<()> {
     for folder in path.folders() {
         if folder.as_os_str().len() <= top.as_str().len() {
