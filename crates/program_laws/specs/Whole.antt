@@ -1,4 +1,4 @@
--- What a program took that followed folders to the end.
+-- What a program has taken that followed folders to the end.
 use Rattle.std.specs.Prelude.{◌≡◌, ℕ, List, [], ◌∷◌, ◌++◌, true, None, Some, map}
 use Rattle.std.specs.Map.{keys_of}
 use Rattle.std.specs.declared.alloc.Global.{Global}
@@ -31,20 +31,22 @@ taken_in [] = []
 taken_in (Some report ∷ steps) = report ∷ taken_in steps
 taken_in (None ∷ steps) = taken_in steps
 
--- what a program has that began with these paths, and plays each batch that it takes
+-- the paths that a program has that began with these, and plays each batch that it takes
 abbrev pub played_by : Paths → List Step → Paths
 played_by paths steps = play paths (events_of (events_in (map plain (taken_in steps))))
 
--- with initial events, what was fed in this history is just what leads from nothing to this listing
+-- with initial events, the events that were fed in this history lead from no paths to this listing, and nothing else
+-- was fed
 abbrev pub LeadsToLast : Known × Config → ListingValue → History → Type 0
 LeadsToLast made found log =
     made.1.initial_events ≡ true → (now : Known) × Reported FeedsItem made.0 found now × HasAllFed now.seen log
 
--- one history goes on from what was seen of the debouncer, and leads to its book at the end. If nothing was lost, the
--- debouncer missed nothing, and what was taken is all that was emitted in it, each report once and in order, and then
--- all that waits by the book. Who plays every batch of it, and then what waits, has the raw paths; and without renames
--- no change that an event told is lost. If the watcher began with nothing, and nothing was lost, he has the paths of
--- what it found last, and so has a program that plays what it took
+-- the program took all reports of the debouncer. There is one history, which goes on from what was seen of the
+-- debouncer and leads to its book at the end. If nothing was lost, the debouncer missed nothing, and the program took
+-- all that was emitted, each report once and in order, and then all that is pending in the book. All batches, and
+-- then what is pending, leave the same paths as the raw events, and without renames no change is lost. If the watcher
+-- began without paths and nothing was lost, these are the paths that it found last, and a program that plays what it
+-- took has them too
 pub record TookAllOf (s : Followed) (steps : List Step) (lost : ℕ) : Type 0 where
   pub log : History
   pub goes_on : Begins s.seen log
@@ -64,7 +66,7 @@ pub record TookAllOf (s : Followed) (steps : List Step) (lost : ℕ) : Type 0 wh
   pub played : BeganWith true s.made → lost ≡ 0 → played_by [] steps ≡ keys_of found
   pub kept : LosesNoChange book.core.state.timeout (entries_of log)
 
--- who took all that was given of a debouncer's reports, of which none was given before, took all of them
+-- a program that took all that the reports of a debouncer gave, from the first on, took all of them in this sense
 abbrev pub TakesAllReports : Type 0
 TakesAllReports = (s : Followed) (steps : List Step) (lost : ℕ) → s.awaited.queue.given ≡ [] →
     Gave folder_source s steps lost → TookAllOf s steps lost
