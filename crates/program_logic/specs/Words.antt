@@ -14,8 +14,8 @@ use Rattle.unicode_segmentation.specs.Word.{words}
 use Rattle.poll_listing.specs.Moves.{is_one_file}
 use Rattle.poll_listing.specs.declared.entry.Found.{Found}
 
--- the words of a document, as their bytes, in the order of the bytes, and what was found there when they were read, if
--- that is known
+-- the words of a document, in the order of their bytes, and the file that a look found when they were read, if that
+-- is known
 pub record WordsValue : Type 0 where
   pub texts : List (List ℕ)
   pub found : Option Found
@@ -32,8 +32,8 @@ has_word words word = list_any (bytes_eq word) words.texts
 abbrev pub with_word : WordsValue → List ℕ → WordsValue
 with_word words word = record words { texts = insert_key (slice_cmp nat_cmp) words.texts word }
 
--- what was found before, if that is known, is the file that was found now, and nobody changed it: its modified time is
--- known, and the same
+-- the file found before is the one found now, and nobody changed it: both are known, with the same modified time,
+-- which is known too
 abbrev pub is_unchanged : Option Found → Found → Bool
 is_unchanged None now = false
 is_unchanged (Some before) now = is_some before.modified && is_one_file before now

@@ -1,10 +1,10 @@
-//! The lines of a journal of file events, and which events it takes: as plain text, as JSON, or as paths
-//! that each end in a zero byte.
+//! A journal of file events: a filter for the events, and their lines as plain text, as JSON, or as paths that each
+//! end in a zero byte.
 //!
-//! [`Patterns::parse`] reads the regular expressions of a filter; [`PatternFault::say`] says which can't be
-//! read and why. [`Patterns::filter`] lends a [`PathFilter`]. A [`Journal`] numbers the events that pass and
-//! writes those of each batch at once, by [`Journal::write_timed`], or by [`Journal::write_passing`] if the
-//! caller has the time. A program that follows reports so is [`Printer`].
+//! [`Patterns::parse`] reads the regular expressions of a filter; [`PatternFault::say`] writes which can't be read
+//! and why. [`Patterns::filter`] lends a [`PathFilter`]. A [`Journal`] numbers the events that pass, and writes those
+//! of each batch in one go: by [`Journal::write_timed`], or by [`Journal::write_passing`] if the caller knows the
+//! time. [`Printer`] is a program that does this with each report.
 ghost use Rattle.std.specs.Prelude.{◌≡◌, ◌⊎◌, ◌++◌, Some, OnOk, OnErr, IfErr, IfOk, option_map};
 ghost use Rattle.std.specs.Io.KnownBytes.{Appends};
 ghost use Rattle.program_logic.specs.Journal.Kept.{passing};
@@ -57,11 +57,10 @@ impl Journal {
         Journal { form, next: 1 }
     }
 
-    /// Writes the events of the batch that pass the filter, in order, each once, and flushes the writer. In
-    /// JSON each says that it was emitted at this time, if that is known. What was created says where it was
-    /// before by the moves that the whole batch tells. If memory is refused, nothing was
-    /// written; if the output fails, a beginning was. Each line of JSON is read as its event, as `json_line`
-    /// says.
+    /// Writes the events of the batch that pass the filter, in order, each once, and flushes the writer. In JSON each
+    /// has the time at which it was emitted, if that is known. A creation has the old path, if the whole batch says
+    /// that something moved there. If memory is refused, nothing was written; if the output fails, a beginning was
+    /// written. Each line of JSON can be read back, as `json_line` says.
     pub fn write_passing<O: Write>(
         &mut self,
         alloc: Global,
@@ -92,7 +91,7 @@ impl Journal {
         self.write_told(alloc, &moves, batch.as_slice(), at, out)
     }
 
-    /// Writes the events, each with where what it created was before by these moves, and flushes the writer.
+    /// Writes the events, each with the old path of what it created by these moves, and flushes the writer.
     fn write_told<O: Write>(
         &mut self,
         alloc: Global,
@@ -119,7 +118,7 @@ impl Journal {
         write_now(text.as_slice(), out)
     }
 
-    /// Does the same, at the time that the wall clock has, if it can be read.
+    /// Does the same as [`Journal::write_passing`], with the time of the wall clock, if it can be read.
     pub fn write_timed<R: Clock, O: Write>(
         &mut self,
         clock: &R,
@@ -173,7 +172,7 @@ impl Journal {
     }
 }
 
-/// Appends the event, with where what it created was before.
+/// Appends the event, with the old path of what it created.
 fn push_moved_event(
     text: &mut Vec<u8>,
     form: Form,
@@ -195,7 +194,7 @@ fn push_moved_event(
     push_event(text, form, at, seq, &from, event)
 }
 
-/// The moves that the batch tells.
+/// Returns the moves in the batch.
 fn moves_of(alloc: Global, batch: &[DebouncedEvent]) -> Result<Moves, AllocError>
     ensures { IfOk result (λ moves. AreMovesOf (events_of batch.now) moves) }
 {
@@ -205,7 +204,7 @@ fn moves_of(alloc: Global, batch: &[DebouncedEvent]) -> Result<Moves, AllocError
     }
 }
 
-/// Where what the event created was before, by these moves.
+/// Returns the old path of what the event created, by these moves.
 fn source_at(moves: &Moves, event: &DebouncedEvent) -> Result<Option<PathBuf>, AllocError>
     ensures { IfOk result (λ from. from ≡ source_of moves.now event.now.event) }
 {

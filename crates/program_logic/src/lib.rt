@@ -1,5 +1,5 @@
-//! What four of the programs do with what is reported, without a watcher: lines of a journal, bursts of a trigger, a
-//! configuration that is in force, an index of words. A module each.
+//! What four of the programs do with reports, without a watcher. Each has a module: the lines of a journal, the
+//! bursts of a trigger, a configuration in force, and an index of words.
 #![tactic(auto)]
 
 pub mod config;

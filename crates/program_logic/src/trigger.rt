@@ -1,9 +1,9 @@
 //! Lines that trigger a build: each event that was handed in stands in exactly one line, which is
 //! written after it was handed in.
 //!
-//! A [`Trigger`] gathers events by `hand_in`. When the burst is over, [`write_line`] takes what waits
-//! by `take_line` and writes its line, with the paths relative to a folder. [`play`] does many such
-//! steps, and its contract says what becomes of each event. A program that follows reports so is [`Bursts`].
+//! A [`Trigger`] gathers events by `hand_in`. When the burst is over, [`write_line`] takes the events that wait by
+//! `take_line` and writes their line, with the paths relative to a folder. [`play`] does many such steps, and its
+//! contract says in which line each event stands. [`Bursts`] is a program that does this with each report.
 ghost use Rattle.std.specs.Prelude.{◌≡◌, ◌==◌, ◌++◌, [], length, OnOk, OnErr, IfSome, IfNone};
 ghost use Rattle.program_logic.specs.Trigger.Steps.{IsLine};
 
@@ -35,7 +35,7 @@ impl Model for Trigger {
 }
 
 impl Trigger {
-    /// Returns a trigger to which nothing was handed in.
+    /// Makes a trigger without events.
     pub fn new(alloc: Global) -> Trigger
         ensures { result ≡ [] }
     {

@@ -1,9 +1,9 @@
 //! An index of documents by their words, kept up to date by batches of file events.
 //!
-//! A [`index::DocumentIndex`] holds the words of each document, and answers which documents have a
-//! word. For a batch, read anew what its events name, and hand over what was read. A [`FollowingIndex`]
-//! does that, and reads again what was missing. What a batch tells as moved keeps its words, if who reads finds that
-//! it is as it was: [`Before`] has them.
+//! A [`index::DocumentIndex`] holds the words of each document, and answers which documents have a word. For a batch,
+//! read the documents at its paths again, and pass them to the index. A [`FollowingIndex`] does that, and later reads
+//! the documents again that were missing. If a batch says that a document moved, and the document hasn't changed, it
+//! isn't read again: [`Before`] has its words.
 //!
 //! ```text
 //! let mut index = DocumentIndex::new(rt.alloc());
@@ -32,7 +32,7 @@ use std::collections::BTreeSet;
 use std::marker::Model;
 use unicode_segmentation::UnicodeSegmentation;
 
-/// The words of a document, and what was found there when they were read, if that is known.
+/// The words of a document, and the file that a look found when they were read, if that is known.
 #[derive(Drop)]
 pub struct Words<A: Allocator = Global> {
     words: BTreeSet<String<A>, A>,
@@ -60,7 +60,7 @@ impl<A: Allocator> Words<A> {
         }
     }
 
-    /// Returns these words as those of what was found when they were read.
+    /// Notes the file that a look found when these words were read.
     pub fn of(self, found: Found) -> Words<A>
         ensures { result ≡ record self { found = Some found } }
     {
@@ -70,8 +70,8 @@ impl<A: Allocator> Words<A> {
         }
     }
 
-    /// Whether they are the words of what is found now: the same file, which nobody changed since they were read. Its
-    /// modified time has to be known, and its number.
+    /// Whether these are the words of the file that a look finds now: it is the same file, and nobody has changed it
+    /// since they were read. Its modified time and its number have to be known.
     pub fn is_of(&self, found: Found) -> bool
         ensures { result ≡ is_unchanged self.now.found found }
     {
@@ -90,7 +90,7 @@ impl<A: Allocator> Words<A> {
 }
 
 impl<A: Allocator + Copy> Words<A> {
-    /// Returns the same words once more, as those of the same file.
+    /// Returns a copy of the words, with the same file.
     pub fn try_clone(&self) -> Result<Words<A>, AllocError>
         ensures { IfOk result (λ words. words ≡ self.now) }
     {

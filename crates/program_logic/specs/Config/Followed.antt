@@ -9,28 +9,28 @@ use Rattle.program_logic.specs.Config.Reading.{GivesText, Shows}
 use Rattle.program_logic.specs.Config.Touched.{touches}
 use Rattle.program_logic.specs.declared.config.reloader.Reloader.{Reloader}
 
--- what reads the file, what is in force, and what was printed
+-- the state of such a program: what reads the file, the configuration in force, and what was printed
 pub record Following (F : Type 0) : Type 0 where
   pub files : F
   pub reloader : Reloader
   pub printed : Option (List ℕ)
 
--- .. of these
+-- the state with these parts
 abbrev pub following : {F : Type 0} → F → Reloader → Option (List ℕ) → Following F
 following files reloader printed = record { files = files; reloader = reloader; printed = printed }
 
--- the file was read, and what it gave at that moment was taken
+-- the file was read, and the text that it had at that moment was taken
 abbrev pub Reads : {F : Type 0} → GivesText F → PathValue → Following F → Answer → Following F → Type 0
 Reads gives file old answer new =
     (given : Option (List ℕ)) × gives old.files file given new.files
     × Shows given old.reloader old.printed answer new.reloader new.printed
 
--- .. if that was asked for, and else nothing was done
+-- the file was read and its text taken, if that was asked for; else nothing was done
 abbrev pub ReadsIf : {F : Type 0} → GivesText F → PathValue → Bool → Following F → Answer → Following F → Type 0
 ReadsIf gives file true old answer new = Reads gives file old answer new
 ReadsIf gives file false old answer new = (answer ≡ Ok tt) × (new ≡ old)
 
--- .. for each of these, one after the other, until a fault came
+-- for each of these flags, one after the other, the file was read if the flag asks for it, until a fault came
 abbrev pub ReadsEach : {F : Type 0} → GivesText F → PathValue → List Bool → Following F → Answer → Following F →
     Type 0
 ReadsEach gives file [] old answer new = (answer ≡ Ok tt) × (new ≡ old)
@@ -81,7 +81,8 @@ ReadsToEnd source reports gives file old new =
     × AreReadings file false steps asked due
     × ReadsEach gives file (in_all asked (due || not (lost == 0))) old (Ok tt) new
 
--- so it was with what the source gave until a fault came, which can have come at the last of these readings
+-- a run that a fault ended: the file was read as in a whole run, for what the source had given until the fault. The
+-- fault can be that of the last reading
 abbrev pub ReadsSome : {S F : Type 0} → Source S → S → GivesText F → PathValue → Following F → Following F → Type 0
 ReadsSome source reports gives file old new =
     (steps : List Step) × (asked : List Bool) × (due last : Bool) × (answer : Answer) × GaveSome source reports steps

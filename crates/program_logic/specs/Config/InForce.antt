@@ -13,19 +13,19 @@ abbrev pub Holds : List ℕ → Option Config → Type 0
 Holds text in_force =
     IsSomeAnd in_force (λ config. parse_document text ≡ Some (table_view config.table))
 
--- the lines are `loaded` and a text that is read as these members, if they don't nest too deep to be read
+-- the lines are `loaded` and a text. Reading this text gives these members, if they don't nest too deep
 abbrev pub ShowsMembers : Members → List ℕ → Type 0
 ShowsMembers members lines =
     (shown : List ℕ) × ((lines ≡ paragraph_of (codes "loaded") shown)
     × (members_depth members ≤ 80 → parse_document shown ≡ Some members))
 
--- the text was read, is in force, and is shown
+-- the text was read, it is in force now, and the lines show it
 abbrev pub IsLoaded : List ℕ → Option Config → List ℕ → Type 0
 IsLoaded text in_force lines =
     Holds text in_force
     × ((members : Members) × ((parse_document text ≡ Some members) × ShowsMembers members lines))
 
--- the lines are `kept` and some complaint
+-- the lines are `kept` and some text that says why
 abbrev pub IsComplaint : List ℕ → Type 0
 IsComplaint lines = (complaint : List ℕ) × (lines ≡ paragraph_of (codes "kept") complaint)
 
@@ -47,11 +47,11 @@ abbrev pub Follows : Bool → List ℕ → Option Config → Option Config → L
 Follows takes_empty text old new lines =
     (SetsEnough takes_empty text × IsLoaded text new lines) ⊎ (IsRefused takes_empty text lines × (new ≡ old))
 
--- what was written is some lines of which this holds
+-- some lines of which `holds` is true were written
 abbrev pub Prints : Option (List ℕ) → Option (List ℕ) → (List ℕ → Type 0) → Type 0
 Prints old new Holding = (lines : List ℕ) × (Appends old new lines × Holding lines)
 
--- a beginning of such lines was
+-- a beginning of such lines was written
 abbrev pub PrintsFront : Option (List ℕ) → Option (List ℕ) → (List ℕ → Type 0) → Type 0
 PrintsFront old new Holding = (lines : List ℕ) × (WritesFront old lines new × Holding lines)
 

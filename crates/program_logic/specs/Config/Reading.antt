@@ -1,4 +1,4 @@
--- What a reading of a file gives, and what becomes of it.
+-- One reading of a file, and what follows from it.
 use Rattle.std.specs.Prelude.{◌≡◌, ◌⊎◌, ℕ, List, Option, None, Some, Result, Ok, Err, MatchResult}
 use Rattle.std.specs.String.{string_bytes}
 use Rattle.std.specs.declared.string.String.{String}
@@ -7,11 +7,12 @@ use Rattle.program_frame.specs.Reports.Loop.{Answer}
 use Rattle.program_logic.specs.Config.InForce.{Becomes, Prints, PrintsFront}
 use Rattle.program_logic.specs.declared.config.reloader.Reloader.{Reloader}
 
--- what a reading of the file at a path gives at its moment, a text or none, and leaves
+-- a reading: what reads files before it, the path, the text that the file had at this moment or none, and what reads
+-- files after it
 abbrev pub GivesText : Type 0 → Type 1
 GivesText F = F → PathValue → Option (List ℕ) → F → Type 0
 
--- the text that a reading gave, or none if it failed
+-- the text that a reading returned, or none if it failed
 abbrev pub given_by : {Z E : Type 0} → Result (String Z) E → Option (List ℕ)
 given_by (Ok text) = Some (string_bytes text)
 given_by (Err error) = None

@@ -19,7 +19,7 @@ use Rattle.program_logic.specs.Config.Reading.{GivesText}
 use Rattle.program_logic.specs.Config.Reloads.{TellsChangeOf}
 use Rattle.program_logic.specs.Config.Touched.{Touches}
 
--- the batch, if it isn't empty
+-- the batch in a list, or no batch if it is empty
 abbrev pub once : List Timed → List (List Timed)
 once [] = []
 once (x ∷ xs) = (x ∷ xs) ∷ []

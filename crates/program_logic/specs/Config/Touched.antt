@@ -6,16 +6,18 @@ use Rattle.notify_types.specs.declared.kind.EventKind.{EventKind}
 use Rattle.notify_paths.specs.Path.{PathValue, is_prefix}
 use Rattle.debounce_model.specs.Kept.{is_among}
 
--- the event asks to read anew, or some path of it is the file or a folder above it
+-- whether the event may be about the file: it asks to read all again, or one of its paths is the file or a folder
+-- above it
 abbrev pub touches : PathValue → Timed → Bool
 touches file x =
     is_some x.event.attrs.flag || list_any (λ path. is_prefix path file) x.event.paths
 
--- the file is at the path or in the folder there: its parts are the path's and perhaps further ones
+-- the file is at the path or below it: its parts begin with those of the path
 abbrev pub LiesIn : PathValue → PathValue → Type 0
 LiesIn file path = (further : PathValue) × (file ≡ path ++ further)
 
--- the event asks to read anew, or the file lies at or in one of its paths; a rename has two of them
+-- the event may be about the file: it asks to read all again, or the file lies at or below one of its paths. A rename
+-- has two paths
 abbrev pub MayConcern : PathValue → EventValue → Type 0
 MayConcern file event =
     (is_some event.attrs.flag ≡ true) ⊎ Any (λ path. LiesIn file path) event.paths

@@ -1,4 +1,4 @@
--- The patterns of the code.
+-- The patterns of the code as values.
 use Rattle.std.specs.Prelude.{◌≡◌, ℕ, List, Option, None, Some, option_map}
 use Rattle.regex.specs.declared.string.regex.Regex.{Regex}
 use Rattle.regex.specs.Strings.{IsReadFromSource, regex_source, regex_pattern, matcher_pattern}
@@ -20,7 +20,7 @@ filter_rule f = record {
   exclude = option_map matcher_pattern f.exclude;
 }
 
--- the pattern was read from the text; without a text there is none
+-- the pattern was read from this text. Without a text there is no pattern
 abbrev pub IsPatternOf : Option (List ℕ) → Option Regex → Type 0
 IsPatternOf None pattern = pattern ≡ None
 IsPatternOf (Some text) None = ⊥

@@ -1,4 +1,4 @@
--- What a program prints of what is reported to it.
+-- What a program prints about the reports that it gets.
 use Rattle.std.specs.Prelude.{◌≡◌, ◌⊎◌, ℕ, List, [], ◌∷◌, Option, None, Some, Ok, Err}
 use Rattle.program_frame.specs.FaultRuns.Until.{GaveSome}
 use Rattle.program_frame.specs.Reports.Gave.{Gave}
@@ -7,7 +7,8 @@ use Rattle.program_logic.specs.Journal.Kept.{Rule, passing}
 use Rattle.program_logic.specs.Journal.Lines.{BeginsTimed, WritesTimed, after, source_in}
 use Rattle.program_logic.specs.declared.journal.form.Form.{Form}
 
--- of each batch the entries of what passes were written, numbered through from this number on, and nothing else
+-- for each batch the entries of the events that pass the filter were written, numbered from this number on, and
+-- nothing else
 abbrev pub WritesEach : Form → Rule → ℕ → List Step → Option (List ℕ) → Option (List ℕ) → Type 0
 WritesEach form rule seq [] old new = new ≡ old
 WritesEach form rule seq (Some (Ok batch) ∷ steps) old new =
@@ -16,7 +17,8 @@ WritesEach form rule seq (Some (Ok batch) ∷ steps) old new =
 WritesEach form rule seq (Some (Err errors) ∷ steps) old new = WritesEach form rule seq steps old new
 WritesEach form rule seq (None ∷ steps) old new = WritesEach form rule seq steps old new
 
--- .. and of the last of these perhaps a beginning alone
+-- for each batch the entries of the events that pass the filter were written, and nothing else. For the last batch
+-- perhaps only a beginning was written
 abbrev pub BeginsEach : Form → Rule → ℕ → List Step → Option (List ℕ) → Option (List ℕ) → Type 0
 BeginsEach form rule seq [] old new = new ≡ old
 BeginsEach form rule seq (Some (Ok batch) ∷ steps) old new =
@@ -26,12 +28,13 @@ BeginsEach form rule seq (Some (Ok batch) ∷ steps) old new =
 BeginsEach form rule seq (Some (Err errors) ∷ steps) old new = BeginsEach form rule seq steps old new
 BeginsEach form rule seq (None ∷ steps) old new = BeginsEach form rule seq steps old new
 
--- the entries of all that the source gave were written
+-- a whole run: the entries of all that the source gave were written
 abbrev pub WritesAll : {S : Type 0} → Source S → S → Form → Rule → ℕ → Option (List ℕ) → Option (List ℕ) → Type 0
 WritesAll source reports form rule seq old new =
     (lost : ℕ) × (steps : List Step) × Gave source reports steps lost × WritesEach form rule seq steps old new
 
--- the entries of what the source gave until a fault came were written, and of the last that it gave perhaps a beginning
+-- a run that a fault ended: the entries of what the source had given until then were written, and for its last batch
+-- perhaps only a beginning
 abbrev pub WritesSome : {S : Type 0} → Source S → S → Form → Rule → ℕ → Option (List ℕ) → Option (List ℕ) → Type 0
 WritesSome source reports form rule seq old new =
     (steps : List Step) × GaveSome source reports steps × BeginsEach form rule seq steps old new

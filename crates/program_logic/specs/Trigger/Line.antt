@@ -1,4 +1,4 @@
--- What a line says: how many events, and after a tab each their paths.
+-- A line of the trigger: the number of its events, and their paths, each after a tab.
 use Rattle.std.specs.Prelude.{ℕ, List, [], ◌∷◌, ◌++◌, codes, length, ◌&&◌, not, ◌==◌, if◌then◌else◌}
 use Rattle.std.specs.Fmt.{decimal}
 use Rattle.notify_types.specs.Event.{Timed}
@@ -11,13 +11,13 @@ use Rattle.program_frame.specs.Fields.{field_of}
 abbrev pub current_path : PathValue
 current_path = parts_of (codes ".")
 
--- the only folder; of none and of several the empty path
+-- the folder, if there is only one; else the empty path
 abbrev pub only_of : List PathValue → PathValue
 only_of [] = []
 only_of (folder ∷ []) = folder
 only_of (folder ∷ other ∷ more) = []
 
--- the path as it lies in `.`, if it lies at or below the folder, and else as it is
+-- the path with `.` in place of the folder, if it lies at or below the folder; else the path as it is
 abbrev pub as_in : PathValue → PathValue → PathValue
 as_in folder path =
     if not (length folder == 0) && is_prefix folder path then relocated folder current_path path
@@ -38,7 +38,7 @@ event_fields folder (x ∷ xs) = path_fields folder x.event.paths ++ event_field
 abbrev pub line_of : PathValue → List Timed → List ℕ
 line_of folder xs = decimal (length xs) ++ (event_fields folder xs ++ (10 ∷ []))
 
--- what is written of the events that wait: their line, or nothing if none wait
+-- what is written for the events that wait: their line, or nothing if there are none
 abbrev pub written_of : PathValue → List Timed → List ℕ
 written_of folder [] = []
 written_of folder (event ∷ waiting) = line_of folder (event ∷ waiting)

@@ -1,4 +1,4 @@
--- What the program prints of what is reported.
+-- What the program prints about the reports that it gets.
 use Rattle.std.specs.Prelude.{◌≡◌, ℕ, List, [], ◌∷◌, ◌++◌, Option, None, Some, Ok, Err}
 use Rattle.std.specs.Io.KnownBytes.{Appends}
 use Rattle.notify_paths.specs.Path.{PathValue}
@@ -11,7 +11,8 @@ use Rattle.program_logic.specs.Journal.Kept.{Rule, passing}
 use Rattle.program_logic.specs.Trigger.Line.{line_of}
 use Rattle.program_logic.specs.Trigger.Steps.{StepValue, BatchStep, LineStep, joined, lines_of}
 
--- what is reported and passes is handed in, a pause asks for a line, and so does the end
+-- the steps of the trigger for these steps of the loop: the events of a batch that pass the filter are handed in, a
+-- pause asks for a line, and so does the end
 abbrev pub trigger_steps : Rule → List Step → List StepValue
 trigger_steps rule [] = LineStep ∷ []
 trigger_steps rule (Some (Ok batch) ∷ steps) = BatchStep (passing rule batch.items) ∷ trigger_steps rule steps
@@ -30,7 +31,7 @@ reported rule (Some (Ok batch) ∷ steps) = passing rule batch.items ++ reported
 reported rule (Some (Err errors) ∷ steps) = reported rule steps
 reported rule (None ∷ steps) = reported rule steps
 
--- the lines that are printed of these steps: those of a trigger to which nothing was handed in before
+-- the lines that are printed for these steps, by a trigger that begins without events
 abbrev pub lines_for : Rule → List Step → List (List Timed)
 lines_for rule steps = lines_of [] (trigger_steps rule steps)
 
@@ -45,7 +46,7 @@ abbrev pub PrintsAll : {S : Type 0} → Source S → S → Rule → PathValue �
 PrintsAll source reports rule folder before after =
     (lost : ℕ) × (steps : List Step) × Gave source reports steps lost × Prints rule folder steps before after
 
--- of what the source gave until a fault came a beginning of the lines was printed
+-- a beginning of the lines for what the source had given until a fault came was printed
 abbrev pub PrintsSome : {S : Type 0} → Source S → S → Rule → PathValue → Option (List ℕ) → Option (List ℕ) → Type 0
 PrintsSome source reports rule folder before after =
     (steps : List Step) × GaveSome source reports steps

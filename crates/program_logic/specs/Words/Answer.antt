@@ -1,4 +1,4 @@
--- What is written of the documents that have a word.
+-- The answer to a word: the documents that have it.
 use Rattle.std.specs.Prelude.{ℕ, List, [], ◌∷◌, ◌++◌}
 use Rattle.notify_paths.specs.Path.{PathValue}
 use Rattle.notify_paths.specs.PathText.{text_of}

@@ -7,12 +7,12 @@ use Rattle.debounce_model.specs.Play.{Paths}
 use Rattle.reader_paths.specs.Plan.{wanted}
 use Rattle.program_logic.specs.Words.Index.{IndexValue, IsIndexAfter, StaysExact}
 
--- what may be read at paths
+-- which documents may be read at these paths
 abbrev pub Readings : Type 1
 Readings = Paths → IndexValue → Type 0
 
--- what stands at the paths that the events want was read, and the index is the one after the events; one of just the
--- documents that stood is one of just those that remain
+-- the documents at the paths that the events want were read, and the index is the one after these events. If it had
+-- the words of all documents before and no others, then so it has now
 abbrev pub Takes : Readings → List EventValue → IndexValue → IndexValue → Type 0
 Takes readings events old new =
     (read : IndexValue) × readings (wanted events) read × IsIndexAfter read events old new

@@ -7,12 +7,13 @@ use std::io;
 
 /// Reads files as texts.
 ///
-/// Its ghost member says what a reading gives.
+/// The ghost member is for proofs: it says what a reading returns.
 pub trait ReadsText: Drop {
     ghost use Rattle.std.specs.Prelude.{ℕ, List, Option};
     ghost use Rattle.notify_paths.specs.Path.{PathValue};
 
-    /// What a reading of the file at the path gives at its moment, a text or none, and what it leaves.
+    /// A reading: the value before it, the path, the text that the file had at this moment or none, and the value
+    /// after it.
     ghost gives: { Self → PathValue → Option (List ℕ) → Self → Type 0 };
 
     /// Reads the file at the path.

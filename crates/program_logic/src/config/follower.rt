@@ -17,7 +17,7 @@ use std::alloc::Global;
 use std::io::Write;
 use std::time::{Clock, Duration};
 
-/// The file, what is in force, and where the program prints.
+/// The program: the file, the configuration in force, and where it prints.
 #[derive(Drop)]
 pub struct Follower<'n, R: Drop, F: Drop, O: Drop, E: Drop> {
     /// Where what is printed is allocated.
@@ -112,7 +112,7 @@ impl<R: Clock + Drop, F: ReadsText, O: Write + Drop, E: Write + Drop> Follower<'
         take_reading(self.alloc, &mut self.reloader, reading, &mut self.out)
     }
 
-    /// Does so if it is asked for.
+    /// Reads the file, if asked to.
     fn read_if(&mut self, asked: bool) -> Result<(), Fault>
         ensures read { ReadsIf F.gives self.old.file asked
             (following self.old.files self.old.reloader (O.contents self.old.out)) result
@@ -172,7 +172,7 @@ impl<R: Clock + Drop, F: ReadsText, O: Write + Drop, E: Write + Drop> TakesRepor
         (following new.files new.reloader (O.contents new.out))
         × (is_some new.pause.left ≡ false) };
 
-    /// Reads the file for the first time. The watch came first: what changes after this is reported.
+    /// Reads the file for the first time. It is watched already, so later changes are reported.
     fn begin(&mut self) -> Result<(), Fault> {
         let _ = write_watching(self.file.as_str(), self.name, &mut self.err);
         self.pause.end();

@@ -4,8 +4,8 @@ ghost use Rattle.program_logic.specs.Config.Paragraph.{indented, paragraph_of};
 
 use std::alloc::{AllocError, Global};
 
-/// Returns the word on a line of its own, and then the text with two blanks before each of its lines. So
-/// a line without a blank at its front begins a paragraph, whatever the text holds.
+/// Returns the word on a line of its own, and then the text with two spaces before each of its lines. So a line that
+/// doesn't begin with a space begins a paragraph, whatever the text holds.
 pub fn paragraph(alloc: Global, word: &str, text: &str) -> Result<Vec<u8>, AllocError>
     ensures { IfOk result (λ lines. lines.items ≡ paragraph_of word.now text.now) }
 {
@@ -16,7 +16,7 @@ pub fn paragraph(alloc: Global, word: &str, text: &str) -> Result<Vec<u8>, Alloc
     Ok(lines)
 }
 
-/// Appends the text with two blanks before each of its lines.
+/// Appends the text with two spaces before each of its lines.
 fn push_indented(lines: &mut Vec<u8>, text: &[u8]) -> Result<(), AllocError>
     ensures { OnOk result (lines.new.items ≡ lines.old.items ++ indented true text.now) }
 {

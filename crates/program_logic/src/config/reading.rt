@@ -1,4 +1,4 @@
-//! What a reading of the file comes to.
+//! Takes a reading of the file.
 ghost use Rattle.std.specs.Prelude.{◌≡◌, ◌⊎◌, None, Some, IfErr, IfOk};
 ghost use Rattle.program_logic.specs.Config.InForce.{IsComplaint};
 ghost use Rattle.program_logic.specs.Config.Reading.{Shows, given_by};
@@ -12,9 +12,9 @@ use std::alloc::{AllocError, Global};
 use std::io;
 use std::io::{ErrorKind, Write};
 
-/// Takes the file's text, or the error with which it could not be read, and prints what
-/// [`Reloader::reload`] says of the text. A file that can't be read is as one whose text is refused. After an error a
-/// beginning of the lines was printed, or nothing was done.
+/// Takes the file's text, or the error of reading it, and prints what [`Reloader::reload`] returns. A file that can't
+/// be read counts as one whose text was refused. After an error a beginning of the lines was printed, or nothing was
+/// done.
 pub fn take_reading<O: Write>(
     alloc: Global,
     reloader: &mut Reloader,
@@ -57,7 +57,7 @@ fn print_unread<O: Write>(alloc: Global, error: &io::Error, out: &mut O) -> Resu
     write_now(lines.as_slice(), out)
 }
 
-/// The lines of a file that could not be read.
+/// Returns the lines about a file that could not be read.
 fn unread(alloc: Global, error: &io::Error) -> Result<Vec<u8>, AllocError>
     ensures { IfOk result (λ lines. IsComplaint lines.items) }
 {

@@ -85,7 +85,7 @@ impl Reloader {
     }
 }
 
-/// The lines of a configuration that was read. A document of what was read fails for memory alone.
+/// Returns the lines about a configuration that was read. Only an allocation can fail here.
 fn loaded(alloc: Global, config: &Config) -> Result<Vec<u8>, AllocError>
     ensures { IfOk result (λ lines. ShowsMembers (table_view config.now.table) lines.items) }
 {

@@ -12,11 +12,11 @@ use notify_paths::PathBuf;
 use notify_types::DebouncedEvent;
 use std::alloc::Allocator;
 
-/// Whether some event of the batch may be about the file: it names the file or a folder above it, as its
-/// one path or as one of the two of a rename, or it asks to read anew.
+/// Whether some event of the batch may be about the file: it asks to read all again, or one of its paths is the file
+/// or a folder above it. A rename has two paths.
 ///
-/// So a batch in which a change of the file is found, as the debouncer keeps it, is about the file. What
-/// that means for a whole run is [`law_of_reloads`](crate::config::law_of_reloads).
+/// So the answer is `true` for each batch that has a change of the file.
+/// [`law_of_reloads`](crate::config::law_of_reloads) says what follows for a whole run.
 pub fn is_touched(batch: &[DebouncedEvent], file: &PathBuf) -> bool
     ensures value { result ≡ list_any (touches file.now) batch.now }
     ensures exact { IsTrue result ↔ Touches file.now batch.now }
@@ -45,29 +45,29 @@ fn names(paths: &[PathBuf], file: &PathBuf) -> bool
     paths.iter().any(|path| file.starts_with(path))
 }
 
-/// Does nothing. By its contract each change of a file that a debouncer accepts is followed by a batch
-/// for which [`is_touched`] answers `true`, or its event still waits for its batch,
-/// or a later removal took the file or a folder above it away.
+/// Does nothing: its contract is a law. Each change of a file that a debouncer accepts is followed by a batch for
+/// which [`is_touched`] answers `true`, or its event is still pending, or a later removal took the file or a folder
+/// above it away.
 ///
-/// The run begins where nothing waits, and has no accepted rename; a watcher that polls reports none. A
-/// change is a creation of the file or a plain change of it, told by an event whose first path it is.
+/// The run begins with nothing pending, and has no accepted rename; a polling watcher reports none. A change is an
+/// event whose first path is the file: its creation, a modification, an access, or an event whose kind says nothing.
 pub fn law_of_reloads<C: FileIdCache<A>, A: Allocator>()
     ensures { RunsReadEachChange C.rules }
 {}
 
-/// Does nothing. By its contract each change of a file that a debouncer accepts, in a run as of
-/// [`law_of_reloads`], is followed by a batch for which [`is_touched`] answers `true`, if the outlook is
-/// taken as the last batch; or a later removal took the file or a folder above it away.
+/// Does nothing: its contract is a law, for runs as in [`law_of_reloads`]. If the outlook counts as the last batch,
+/// each change of a file that a debouncer accepts is followed by a batch for which [`is_touched`] answers `true`, or
+/// a later removal took the file or a folder above it away.
 ///
-/// So a program that takes the outlook as it ends leaves no pending change unread.
+/// So a program that takes the outlook when it ends misses no pending change.
 pub fn law_of_reloads_by_end<C: FileIdCache<A>, A: Allocator>()
     ensures { RunsReadEachChangeByEnd C.rules }
 {}
 
-/// Does nothing. By its contract each change of a file that a debouncer accepts, in a run as of [`law_of_reloads`], is
-/// followed by a reading of a program that takes each batch and then the outlook, and reads the file as a [`Follower`]
-/// does: at first, and after each batch that may be about the file. Or a later removal took the file or a folder above it
-/// away.
+/// Does nothing: its contract is a law, for runs as in [`law_of_reloads`]. Let a program take each batch and then the
+/// outlook, and read the file as a [`Follower`] does: at first, and after each batch that may be about the file. Then
+/// it reads the file after each change that the debouncer accepts, or a later removal took the file or a folder above
+/// it away.
 ///
 /// [`Follower`]: crate::config::Follower
 pub fn law_of_readings<C: FileIdCache<A>, A: Allocator, F: ReadsText>()

@@ -1,4 +1,4 @@
-//! The forms of a journal, and what an event is in each.
+//! The forms of a journal, and how an event is written in each.
 ghost use Rattle.std.specs.Prelude.{◌≡◌, ◌++◌, None, Some, OnOk, option_map};
 ghost use Rattle.serde_json.specs.Read.{read};
 ghost use Rattle.program_logic.specs.Journal.Json.{event_data, json_text};
@@ -14,8 +14,8 @@ use std::alloc::AllocError;
 /// How a journal writes an event.
 #[derive(Clone, Copy, Debug, PartialEq, Eq)]
 pub enum Form {
-    /// The kind's word and the paths, parted by tabs, on one line. At what moved there follow `moved from` and where
-    /// it was before.
+    /// The kind's word and the paths, with tabs between them, on one line. If the event created something that was
+    /// moved, `moved from` and the old path follow.
     Plain,
     /// A JSON object on one line.
     Json,
@@ -23,8 +23,8 @@ pub enum Form {
     Zero,
 }
 
-/// Appends the event in this form, and where what it created was before, if it is known. Its number and when it was
-/// emitted are written in JSON alone.
+/// Appends the event in this form, with the old path of what it created, if that is known. Only JSON has its number
+/// and the time at which it was emitted.
 pub(crate) fn push_event(
     text: &mut Vec<u8>,
     form: Form,
@@ -60,7 +60,7 @@ fn push_plain(
     Ok(text.push(b'\n')?)
 }
 
-/// Appends where what was created was before, if it is known.
+/// Appends the old path of what was created, if it is known.
 fn push_moved(text: &mut Vec<u8>, from: &Option<PathBuf>) -> Result<(), AllocError>
     ensures { OnOk result (text.new.items ≡ text.old.items ++ moved_from from.now) }
 {

@@ -13,10 +13,10 @@ use notify_types::{DebouncedEvent, Flag, Moment};
 use serde_json::{Value, json};
 use std::alloc::{AllocError, Global};
 
-/// Returns the event as a JSON object, on one line without its end. Its members are `at`, `flag`, `info`,
-/// `kind`, `moved_from`, `paths`, `seq`, `time` and `tracker`; what the event lacks is `null`, and so are `at` and
-/// `moved_from`, where what it created was before, if they aren't given. The time is in nanoseconds from the
-/// debouncer's start; from 2^64 - 1 on it is written as that number.
+/// Returns the event as a JSON object, on one line without its end. Its members are `at`, `flag`, `info`, `kind`,
+/// `moved_from`, `paths`, `seq`, `time` and `tracker`. A member that the event lacks is `null`. `at` is the time at
+/// which it was emitted, and `moved_from` the old path of what it created; they are `null` if they aren't given.
+/// `time` is in nanoseconds from the debouncer's start, and is written as 2^64 - 1 if it is larger.
 pub fn json_line(
     alloc: Global,
     at: Option<&str>,

@@ -1,4 +1,4 @@
-//! A pattern of the command line, and what is said of one that can't be read.
+//! A pattern of the command line, and the line about one that can't be read.
 ghost use Rattle.std.specs.Prelude.{◌≡◌, OnOk};
 ghost use Rattle.std.specs.Io.KnownBytes.{Appends};
 ghost use Rattle.program_logic.specs.Journal.Patterns.{ending_of, large_line, pattern_line, wrong_line};
@@ -24,7 +24,7 @@ pub enum PatternFault<'o, 't> {
     Memory,
     /// The text isn't a regular expression; this is the byte at which what is wrong begins, counted from 0.
     Wrong(Pattern<'o, 't>, usize),
-    /// The text is a regular expression, and a too large one.
+    /// The text is a regular expression, but it is too large.
     TooLarge(Pattern<'o, 't>),
 }
 
@@ -43,7 +43,7 @@ impl PatternFault<'_, '_> {
         }
     }
 
-    /// Writes the line. There is none if an allocation failed: the program's end has a line for that.
+    /// Writes the line. There is none if an allocation failed: the program's fault has a line for that.
     pub fn write<E: Write>(self, program: &str, err: &mut E) -> io::Result<()>
         ensures line { OnOk result (Appends (E.contents err.old) (E.contents err.new)
             (pattern_line program.now self.entry)) }

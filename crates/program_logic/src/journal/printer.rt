@@ -1,4 +1,4 @@
-//! A program that prints a journal of what is reported.
+//! A program that prints a journal of the reports.
 ghost use Rattle.std.specs.Prelude.{◌≡◌, IfErr, IfOk, OnErr, OnOk, MatchResult};
 ghost use Rattle.program_logic.specs.Journal.Kept.{passing};
 ghost use Rattle.program_logic.specs.Journal.KeptView.{filter_rule};
@@ -13,16 +13,16 @@ use std::alloc::Global;
 use std::io::Write;
 use std::time::{Clock, Duration};
 
-/// A journal of some places, which events it takes, and where it is written to.
+/// The program: a journal, its filter, and where it is written.
 #[derive(Drop)]
 pub struct Printer<'n, 'p, R: Drop, O: Drop, E: Drop> {
     /// The clock that says when a batch was emitted.
     pub clock: R,
-    /// Where the entries of a batch are allocated.
+    /// The allocator for the entries of a batch.
     pub alloc: Global,
     /// The program's name, for what it says on `err`.
     pub name: &'n str,
-    /// What the program watches, as the words have it.
+    /// What the program watches, as the command line names it.
     pub places: Vec<&'n str>,
     /// The journal: its form, and the number of the next event.
     pub journal: Journal,
@@ -35,8 +35,8 @@ pub struct Printer<'n, 'p, R: Drop, O: Drop, E: Drop> {
 }
 
 impl<R: Clock + Drop, O: Write + Drop, E: Write + Drop> Printer<'_, '_, R, O, E> {
-    /// Prints what is reported: the entry of each event that passes, all with one time of the wall clock, or
-    /// a line for each error. After an error the watcher looks again, so no change is lost by one.
+    /// Prints the entry of each event that passes, all with one time of the wall clock, or a line for each error.
+    /// After an error the watcher looks again, so no change is lost.
     fn print(&mut self, report: DebounceEventResult) -> Result<(), Fault>
         ensures written { OnOk result (IfOk report (λ batch.
             WritesTimed self.old.journal.form (source_in batch.items) self.old.journal.next

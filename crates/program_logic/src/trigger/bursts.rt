@@ -1,4 +1,4 @@
-//! Bursts of reports, and what is printed of each that is over.
+//! A program that prints a line for each burst of reports.
 ghost use Rattle.std.specs.Prelude.{◌≡◌, ◌==◌, ◌++◌, [], length, None, Some, IfErr, IfOk, OnErr, OnOk, MatchResult, if◌then◌else◌};
 ghost use Rattle.std.specs.Io.KnownBytes.{Appends};
 ghost use Rattle.program_logic.specs.Journal.Kept.{passing};
@@ -17,18 +17,18 @@ use std::alloc::Global;
 use std::io::Write;
 use std::time::Duration;
 
-/// A program that prints a line for each burst of reports that is over.
+/// A program that prints a line for each burst of reports, once it is over.
 #[derive(Drop)]
 pub struct Bursts<'n, 'p, O: Drop, E: Drop> {
-    /// Where what waits is allocated.
+    /// The allocator for the events that wait.
     pub alloc: Global,
     /// The program's name, for what it says on `err`.
     pub name: &'n str,
-    /// What the program watches, as the words have it.
+    /// What the program watches, as the command line names it.
     pub places: Vec<&'n str>,
-    /// The folder as which the lines write `.`; the empty path stands for none.
+    /// The folder for which the lines write `.`. The empty path stands for none.
     pub folder: &'p PathBuf,
-    /// How long nothing is reported after a burst.
+    /// The pause that ends a burst.
     pub quiet: Duration,
     /// Which events count.
     pub filter: PathFilter<'p>,
@@ -41,8 +41,8 @@ pub struct Bursts<'n, 'p, O: Drop, E: Drop> {
 }
 
 impl<O: Write + Drop, E: Write + Drop> Bursts<'_, '_, O, E> {
-    /// Hands in the events that aren't ignored, or prints a line for each error. After an error the
-    /// watcher looks again, so no change is lost by one.
+    /// Hands in the events that aren't ignored, or prints a line for each error. After an error the watcher looks
+    /// again, so no change is lost.
     fn hand_in(&mut self, report: DebounceEventResult) -> Result<(), Fault>
         ensures handed { IfOk report (λ batch. OnOk result
             (self.new.trigger ≡ self.old.trigger
@@ -64,7 +64,7 @@ impl<O: Write + Drop, E: Write + Drop> Bursts<'_, '_, O, E> {
         }
     }
 
-    /// Writes the line of what waits, if anything does.
+    /// Writes the line of the events that wait, if there are some.
     pub fn write(&mut self) -> Result<(), Fault>
         ensures written { OnOk result (Appends (O.contents self.old.out) (O.contents self.new.out)
             (written_of self.old.folder.now self.old.trigger)) }

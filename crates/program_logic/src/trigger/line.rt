@@ -1,4 +1,4 @@
-//! What a line says, and its writing.
+//! The lines of a trigger.
 ghost use Rattle.std.specs.Prelude.{◌≡◌, ◌⊎◌, ◌++◌, [], IfErr, IfOk, OnErr, OnOk};
 ghost use Rattle.std.specs.Io.KnownBytes.{Appends};
 ghost use Rattle.notify_paths.specs.PathText.{text_of};
@@ -14,8 +14,8 @@ use program_frame::{Fault, push_field, write_now};
 use std::alloc::{AllocError, Global};
 use std::io::Write;
 
-/// Returns the folder as which lines write `.`: the only one that is watched. Of several it is the empty path,
-/// which stands for none, so each path is written as it is.
+/// Returns the folder for which lines write `.`: the one that is watched. If several are watched, it is the empty
+/// path, which stands for none, and each path is written as it is.
 pub fn only_folder(alloc: Global, folders: &[PathBuf]) -> Result<PathBuf, AllocError>
     ensures { IfOk result (λ path. path ≡ only_of folders.now) }
 {
@@ -25,9 +25,9 @@ pub fn only_folder(alloc: Global, folders: &[PathBuf]) -> Result<PathBuf, AllocE
     }
 }
 
-/// Writes the line of what waits, if anything does, and flushes the writer. From then on nothing waits,
-/// also after an error: then a beginning of the line was written, perhaps nothing, and no further line
-/// should follow it.
+/// Writes the line of the events that wait, if there are some, and flushes the writer. Afterwards no events wait,
+/// even after an error. After an error a beginning of the line was written, perhaps nothing of it, so no further line
+/// should follow.
 pub fn write_line<O: Write>(
     alloc: Global,
     trigger: &mut Trigger,
@@ -49,8 +49,8 @@ pub fn write_line<O: Write>(
     write_now(line.as_slice(), out)
 }
 
-/// Appends the line of these events: how many there are, and after a tab each their paths. A path at
-/// or below the folder is written as it lies in `.`, as `./src/main.c`.
+/// Appends the line of these events: their number, and their paths, each after a tab. A path at or below the folder
+/// is written with `.` in place of the folder, as `./src/main.c`.
 pub fn push_line(
     alloc: Global,
     line: &mut Vec<u8>,
@@ -66,7 +66,7 @@ pub fn push_line(
     Ok(line.push(b'\n')?)
 }
 
-/// The folder in which paths are written.
+/// The path for which `.` stands.
 fn current(alloc: Global) -> Result<PathBuf, AllocError>
     ensures { IfOk result (λ path. path ≡ current_path) }
 {
@@ -109,7 +109,7 @@ fn push_paths(
     Ok(())
 }
 
-/// Appends the path, as it lies in `here` if it is at or below the folder.
+/// Appends the path, with `here` in place of the folder if it lies at or below it.
 fn push_path(
     line: &mut Vec<u8>,
     folder: &PathBuf,

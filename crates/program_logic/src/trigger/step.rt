@@ -1,4 +1,4 @@
-//! Steps of a trigger, and what becomes of them.
+//! Steps of a trigger, and the lines that they give.
 ghost use Rattle.std.specs.Prelude.{◌≡◌, ◌++◌, [], All, IfOk, OnOk};
 ghost use Rattle.program_logic.specs.Trigger.Steps.{lines_of, left_of, handed, joined, Does, IsLine};
 ghost use Rattle.program_logic.specs.Trigger.StepsView.{step_value, step_values, line_values};
@@ -7,7 +7,7 @@ use crate::trigger::Trigger;
 use notify_types::DebouncedEvent;
 use std::alloc::{AllocError, Global};
 
-/// What happens to a trigger.
+/// A step of a trigger.
 #[derive(Drop)]
 pub enum Step {
     /// A batch is handed in.
@@ -16,12 +16,11 @@ pub enum Step {
     Line,
 }
 
-/// Does the steps, one after the other, on a new trigger. Returns the lines that were taken, and the
-/// trigger.
+/// Does the steps, one after the other, on a new trigger. Returns the lines, and the trigger.
 ///
-/// The lines and what waits, one after the other, are what was handed in. That holds for the first
-/// steps of any list as well, so each event stands in one line or waits, and its line is taken after it
-/// was handed in.
+/// The events of the lines, and then those that wait, are the events that were handed in, in order. This also holds
+/// for the first steps of the list. So each event stands in one line or waits, and its line comes after it was handed
+/// in.
 pub fn play(
     alloc: Global,
     steps: Vec<Step>,

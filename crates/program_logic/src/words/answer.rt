@@ -12,9 +12,9 @@ use program_frame::{Fault, push_field, write_now};
 use std::alloc::{AllocError, Global};
 use std::io::Write;
 
-/// Writes the documents that have the word, in any case: a line each, in the order of their paths, with a
-/// tab, a line feed, a carriage return and a backslash of a name written as two bytes, so that a line is a
-/// path. If memory is refused, nothing was written; if the output fails, a beginning was.
+/// Writes the documents that have the word, in upper or lower case: a line with the path of each, in the order of
+/// their paths. A tab, a line feed, a carriage return and a backslash in a name are written as two bytes, so each
+/// line is one path. If memory is refused, nothing was written; if the output fails, a beginning was written.
 pub fn write_answer<O: Write>(
     alloc: Global,
     index: &DocumentIndex,

@@ -1,4 +1,4 @@
-//! What an index has of what moved.
+//! The words that an index has for what moved.
 ghost use Rattle.std.specs.Prelude.{◌≡◌, IfErr, IfOk, option_map};
 ghost use Rattle.debounce_model.specs.Play.{events_of};
 ghost use Rattle.program_frame.specs.declared.fault.Fault.TheVariants.{Memory};
@@ -14,8 +14,8 @@ use std::alloc::Global;
 use std::collections::BTreeMap;
 use std::marker::Model;
 
-/// What an index has of what a batch tells as moved, before it takes the batch: the words at the old path of what
-/// stands at a path now.
+/// The words that an index has for what moved by a batch, before it takes the batch: for a new path, the words at the
+/// old one.
 #[derive(Drop)]
 pub struct Before<'i> {
     index: &'i DocumentIndex,
@@ -31,7 +31,7 @@ impl<'i> Model for Before<'i> {
 }
 
 impl<'i> Before<'i> {
-    /// Returns what the index has of what the batch tells as moved.
+    /// Makes it of the index and the moves in the batch.
     pub fn of(
         alloc: Global,
         index: &'i DocumentIndex,
@@ -49,8 +49,8 @@ impl<'i> Before<'i> {
         Ok(Before { index, sources })
     }
 
-    /// Returns the words of what is told to have moved to this path, as they were read at its old one. Whether it was
-    /// changed since then is for the caller to see: [`Words::is_of`].
+    /// Returns the words of what moved to this path by the batch, as they were read at its old path. Whether it was
+    /// changed since then is for the caller to check, by [`Words::is_of`].
     pub fn words(&self, path: &PathBuf) -> Option<&Words>
         ensures { option_map (λ words. words.now) result
             ≡ words_before self.now path.now }

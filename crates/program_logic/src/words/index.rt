@@ -16,8 +16,7 @@ use std::alloc::{AllocError, Allocator, Global};
 use std::collections::BTreeMap;
 use std::marker::Model;
 
-/// What stands at each path below a folder, with its words: a folder has none, nor has a file that is
-/// no text.
+/// The words at each path below a folder. A folder has none, and neither has a file that is no text.
 #[derive(Drop)]
 pub struct DocumentIndex<A: Allocator = Global> {
     documents: BTreeMap<PathBuf<A>, Words<A>, A>,
@@ -98,10 +97,10 @@ impl<A: Allocator + Copy> DocumentIndex<A> {
         Ok(batch)
     }
 
-    /// Takes a batch, and what was read at the paths that it wants (`wanted` of reader_paths): the words of
-    /// what stands there, and nothing of a path at which nothing does. What an event takes away is
-    /// forgotten with all below it, and what was read is put in. A removal only removes: what was read
-    /// at a path that isn't wanted is passed over. If an allocation fails, a part may be put in.
+    /// Takes a batch, and the words that were read at the paths that it wants (`wanted` of reader_paths); a path at
+    /// which nothing stands has no entry. First it forgets each path that an event removes, and all below it. Then it
+    /// puts in the words that were read. A removal only removes: words that were read at a path that isn't wanted are
+    /// ignored. If an allocation fails, a part may have been put in.
     pub fn take_batch(
         &mut self,
         read: BTreeMap<PathBuf<A>, Words<A>, A>,
@@ -118,7 +117,7 @@ impl<A: Allocator + Copy> DocumentIndex<A> {
         self.put_wanted(read, &paths)
     }
 
-    /// Forgets what the events take away.
+    /// Forgets the paths that the events remove, and all below them.
     fn forget_gone(&mut self, read: &BTreeMap<PathBuf<A>, Words<A>, A>, batch: &[DebouncedEvent<A>])
         ensures { self.new ≡ without_gone (stands (look_at read.now.entries)) (events_of batch.now)
             self.old }
@@ -154,7 +153,7 @@ impl<A: Allocator + Copy> DocumentIndex<A> {
         Ok(())
     }
 
-    /// Puts in the document, if it is to be.
+    /// Puts in the document, if its path is wanted.
     fn put_if(
         &mut self,
         is_wanted: bool,

@@ -17,23 +17,23 @@ use reader_paths::plan::{name_path, wanted};
 use std::alloc::{AllocError, Global};
 use std::collections::BTreeMap;
 
-/// Whether an event of the batch asks to read all anew, since the watcher lost some.
+/// Whether an event of the batch asks to read all again, since the watcher lost some.
 pub fn asks_anew(batch: &[DebouncedEvent]) -> bool
     ensures { result ≡ asks_anew batch.now }
 {
     batch.iter().any(|event| event.need_rescan())
 }
 
-/// Documents, which are read anew at each call.
+/// Reads documents. Each call reads them again.
 pub trait ReadsDocuments {
     ghost use Rattle.debounce_model.specs.Play.{Paths};
     ghost use Rattle.program_logic.specs.Words.Index.{IndexValue};
 
-    /// What may be read at paths: who reads says which documents these are.
+    /// Which documents may be read at these paths. An implementation says this.
     ghost reads: { Self → Paths → IndexValue → Type 0 };
 
-    /// Reads what stands at these paths, or takes what there was before, of what moved and is as it was. What can't be
-    /// read is left out: the error is want of memory alone.
+    /// Reads the documents at these paths. For one that moved and hasn't changed it can take the words from `before`.
+    /// One that can't be read is left out: an error says that an allocation failed, and nothing else.
     fn read(
         &self,
         paths: &BTreeMap<PathBuf, ()>,
@@ -42,8 +42,8 @@ pub trait ReadsDocuments {
         ensures ok { IfOk result (λ read. reads self.now (keys_of paths.now.entries) read.entries) }
         ensures err { IfErr result (λ e. e ≡ Memory) };
 
-    /// Whether the path, at which nothing was read, is to be read later: nothing stands there, or what does can't
-    /// be read now.
+    /// Whether a path at which nothing was read is to be read again later, since nothing stands there, or what stands
+    /// there can't be read now.
     fn is_missing(&self, path: &PathBuf) -> bool;
 }
 
@@ -120,7 +120,7 @@ impl FollowingIndex {
         Ok(self.index.take_batch(read, batch)?)
     }
 
-    /// Reads what stands at these paths, or takes what the index has of what the batch tells as moved.
+    /// Reads the documents at these paths, or takes the words that the index has for those that moved by the batch.
     fn read<D: ReadsDocuments>(
         &self,
         documents: &D,

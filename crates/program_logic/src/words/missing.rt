@@ -8,7 +8,7 @@ use std::alloc::{AllocError, Global};
 use std::collections::BTreeMap;
 use std::mem;
 
-/// What was read of documents at some paths.
+/// The result of reading the documents at some paths.
 #[derive(Clone, Copy)]
 pub(crate) struct Reading<'a, D> {
     /// The documents.
@@ -32,7 +32,7 @@ pub(crate) struct Missing {
 }
 
 impl Missing {
-    /// Nothing is missing.
+    /// Makes one in which nothing is missing.
     pub(crate) fn new(alloc: Global) -> Missing {
         Missing {
             alloc,
@@ -97,7 +97,8 @@ impl Missing {
         Ok(())
     }
 
-    /// Notes at which of the paths that the batch wants nothing stands, and what else the index forgets with them.
+    /// Notes those paths that the batch wants at which nothing stands, and the other paths that the index forgets
+    /// with them.
     pub(crate) fn note<D: ReadsDocuments>(
         &mut self,
         index: &DocumentIndex,
@@ -137,7 +138,7 @@ impl Missing {
         Ok(())
     }
 
-    /// What was removed isn't missing.
+    /// Drops the paths that were removed: they aren't missing any more.
     fn note_removal(&mut self, event: &DebouncedEvent) {
         if let Some(path) = event.first_path()
             && event.kind().is_removal()
