@@ -7,7 +7,7 @@
  *     ndf_new(&h, 50 * NDF_MILLISECOND);
  *     ndf_event(&h, &change, path, strlen(path), "", 0);
  *     ndf_tick(&h, now, &count);
- *     while (ndf_next(&h, &told, buf, sizeof buf) == NDF_DONE) { .. }
+ *     while (ndf_next(&h, &record, buf, sizeof buf) == NDF_DONE) { .. }
  *     ndf_free(&h);
  */
 #ifndef NDF_H
@@ -48,7 +48,7 @@ enum {
     NDF_NO_KIND = 5,        /* no kind has this number */
     NDF_UNREAD = 6,         /* an event, or an error, of the last call for them wasn't read */
     NDF_AT_END = 7,         /* all was read */
-    NDF_TOO_SHORT = 8,      /* the buffer is shorter than the texts, and the lengths are told */
+    NDF_TOO_SHORT = 8,      /* the buffer is shorter than the texts, and the lengths are written */
     NDF_TOO_MANY_PATHS = 9, /* an event has at most two paths */
     NDF_BAD_COUNTS = 10,    /* more events were emitted than were taken */
     NDF_NO_FOLDER = 11,     /* the folder in which a path would stand isn't there */
@@ -130,8 +130,8 @@ typedef struct ndf_attributes {
     uint32_t process;
 } ndf_attributes;
 
-/* An event as it is told. Its texts stand in the buffer one after the other, none ended by a zero: the first path
- * (`first` bytes), the second (`second`), the info and the source. A length is 0 if there is no such text. */
+/* An event as ndf_next writes it. Its texts stand in the buffer one after the other, none ended by a zero: the first
+ * path (`first` bytes), the second (`second`), the info and the source. A length is 0 if there is no such text. */
 typedef struct ndf_event_record {
     uint32_t kind;
     uint32_t process; /* 0 if it has none */
@@ -149,7 +149,8 @@ typedef struct ndf_event_record {
     size_t source;
 } ndf_event_record;
 
-/* An error as it is told. In the buffer stands the text of a generic one (`text` bytes), then its first path. */
+/* An error as ndf_next_error writes it. In the buffer stands the text of a generic one (`text` bytes), then its first
+ * path. */
 typedef struct ndf_error_record {
     uint32_t kind;
     size_t paths;
@@ -167,8 +168,8 @@ enum {
     NDF_STEP_TICK = 5     /* a batch was emitted, of any number of events: moment; they are the entry's events */
 };
 
-/* An entry of a journal as it is told. In the buffer stands the path that was watched, or watched no longer. A field
- * that the step hasn't is false or 0. */
+/* An entry of a journal as ndf_entry writes it. In the buffer stands the path that was watched, or watched no longer. A
+ * field that the step hasn't is false or 0. */
 typedef struct ndf_entry_record {
     uint32_t step;
     bool exists;     /* as it was fed */
@@ -196,10 +197,10 @@ enum {
     NDF_STANDS_OTHER = 2
 };
 
-/* What stands at a path, as it is said in a look. Two of them are told as a change if their length, time or number
- * differs; so a folder, whose time follows its entries, has none, and its length is 0. */
+/* What stands at a path, as it is said in a look. Another length, time or number than was known is a change. So say no
+ * time of a folder, since it follows the folder's entries, and the length 0. */
 typedef struct ndf_stands {
-    bool known;        /* as ndf_known tells it: whether something is known to stand there; else not read */
+    bool known;        /* as ndf_known writes it: whether something is known to stand there; else not read */
     bool has_time;     /* whether `modified` is said, */
     bool has_number;   /* and `device` and `inode`, by which a move is found */
     uint32_t kind;
@@ -249,13 +250,13 @@ uint32_t ndf_watch(ndf_handle *h, const char *path, size_t len, bool recursive);
  * NDF_NOT_TEXT, exactly if the path isn't UTF-8; else NDF_NO_MEMORY. */
 uint32_t ndf_unwatch(ndf_handle *h, const char *path, size_t len);
 
-/* Tells the mode of the first watched path at or above this one; without one it isn't recursive.
+/* Writes the mode of the first watched path at or above this one; without one it isn't recursive.
  * NDF_NOT_TEXT, exactly if the path isn't UTF-8; else NDF_NO_MEMORY. */
 uint32_t ndf_mode(ndf_handle *h, const char *path, size_t len, bool *recursive);
 
 /* The file at this path has this number from now on. Two halves of a rename that have no common tracker are joined if
  * their files have one number, so say the number of what is there at the start, and before an event by which a path
- * may come into being, or be written for the first time, that of its file, as fstat or stat tells it. It is forgotten
+ * may come into being, or be written for the first time, that of its file, as fstat or stat has it. It is forgotten
  * once a removal or the first half of a rename is taken at the path or above it, once a second half is joined to a
  * first half at the path or above it, by ndf_unwatch, and by ndf_forget.
  * NDF_NOT_TEXT, exactly if the path isn't UTF-8; else NDF_NO_MEMORY. */
@@ -265,7 +266,7 @@ uint32_t ndf_number(ndf_handle *h, const char *path, size_t len, uint64_t device
  * NDF_NOT_TEXT, exactly if the path isn't UTF-8; else NDF_NO_MEMORY. */
 uint32_t ndf_forget(ndf_handle *h, const char *path, size_t len);
 
-/* Tells the file number of a path.
+/* Writes the file number of a path.
  * NDF_NOT_TEXT, exactly if the path isn't UTF-8; else NDF_NO_MEMORY. */
 uint32_t ndf_number_of(ndf_handle *h, const char *path, size_t len, ndf_file_number *number);
 
@@ -283,8 +284,8 @@ uint32_t ndf_event_with(ndf_handle *h, const ndf_change *change, const ndf_attri
                         size_t first_len, const char *second, size_t second_len, const char *info, size_t info_len,
                         const char *source, size_t source_len);
 
-/* What stands there: a watcher that looks wherever it is told to, says what it finds, and feeds what the library tells
- * of the difference to what was known. A notice is only a place to look at then: a wrong or doubled one costs a look.
+/* What stands there: a watcher looks wherever a notice points, says what it finds, and feeds the events that the
+ * library makes of the difference to what was known. A notice is only a place to look at: a wrong one costs a look.
  *
  *     ndf_found(&h, path, len, &stands);   or   ndf_gone(&h, path, len);   .. for each place
  *     ndf_look_end(&h, &count);
@@ -302,7 +303,7 @@ uint32_t ndf_look_begin(ndf_handle *h);
  * also come in the place of NDF_NO_FOLDER. */
 uint32_t ndf_found(ndf_handle *h, const char *path, size_t len, const ndf_stands *stands);
 
-/* Nothing stands at the path, nor below it, but what is found there later in this look. So a folder is listed anew:
+/* Nothing stands at the path, nor below it, but what is found there later in this look. So a folder is listed again:
  * ndf_gone of it, then ndf_found of it and of all that is in it; what isn't found again is removed.
  * NDF_NOT_TEXT, exactly if the path isn't UTF-8; else NDF_NO_MEMORY. */
 uint32_t ndf_gone(ndf_handle *h, const char *path, size_t len);
@@ -312,8 +313,8 @@ uint32_t ndf_gone(ndf_handle *h, const char *path, size_t len);
  * NDF_NOT_TEXT, exactly if the path isn't UTF-8; else NDF_NO_FOLDER and NDF_NO_MEMORY as ndf_found. */
 uint32_t ndf_still(ndf_handle *h, const char *path, size_t len);
 
-/* The file at the path was written, as a notice may say: what is found there next is told as a change, though it may
- * have the same length and time. Until then its length is known as 2^64 - 1. If no file is known to stand there, nothing
+/* The file at the path was written, as a notice may say: what is found there next is reported as a change, though it
+ * may have the same length and time. Until then its length is known as 2^64 - 1. If no file is known to stand there, nothing
  * changes. NDF_NOT_TEXT, exactly if the path isn't UTF-8; else NDF_NO_MEMORY. */
 uint32_t ndf_changed(ndf_handle *h, const char *path, size_t len);
 
@@ -324,7 +325,7 @@ uint32_t ndf_changed(ndf_handle *h, const char *path, size_t len);
  * NDF_UNFED, exactly if an event of the last look wasn't fed; else NDF_NO_MEMORY: what was said is still said. */
 uint32_t ndf_look_end(ndf_handle *h, size_t *count);
 
-/* The first look ends, and nothing is told of it: what was said is what the reader has already.
+/* The first look ends, and no event comes of it: what was said is what the reader has already.
  * NDF_BEGUN, exactly if a look has ended before; else NDF_NO_MEMORY. */
 uint32_t ndf_look_known(ndf_handle *h);
 
@@ -332,7 +333,7 @@ uint32_t ndf_look_known(ndf_handle *h);
  * NDF_AT_END, exactly if all were fed; else NDF_FULL, exactly if 2^64 - 1 events were taken; else NDF_NO_MEMORY. */
 uint32_t ndf_look_feed(ndf_handle *h, uint64_t moment);
 
-/* Tells what is known at the path since the last look ended. If nothing is, all fields are false or 0.
+/* Writes what is known at the path since the last look ended. If nothing is, all fields are false or 0.
  * NDF_NOT_TEXT, exactly if the path isn't UTF-8; else NDF_NO_MEMORY. */
 uint32_t ndf_known(ndf_handle *h, const char *path, size_t len, ndf_stands *stands);
 
@@ -352,17 +353,17 @@ uint32_t ndf_tick(ndf_handle *h, uint64_t now, size_t *count);
  * NDF_UNREAD, exactly if an event of the last batch wasn't read; else NDF_NO_MEMORY. */
 uint32_t ndf_outlook(ndf_handle *h, size_t *count);
 
-/* Tells the next event, and writes its texts to the start of the buffer, whose rest stays as it was.
- * NDF_AT_END, exactly if all were read: `told` stays as it was. NDF_TOO_SHORT, exactly if the buffer is shorter
- * than the texts together: `told` says how long they are, and the event can be read again. It never lacks memory. */
-uint32_t ndf_next(ndf_handle *h, ndf_event_record *told, char *buf, size_t room);
+/* Writes the next event, and its texts to the start of the buffer, whose rest stays as it was.
+ * NDF_AT_END, exactly if all were read: `record` stays as it was. NDF_TOO_SHORT, exactly if the buffer is shorter
+ * than the texts together: `record` says how long they are, and the event can be read again. It never lacks memory. */
+uint32_t ndf_next(ndf_handle *h, ndf_event_record *record, char *buf, size_t room);
 
 /* The errors that were kept are to be read now, `count` of them, and are kept no longer.
  * NDF_UNREAD, exactly if an error of the call before wasn't read; else NDF_NO_MEMORY, only if a journal is kept. */
 uint32_t ndf_errors(ndf_handle *h, size_t *count);
 
-/* Tells the next error, as ndf_next does of an event, with the same codes. */
-uint32_t ndf_next_error(ndf_handle *h, ndf_error_record *told, char *buf, size_t room);
+/* Writes the next error, as ndf_next does of an event, with the same codes. */
+uint32_t ndf_next_error(ndf_handle *h, ndf_error_record *record, char *buf, size_t room);
 
 /* A journal begins, if `on`, and is empty; else none is kept any longer. What was kept before is freed. From then on
  * each ndf_event.., ndf_error, ndf_watch, ndf_unwatch, ndf_errors and ndf_tick that answers 0 is an entry, in order;
@@ -370,20 +371,20 @@ uint32_t ndf_next_error(ndf_handle *h, ndf_error_record *told, char *buf, size_t
  * It never lacks memory. */
 uint32_t ndf_journal(ndf_handle *h, bool on);
 
-/* Tells the entry at this place of the journal, the first at 0, and writes its path to the start of the buffer, whose
+/* Writes the entry at this place of the journal, the first at 0, and its path to the start of the buffer, whose
  * rest stays as it was. Reading an entry leaves it: what was read goes when another ndf_journal begins.
- * NDF_AT_END, exactly if the journal has no such entry, or none is kept: `told` stays as it was. NDF_TOO_SHORT,
- * exactly if the buffer is shorter than the path: `told` says how long it is. It never lacks memory. */
-uint32_t ndf_entry(ndf_handle *h, size_t place, ndf_entry_record *told, char *buf, size_t room);
+ * NDF_AT_END, exactly if the journal has no such entry, or none is kept: `record` stays as it was. NDF_TOO_SHORT,
+ * exactly if the buffer is shorter than the path: `record` says how long it is. It never lacks memory. */
+uint32_t ndf_entry(ndf_handle *h, size_t place, ndf_entry_record *record, char *buf, size_t room);
 
-/* Tells an event of an entry, the first within it at 0, as ndf_next does, with the same codes; of an event that was
+/* Writes an event of an entry, the first within it at 0, as ndf_next does, with the same codes; of an event that was
  * taken `time` is the moment that was given. NDF_AT_END, exactly if there is no such entry, or no such event in it. */
-uint32_t ndf_entry_event(ndf_handle *h, size_t place, size_t within, ndf_event_record *told, char *buf, size_t room);
+uint32_t ndf_entry_event(ndf_handle *h, size_t place, size_t within, ndf_event_record *record, char *buf, size_t room);
 
-/* Tells an error of an entry, as ndf_next_error does, with the same codes. */
-uint32_t ndf_entry_error(ndf_handle *h, size_t place, size_t within, ndf_error_record *told, char *buf, size_t room);
+/* Writes an error of an entry, as ndf_next_error does, with the same codes. */
+uint32_t ndf_entry_error(ndf_handle *h, size_t place, size_t within, ndf_error_record *record, char *buf, size_t room);
 
-/* Tells the counts. It never lacks memory. */
+/* Writes the counts. It never lacks memory. */
 uint32_t ndf_counts(ndf_handle *h, ndf_totals *counts);
 
 #ifdef __cplusplus
