@@ -55,7 +55,7 @@ printed() {
 
 # Each script that a user calls answers --help with two lines.
 helped() {
-    for script in scripts/* scripts/print/* scripts/bench/*; do
+    for script in scripts/* scripts/*/*; do
         [ ! -x "$script" ] || [ -d "$script" ] || [ "$("$script" --help </dev/null 2>/dev/null | wc -l)" = 2 ] || echo "$script: --help isn't two lines"
     done
 }
