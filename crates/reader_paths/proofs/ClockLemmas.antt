@@ -1,5 +1,5 @@
 -- Moments that never fall, one after the other. `moments_never_fall` cites these.
-use Rattle.std.proofs.Common.{◌≡◌, ◌∙◌, sym, ap, ℕ, ◌<◌, ◌≤◌, true, false, ◌==◌, ◌&&◌, Some, List, [], ◌∷◌, length, ◌⊎◌, inl, inr, refl, arith}
+use Rattle.std.proofs.Common.{◌≡◌, ◌≢◌, ◌∙◌, sym, ap, ℕ, ◌<◌, ◌≤◌, true, false, ◌==◌, ◌&&◌, Some, List, [], ◌∷◌, length, ◌⊎◌, inl, inr, refl, arith}
 use Rattle.std.specs.Prelude.{nat_le}
 use Rattle.std.proofs.lemmas.Bool.Decides.{nat_tests}
 use Rattle.debounce_model.specs.Command.{CommandValue, ReplyValue}
@@ -35,3 +35,10 @@ pub kept_by : (cs : List CommandValue) (rs : List ReplyValue) → length cs ≡ 
 kept_by cs rs e =
     let same : (length cs == length rs) ≡ true = grind (arith, nat_tests) in
     rw same refl
+
+-- without a reply for each command they are not kept
+pub unpaired : (cs : List CommandValue) (rs : List ReplyValue) → length cs ≢ length rs →
+    false ≡ moments_never_fall cs rs
+unpaired cs rs other =
+    let differ : (length cs == length rs) ≡ false = grind (arith, nat_tests) in
+    rw differ refl

@@ -1,5 +1,5 @@
 -- A loop over commands and replies, side by side: what a turn takes, and what is left behind it, as values.
-use Rattle.std.proofs.Common.{◌≡◌, ◌∙◌, sym, ap, ℕ, ◌<◌, ◌≤◌, Bool, true, false, ◌&&◌, List, [], ◌∷◌, length, ◌⊎◌, inl, inr, Option, None, Some, Bor}
+use Rattle.std.proofs.Common.{◌≡◌, ◌≢◌, ◌∙◌, sym, ap, ℕ, ◌<◌, ◌≤◌, Bool, true, false, ◌&&◌, List, [], ◌∷◌, length, ◌⊎◌, inl, inr, Option, None, Some, Bor}
 use Rattle.std.specs.Iterator.Adapters.{zip_first, zip_second}
 use Rattle.std.specs.Slice.Iter.{iter_rest}
 use Rattle.std.specs.declared.iter.Zip.{Zip}
@@ -16,7 +16,7 @@ use Rattle.debounce_model.specs.Honest.{are_honest}
 use Rattle.debounce_model.specs.Play.{Paths, play, accepted}
 use Rattle.reader_paths.specs.Clock.{moment_of, moments_of, never_fall, moments_never_fall}
 use Rattle.reader_paths.specs.Played.{accepted_by}
-use Rattle.reader_paths.proofs.ClockLemmas.{falls, rises, moments_end, kept_by}
+use Rattle.reader_paths.proofs.ClockLemmas.{falls, rises, moments_end, kept_by, unpaired}
 use Rattle.reader_paths.proofs.ReplyLemmas.{accepted_end, are_honest-first, play_accepted-first}
 
 -- two slices side by side, of which a part is left
@@ -57,6 +57,13 @@ module _ {Z : Type 0} where
       length (command_values commands) ≡ length (reply_values replies)
   as_long commands replies same =
       length-map commands command_value ∙ same ∙ sym (length-map replies reply_value)
+
+  -- the clock is not kept without a reply for each command
+  pub clock_unpaired : (commands : List (Command Z)) (replies : List (Reply Z)) → length commands ≢ length replies →
+      false ≡ moments_never_fall (command_values commands) (reply_values replies)
+  clock_unpaired commands replies other =
+      unpaired (command_values commands) (reply_values replies)
+      (λ same. other (sym (length-map commands command_value) ∙ same ∙ length-map replies reply_value))
 
   module _ (commands : List (Command Z)) (replies : List (Reply Z)) (least : ℕ) (s t : Pairs Z) {r : Option (Pair Z)}
       (steps : zips fronts fronts s r t)

@@ -1,5 +1,5 @@
--- What was told with a tracker, by the paths that were removed and created with it. `read_moves` cites the last two.
-use Rattle.std.proofs.Common.{◌≡◌, ℕ, Bool, true, false, cond, ◌&&◌, List, [], ◌∷◌, ◌++◌, Option, None, Some, refl, sym, ap, subst, ◌∙◌}
+-- What was told with a tracker, by the paths that were removed and created with it. `gather` cites `next_told`, and `read_moves` the last two.
+use Rattle.std.proofs.Common.{◌≡◌, ℕ, suc, ◌+◌, ◌<◌, Bool, true, false, cond, ◌&&◌, List, [], ◌∷◌, ◌++◌, length, get_or, drop, Option, None, Some, refl, sym, ap, subst, ◌∙◌, add-one, drop-cons}
 use Rattle.std.specs.Prelude.{unwrap_or}
 use Rattle.std.specs.BTreeMap.{is_at, insert_entry}
 use Rattle.std.specs.Cmp.{unsigned_Decides, unsigned_tied}
@@ -12,11 +12,27 @@ use Rattle.std.proofs.lemmas.Map.{lookup-none}
 use Rattle.std.proofs.lemmas.Map.Entries.{none_past_head}
 use Rattle.std.proofs.lemmas.Map.Keys.{IsDistinct-from_sorted, sorted_tail}
 use Rattle.debounce_model.proofs.Entries.{lookup-insert_same, lookup-insert_other, sorted-insert_entry}
+use Rattle.debounce_model.specs.Play.{events_of}
 use Rattle.notify_paths.specs.Path.{PathValue, is_prefix}
-use Rattle.notify_types.specs.Event.{EventValue}
+use Rattle.notify_types.specs.Event.{EventValue, Timed}
 use Rattle.notify_types.specs.Kinds.{is_creation, is_removal}
 use Rattle.reader_paths.specs.Moves.{AreMovesOf, MoveValue, MovesValue, move_of, move_with, path_with, paths_with}
 use Rattle.reader_paths.specs.Moves.Told.{IsTracked, TrackedValue, collected_from, collected_with, move_tracked, tracked_by, tracked_created, tracked_from, tracked_move, tracked_nothing, tracked_removed, tracked_with, with_created, with_removed}
+
+-- ---- one event more
+
+-- one more event of a batch, after those from i on were still left
+pub next_told : (batch : List Timed) (i t : ℕ) (x : Timed) (e : EventValue) (old new all : TrackedValue) →
+    i < length batch → x ≡ get_or batch i x → e ≡ x.event → new ≡ tracked_by t old e →
+    tracked_from t old (events_of (drop i batch)) ≡ all →
+    tracked_from t new (events_of (drop (i + 1) batch)) ≡ all
+next_told batch i t x e old new all below is same noted so_far =
+    let here : drop i batch ≡ x ∷ drop (i + 1) batch = drop-cons batch i x below
+    ∙ ap (λ y. y ∷ drop (suc i) batch) (sym is) ∙ ap (λ n. x ∷ drop n batch) (sym (add-one i)) in
+    ap (λ told. tracked_from t told (events_of (drop (i + 1) batch)))
+    (noted ∙ ap (λ (event : EventValue). tracked_by t old event) same)
+    ∙ ap (λ b. tracked_from t old (events_of b)) (sym here)
+    ∙ so_far
 
 -- ---- one path more
 

@@ -1,5 +1,9 @@
-use Rattle.reader_paths.proofs.PairLemmas.{clock_ends, clock_falls, clock_rises}
+use Rattle.reader_paths.proofs.PairLemmas.{clock_ends, clock_falls, clock_rises, clock_unpaired}
 use Rattle.reader_paths.proofs.clock.moments_never_fall.Goals as goal
+
+pub returns-then-commands-replies : goal.returns-then-commands-replies
+returns-then-commands-replies g c =
+    clock_unpaired c.args.commands.now c.args.replies.now c.if-commands-replies.true
 
 pub returns-then-now-least : goal.returns-then-now-least
 returns-then-now-least g c =
