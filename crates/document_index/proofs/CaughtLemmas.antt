@@ -6,13 +6,15 @@ use Rattle.program_logic.specs.Words.Index.{IndexValue}
 use Rattle.program_logic.specs.Words.Kept.{CatchesUp, Readings, Takes}
 use Rattle.program_logic.proofs.WordsLemmas.Catching.{caught_both, caught_none, caught_one}
 
--- a part was taken, and then nothing
-pub part_taken : (readings : Readings) (events : List EventValue) (old between new : IndexValue) → new ≡ between →
-    Takes readings events old between → CatchesUp readings old new
-part_taken readings events old between new same taken =
+-- a part was taken, and this call left the index as it was
+pub part_taken : {T E : Type 0} (readings : Readings) (events : List EventValue) (old between new : IndexValue)
+    (result : Result T E) → new ≡ between → Takes readings events old between →
+    OnOk result (CatchesUp readings old new)
+part_taken readings events old between new (Ok done) same taken =
     caught_one readings events old new (subst (Takes readings events old) (sym same) taken)
+part_taken readings events old between new (Err e) same taken = tt
 
--- .. if the call went well
+-- this call took a part, if it went well
 pub part_if : {T E : Type 0} (readings : Readings) (events : List EventValue) (old new : IndexValue)
     (result : Result T E) → OnOk result (Takes readings events old new) → OnOk result (CatchesUp readings old new)
 part_if readings events old new (Ok done) taken = caught_one readings events old new taken

@@ -51,6 +51,8 @@ pub(crate) struct Documents<R: Drop> {
     end: Option<Instant>,
     /// The file that is read in parts.
     begun: Option<Begun>,
+    /// What is read next was prepared, and so is read even if there is no time left.
+    is_prepared: bool,
 }
 
 impl<R: Files + Clock + AllocGlobal + Copy + Drop> Documents<R> {
@@ -63,6 +65,7 @@ impl<R: Files + Clock + AllocGlobal + Copy + Drop> Documents<R> {
             no_text: AtomicU64::new(0),
             end: None,
             begun: None,
+            is_prepared: false,
         }
     }
 
@@ -70,6 +73,7 @@ impl<R: Files + Clock + AllocGlobal + Copy + Drop> Documents<R> {
     pub(crate) fn read_for(&mut self, time: Duration)
         ensures same { self.new.folder ≡ self.old.folder }
     {
+        self.is_prepared = false;
         self.end = match Instant::now(&self.rt) {
             Ok(now) => now.checked_add(time),
             Err(_) => None,
@@ -128,7 +132,7 @@ impl<R: Files + Clock + AllocGlobal + Copy + Drop> Documents<R> {
         Ok(read)
     }
 
-    /// Puts in the words of what stands at the path, if something does, and there is time.
+    /// Puts in the words of what stands at the path, if something does, and there is time or it was prepared.
     fn read_one(
         &self,
         read: &mut BTreeMap<PathBuf, Words>,
@@ -138,7 +142,7 @@ impl<R: Files + Clock + AllocGlobal + Copy + Drop> Documents<R> {
         ensures put { OnOk result (PutsAt path.now read.old.entries read.new.entries) }
         ensures err { IfErr result (λ e. e ≡ Memory) }
     {
-        if self.is_over() {
+        if !self.is_prepared && self.is_over() {
             return Ok(());
         }
         let key = path.clone()?;
@@ -212,9 +216,19 @@ impl<R: Files + Clock + AllocGlobal + Copy + Drop> Documents<R> {
         }
     }
 
-    /// Reads a file that is long enough to be read in parts, if one stands at the path: a part of it, and more as long
-    /// as there is time. Returns whether what stands there can be read at once now.
+    /// Prepares what stands at the path, as far as there is time, and returns whether it can be read at once now.
     pub(crate) fn prepare(&mut self, path: &PathBuf) -> Result<bool, Fault>
+        ensures err { IfErr result (λ e. e ≡ Memory) }
+        ensures same { self.new.folder ≡ self.old.folder }
+    {
+        let is_ready = self.read_parts(path)?;
+        self.is_prepared = is_ready;
+        Ok(is_ready)
+    }
+
+    /// Reads a file that is long enough to be read in parts, if one stands at the path: a part of it, and more as long
+    /// as there is time. Returns whether no part is left.
+    fn read_parts(&mut self, path: &PathBuf) -> Result<bool, Fault>
         ensures err { IfErr result (λ e. e ≡ Memory) }
         ensures same { self.new.folder ≡ self.old.folder }
     {

@@ -101,11 +101,19 @@ impl<R: DebouncerRuntime + AllocGlobal, E: Write + Drop> Indexer<R, E> {
         ensures same { self.new.documents ≡ self.old.documents }
     {
         self.kept.follow(&self.documents, batch)?;
-        if asks_anew(batch) {
-            let listed = self.documents.all()?;
-            self.kept.note_anew(listed.as_slice())?;
+        self.note_anew_if(asks_anew(batch))
+    }
+
+    /// Notes all as due, what is known and what stands there, if that is asked for.
+    fn note_anew_if(&mut self, asked: bool) -> Result<(), Fault>
+        ensures index { self.new.kept.index ≡ self.old.kept.index }
+        ensures same { self.new.documents ≡ self.old.documents }
+    {
+        if !asked {
+            return Ok(());
         }
-        Ok(())
+        let listed = self.documents.all()?;
+        self.kept.note_anew(listed.as_slice())
     }
 
     /// Takes the reports that have come, and reads again what was missing, as far as there is time for it.
@@ -160,15 +168,24 @@ impl<R: DebouncerRuntime + AllocGlobal, E: Write + Drop> Indexer<R, E> {
         ensures same { self.new.documents ≡ self.old.documents }
     {
         for _ in rt.forever() {
-            let Some(report) = reports.next_within(Duration::from_millis(1)) else {
-                return Ok(());
-            };
-            self.take_report(&report)?;
-            if self.documents.is_over() {
+            if !self.take_next(reports)? {
                 return Ok(());
             }
         }
         unreachable!()
+    }
+
+    /// Takes the next report, if one has come, and says whether there was, and there is time for more.
+    fn take_next(&mut self, reports: &mut FolderReports<'_, R, E>) -> Result<bool, Fault>
+        ensures caught { OnOk result (CatchesUp IsReadAmong self.old.kept.index
+            self.new.kept.index) }
+        ensures same { self.new.documents ≡ self.old.documents }
+    {
+        let Some(report) = reports.next_within(Duration::from_millis(1)) else {
+            return Ok(false);
+        };
+        self.take_report(&report)?;
+        Ok(!self.documents.is_over())
     }
 
     /// Reads what is due, as long as there is time.
@@ -178,15 +195,24 @@ impl<R: DebouncerRuntime + AllocGlobal, E: Write + Drop> Indexer<R, E> {
         ensures same { self.new.documents.folder ≡ self.old.documents.folder }
     {
         for _ in rt.forever() {
-            let Some(path) = self.kept.take_due() else {
-                return Ok(());
-            };
-            self.read_part(path)?;
-            if self.documents.is_over() {
+            if !self.read_next()? {
                 return Ok(());
             }
         }
         unreachable!()
+    }
+
+    /// Reads what is due next, if anything is, and says whether there was, and there is time for more.
+    fn read_next(&mut self) -> Result<bool, Fault>
+        ensures caught { OnOk result (CatchesUp IsReadAmong self.old.kept.index
+            self.new.kept.index) }
+        ensures same { self.new.documents.folder ≡ self.old.documents.folder }
+    {
+        let Some(path) = self.kept.take_due() else {
+            return Ok(false);
+        };
+        self.read_part(path)?;
+        Ok(!self.documents.is_over())
     }
 
     /// Reads what stands at the path, or goes on with it. What isn't read to its end comes first the next time.

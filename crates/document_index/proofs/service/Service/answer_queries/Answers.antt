@@ -15,3 +15,6 @@ loop-preserved g c = record {
   done = answered_both IsReadAmong true c.loop.all c.take-all.value _ _ _ c.loop.invariant.done
       c.in_ok-take-all.ensures.answered;
 }
+
+pub loop-init : goal.loop-init
+loop-init g c = record { iterates = (tt, tt); done = answered_nothing IsReadAmong true _ }
