@@ -69,7 +69,7 @@ impl<R: Clock + Drop> Pause<R> {
         if self.left.is_none() {
             return false;
         }
-        self.left = time_to_round(&self.rt, self.end);
+        self.left = time_left(&self.rt, self.end);
         self.left.is_none()
     }
 }
@@ -80,7 +80,7 @@ fn end_after<R: Clock>(rt: &R, length: Duration) -> Option<Instant> {
 }
 
 /// How long it is to the moment, if it hasn't come.
-fn time_to_round<R: Clock>(rt: &R, end: Option<Instant>) -> Option<Duration> {
+fn time_left<R: Clock>(rt: &R, end: Option<Instant>) -> Option<Duration> {
     let left = end?.checked_duration_since(Instant::now(rt).ok()?)?;
     if left.is_zero() { None } else { Some(left) }
 }
