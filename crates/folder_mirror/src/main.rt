@@ -2,6 +2,9 @@
 //! docs/PROGRAMS.md has its page.
 #![tactic(auto)]
 
+ghost use Rattle.std.specs.Prelude.{◌≡◌, ◌⊎◌, Some, None, true, false, codes};
+ghost use Rattle.clap.specs.Words.{found_of, one_text};
+
 use clap::{ArgMatches, Command};
 use notify_debouncer_full::{DebouncerRuntime, PathBuf, RecursiveMode};
 use program_copy::files::{FolderCopy, RealDisk, check_apart};
@@ -12,10 +15,12 @@ use program_frame::{
 };
 use program_reports::follow_folder;
 use std::alloc::{AllocError, Global};
-use std::fs;
-use std::fs::Files;
+use std::fs::{DirBuilder, Files};
 use std::io::Write;
+use std::os::unix::fs::DirBuilderExt;
+use std::path::Path;
 use std::process::ExitCode;
+use std::{fs, io};
 
 /// The folder that is copied.
 const FROM: PlaceWord<'static> = PlaceWord {
@@ -40,8 +45,19 @@ fn command_line<'a>(alloc: Global, name: &'a str) -> Result<Command<'a>, AllocEr
     line.arg(dry_run.help("print what would be done, and do nothing"))
 }
 
-/// What the words allow.
-fn leave_of(matches: &ArgMatches<'_>) -> Leave {
+/// What the words allow: nothing is removed unasked, and a dry run does nothing.
+fn leave_of(matches: &ArgMatches<'_>) -> Leave
+    ensures delete { one_text (found_of matches.now) (codes "delete") ≡ Some (codes "true")
+        → result.delete ≡ true }
+    ensures kept { (one_text (found_of matches.now) (codes "delete") ≡ None)
+        ⊎ (one_text (found_of matches.now) (codes "delete") ≡ Some (codes "false"))
+        → result.delete ≡ false }
+    ensures dry_run { one_text (found_of matches.now) (codes "dry-run") ≡ Some (codes "true")
+        → result.dry_run ≡ true }
+    ensures done { (one_text (found_of matches.now) (codes "dry-run") ≡ None)
+        ⊎ (one_text (found_of matches.now) (codes "dry-run") ≡ Some (codes "false"))
+        → result.dry_run ≡ false }
+{
     Leave {
         delete: matches.get_flag("delete"),
         dry_run: matches.get_flag("dry-run"),
@@ -58,16 +74,20 @@ fn copy_of<R: DebouncerRuntime + AllocGlobal, E: Write>(
     let leave = leave_of(matches);
     check_apart(&rt, from, to)?;
     check_folder(&rt, from, err)?;
-    if !leave.dry_run {
-        make_folder(&rt, to, err)?;
+    let is_new = !leave.dry_run && make_folder(&rt, to, err)?;
+    if is_new {
         // A name through a folder that was missing leads somewhere only now.
         check_apart(&rt, from, to)?;
     }
     let from = folder_of(rt.alloc(), matches)?;
-    match PathBuf::parse(rt.alloc(), to) {
-        Ok(to) => FolderCopy::new(RealDisk::new(rt), from, to, leave),
-        Err(_) => Err(Fault::Memory),
+    let Ok(to) = PathBuf::parse(rt.alloc(), to) else {
+        return Err(Fault::Memory);
+    };
+    let mut copy = FolderCopy::new(RealDisk::new(rt), from, to, leave)?;
+    if is_new {
+        copy.made_new();
     }
+    Ok(copy)
 }
 
 /// Refuses what is there and is no folder.
@@ -81,14 +101,29 @@ fn check_folder<R: Files, E: Write>(rt: &R, folder: &str, err: &mut E) -> Result
     }
 }
 
-/// Makes the folder, and those above it, if it is missing.
-fn make_folder<R: Files, E: Write>(rt: &R, folder: &str, err: &mut E) -> Result<(), Fault> {
-    match fs::create_dir_all(rt, folder) {
-        Ok(()) => Ok(()),
+/// Makes the folder, and those above it, if it is missing, and says whether it did. At first nobody else may read it.
+fn make_folder<R: Files, E: Write>(rt: &R, folder: &str, err: &mut E) -> Result<bool, Fault> {
+    match make_missing(rt, folder) {
+        Ok(is_new) => Ok(is_new),
         Err(error) => {
             let _ = writeln!(err, "{NAME}: cannot make {folder}: {error}");
             Err(Fault::NotWatched)
         }
+    }
+}
+
+/// Makes the folder if it is missing, and says whether it did.
+fn make_missing<R: Files>(rt: &R, folder: &str) -> io::Result<bool> {
+    if let Some(above) = Path::new(folder).parent() {
+        fs::create_dir_all(rt, above)?;
+    }
+    let mut how = DirBuilder::new();
+    match how.mode(0o700).create(rt, folder) {
+        Ok(()) => Ok(true),
+        Err(error) => match fs::metadata(rt, folder) {
+            Ok(found) if found.is_dir() => Ok(false),
+            _ => Err(error),
+        },
     }
 }
 

@@ -39,7 +39,15 @@ impl<E: Write + Drop> SaidOnce<E> {
         self.before = mem::replace(&mut self.said, BTreeMap::new(self.alloc));
     }
 
-    /// The new attempt is over.
+    /// The path isn't tried again now: what was said of it counts still.
+    pub(crate) fn keep(&mut self, path: &PathBuf) -> Result<(), AllocError> {
+        if let Some(what) = self.before.get(path) {
+            self.said.insert(path.clone()?, *what)?;
+        }
+        Ok(())
+    }
+
+    /// All that failed was tried again.
     pub(crate) fn end_again(&mut self) {
         self.before = BTreeMap::new(self.alloc);
     }

@@ -10,8 +10,11 @@
 //! ```
 
 mod apart;
+mod bytes;
 mod copy;
 mod disk;
+mod dress;
+mod origins;
 mod places;
 mod real;
 mod writing;
@@ -19,4 +22,5 @@ mod writing;
 pub use apart::check_apart;
 pub use copy::FolderCopy;
 pub use disk::Disk;
+pub use dress::Unset;
 pub use real::RealDisk;

@@ -5,7 +5,7 @@ ghost use Rattle.reader_paths.specs.Plan.{look_at};
 use crate::came::Came;
 use crate::copied::Copied;
 use crate::looks::Looks;
-use crate::seen::{FolderAndCopy, Had};
+use crate::seen::{FolderAndCopy, Had, Seen};
 use notify_paths::PathBuf;
 use reader_paths::plan::Standing;
 use std::alloc::{AllocError, Global};
@@ -39,8 +39,18 @@ impl<C: FolderAndCopy> Kept<C> {
         }
     }
 
-    /// Puts what stands at the path into the copy. If the copy has a thing of another kind there, that is removed
-    /// first, with all below it.
+    /// Looks at the path of the folder: what was copied from there may be away.
+    pub(crate) fn look_at(&self, path: &PathBuf) -> Seen
+        ensures { C.sees self.now.copy path.now result }
+    {
+        match self.copied.get(path) {
+            Some(_) => self.copy.look_at_copied(path),
+            None => self.copy.look_at(path),
+        }
+    }
+
+    /// Has what stands at the path stand in the copy too. What the copy has of another kind there makes way, with
+    /// all below it.
     pub(crate) fn put(
         &mut self,
         path: &PathBuf,

@@ -17,16 +17,20 @@ mod complaints;
 mod copied;
 pub mod files;
 mod kept;
+mod later;
 mod looks;
 mod mirror;
 mod moving;
+mod number;
 mod seen;
 mod waiting;
 mod words;
 
 pub use copied::Copied;
+pub use files::Unset;
 pub use kept::Kept;
 pub use mirror::{Leave, Mirror};
+pub use number::FolderNumber;
 pub use seen::{FolderAndCopy, Had, Seen, is_missing};
 pub use waiting::OwedPaths;
 

@@ -121,7 +121,7 @@ impl Looks {
             → AreSeen (C.sees kept.now.copy) self.new.wanted.entries
             self.new.standing.entries self.new.others.entries) }
     {
-        self.look(&kept.copy, path, is_removal)?;
+        self.look(kept, path, is_removal)?;
         if is_removal || !self.standing.contains_key(path) {
             return self.look_below(kept, path, is_removal);
         }
@@ -145,7 +145,7 @@ impl Looks {
             self.new.standing.entries self.new.others.entries) }
     {
         for (below, _) in &kept.copied.below(path)? {
-            self.look(&kept.copy, below, is_removal)?;
+            self.look(kept, below, is_removal)?;
         }
         Ok(())
     }
@@ -153,7 +153,7 @@ impl Looks {
     /// Looks at the path, if that wasn't done yet. `is_removal` says whether an event removes it.
     fn look<C: FolderAndCopy>(
         &mut self,
-        copy: &C,
+        kept: &Kept<C>,
         path: &PathBuf,
         is_removal: bool,
     ) -> Result<(), Fault>
@@ -163,16 +163,16 @@ impl Looks {
         ensures stay { OnOk result (StayKnown self.old.standing.entries self.old.others.entries
             self.new.standing.entries self.new.others.entries) }
         ensures seen { OnOk result (
-            AreSeen (C.sees copy.now) self.old.wanted.entries
+            AreSeen (C.sees kept.now.copy) self.old.wanted.entries
             self.old.standing.entries self.old.others.entries
-            → AreSeen (C.sees copy.now) self.new.wanted.entries
+            → AreSeen (C.sees kept.now.copy) self.new.wanted.entries
             self.new.standing.entries self.new.others.entries) }
     {
         self.note_removal(path, is_removal)?;
         if self.is_known(path) {
             return Ok(());
         }
-        self.look_now(copy, path)
+        self.look_now(kept, path)
     }
 
     /// Notes whether an event says that the path was removed.
@@ -188,7 +188,7 @@ impl Looks {
     }
 
     /// Looks at a path that wasn't looked at yet.
-    fn look_now<C: FolderAndCopy>(&mut self, copy: &C, path: &PathBuf) -> Result<(), Fault>
+    fn look_now<C: FolderAndCopy>(&mut self, kept: &Kept<C>, path: &PathBuf) -> Result<(), Fault>
         requires { is_known self.old.standing.entries self.old.others.entries path.now ≡ false }
         ensures wanted { OnOk result (self.new.wanted ≡ self.old.wanted) }
         ensures known { OnOk result (
@@ -196,16 +196,16 @@ impl Looks {
         ensures stay { OnOk result (StayKnown self.old.standing.entries self.old.others.entries
             self.new.standing.entries self.new.others.entries) }
         ensures seen { OnOk result (
-            AreSeen (C.sees copy.now) self.old.wanted.entries
+            AreSeen (C.sees kept.now.copy) self.old.wanted.entries
             self.old.standing.entries self.old.others.entries
-            → AreSeen (C.sees copy.now) self.new.wanted.entries
+            → AreSeen (C.sees kept.now.copy) self.new.wanted.entries
             self.new.standing.entries self.new.others.entries) }
     {
-        let seen = copy.look_at(path);
+        let seen = kept.look_at(path);
         if tells_of_memory(&seen) {
             return Err(Fault::Memory);
         }
-        Ok(self.note(copy, path.clone()?, seen)?)
+        Ok(self.note(&kept.copy, path.clone()?, seen)?)
     }
 
     /// Whether the path was looked at.

@@ -10,9 +10,12 @@ ghost use Rattle.program_copy.specs.Looked.{is_kept, lets_go_of};
 
 use crate::NAME;
 use crate::came::Came;
+use crate::files::Unset;
 use crate::kept::Kept;
+use crate::later::Later;
 use crate::looks::Looks;
-use crate::seen::{FolderAndCopy, Seen};
+use crate::number::FolderNumber;
+use crate::seen::{FolderAndCopy, Seen, is_missing};
 use crate::waiting::OwedPaths;
 use crate::words::Words;
 use notify_paths::PathBuf;
@@ -26,7 +29,7 @@ use std::alloc::Global;
 use std::collections::BTreeMap;
 use std::io;
 use std::io::Write;
-use std::time::Duration;
+use std::time::{Duration, Instant};
 
 /// After how many milliseconds the paths that wait are tried again.
 const PAUSE: u64 = 1000;
@@ -43,7 +46,15 @@ fn is_like(one: Option<Standing>, other: Option<Standing>) -> bool
     )
 }
 
-/// Whether an event of the batch asks to read all again, since the watcher lost some.
+/// Whether an error of this kind is about a folder above the path.
+fn is_of_folder(kind: io::ErrorKind) -> bool {
+    matches!(
+        kind,
+        io::ErrorKind::PermissionDenied | io::ErrorKind::StaleNetworkFileHandle
+    )
+}
+
+/// Whether an event of the batch asks to look at all anew, since the watcher lost some.
 fn asks_anew(report: &DebounceEventResult) -> bool
     ensures { result ≡ asks_anew report.now }
 {
@@ -84,12 +95,21 @@ pub struct Mirror<C: Drop, O: Drop, E: Drop> {
     /// The moves of the last batch that had some.
     pub(crate) earlier: Option<Moves>,
     pub waiting: OwedPaths,
-    /// After how long the paths that wait are tried again.
+    /// When what failed is tried again.
+    later: Later,
+    /// When what waits was tried last.
+    tried: Option<Instant>,
+    /// After how long what waits is tried again.
     pause: Duration,
     /// Whether something has failed since the paths that wait were last tried again.
     pub has_failed: bool,
     /// Whether the folder is missing. Then its copy stays as it is until the folder is there again.
     is_gone: bool,
+    /// Which folder stood there at first, and which when it was last asked for.
+    first: Option<FolderNumber>,
+    number: Option<FolderNumber>,
+    /// That is another one than at first, and nobody has chosen it: what the copy has beside it stays.
+    is_other: bool,
     /// The number of the copy's folder, if it was there when it was last asked for.
     copy_number: Option<u64>,
     /// Whether what the copy has and the folder hasn't is still to be removed, since the folder is there again.
@@ -101,9 +121,15 @@ impl<C: FolderAndCopy, O: Write + Drop, E: Write + Drop> Mirror<C, O, E> {
     /// Makes the mirror of this copy. It writes to `out` what it does, and to `err` what failed.
     pub fn new(alloc: Global, copy: C, leave: Leave, out: O, err: E) -> Mirror<C, O, E> {
         let copy_number = copy.copy_number();
+        let number = copy.folder_number();
         Mirror {
             alloc,
             leave,
+            later: Later::new(alloc),
+            tried: copy.now(),
+            first: number,
+            number,
+            is_other: false,
             kept: Kept::new(alloc, copy),
             earlier: None,
             waiting: OwedPaths::new(alloc),
@@ -128,6 +154,7 @@ impl<C: FolderAndCopy, O: Write + Drop, E: Write + Drop> Mirror<C, O, E> {
             (events_of (again_of self.old.waiting)) self.new.waiting self.new.kept.copied) }
     {
         write_missed(missed, NAME, &mut self.words.said.err);
+        self.later.forget_all();
         self.try_again()?;
         if self.has_failed || missed > 0 {
             return Err(Fault::Incomplete);
@@ -135,7 +162,31 @@ impl<C: FolderAndCopy, O: Write + Drop, E: Write + Drop> Mirror<C, O, E> {
         Ok(())
     }
 
-    /// Tries the paths that wait again.
+    /// Tries again what waits, if something does and that was last done a while ago, however many reports come.
+    fn try_in_turn(&mut self) -> Result<(), Fault> {
+        if self.waiting.is_empty() || !self.is_turn() {
+            return Ok(());
+        }
+        self.take_turn()
+    }
+
+    /// Whether what waits was last tried so long ago as it waits. If the clock can't be read, it was.
+    fn is_turn(&self) -> bool {
+        match (self.tried, self.kept.copy.now()) {
+            (Some(tried), Some(now)) => now.duration_since(tried) >= self.pause,
+            _ => true,
+        }
+    }
+
+    /// Tries again what waits, but what failed before not each time.
+    fn take_turn(&mut self) -> Result<(), Fault> {
+        self.later.begin_turn();
+        self.try_again()?;
+        self.tried = self.kept.copy.now();
+        Ok(())
+    }
+
+    /// Tries again what waits.
     fn try_again(&mut self) -> Result<(), Fault>
         ensures { OnOk result (WaitOrAreCopied (C.sees self.old.kept.copy)
             (events_of (again_of self.old.waiting)) self.new.waiting self.new.kept.copied) }
@@ -258,7 +309,7 @@ impl<C: FolderAndCopy, O: Write + Drop, E: Write + Drop> Mirror<C, O, E> {
     /// Whether nothing stands at the path of a folder that is there.
     fn is_gone_from(&self, path: &PathBuf) -> bool {
         // Asked after the look: a folder that is there now was there when it found nothing.
-        matches!(self.kept.copy.look_at(path), Seen::Nothing)
+        matches!(self.kept.look_at(path), Seen::Nothing)
             && matches!(self.kept.copy.has_folder(), Ok(true))
     }
 
@@ -282,13 +333,45 @@ impl<C: FolderAndCopy, O: Write + Drop, E: Write + Drop> Mirror<C, O, E> {
 
     /// Does the actions for the batch, by what the looks found.
     fn carry_plan(&mut self, batch: &[DebouncedEvent], looks: &Looks) -> Result<(), Fault> {
-        for action in &plan(self.alloc, &looks.standing, batch)? {
+        let actions = plan(self.alloc, &looks.standing, batch)?;
+        for action in &actions {
             self.carry_out(action, looks)?;
+        }
+        // What is in a folder comes before the folder: now nothing more is put into it.
+        for action in actions.iter().rev() {
+            self.settle(action);
         }
         Ok(())
     }
 
-    /// Lets the paths of the batch wait, until the folder and its copy are there.
+    /// Has the folder in the copy be as its original, if one is there. What can't be given to it is said.
+    fn settle(&mut self, action: &Action) {
+        if action.wanted != Some(Standing::Folder)
+            || self.kept.copied.get(&action.path) != Some(Standing::Folder)
+        {
+            return;
+        }
+        match self.kept.copy.settle(&action.path) {
+            Ok(()) => self.say_unset(&action.path),
+            Err(error) if is_missing(&error) => {}
+            Err(error) => {
+                let what = "permissions";
+                self.words.say_unset(&action.path, &Unset { what, error });
+            }
+        }
+    }
+
+    /// Says what couldn't be given to what was put or settled last.
+    fn say_unset(&mut self, path: &PathBuf)
+        ensures waiting { self.new.waiting ≡ self.old.waiting }
+        ensures same { self.new.kept ≡ self.old.kept }
+    {
+        if let Some(unset) = self.kept.copy.unset() {
+            self.words.say_unset(path, unset);
+        }
+    }
+
+    /// The paths of the batch wait for the folder, or for its copy.
     fn keep_for_later(&mut self, batch: &[DebouncedEvent]) -> Result<(), Fault>
         ensures wait { OnOk result (AllWait (events_of batch.now) self.new.waiting) }
         ensures same { self.new.kept ≡ self.old.kept }
@@ -323,12 +406,12 @@ impl<C: FolderAndCopy, O: Write + Drop, E: Write + Drop> Mirror<C, O, E> {
         ensures same { OnOk result (self.new.kept ≡ self.old.kept) }
     {
         let has_copy = self.has_copy()?;
-        Ok(self.has_folder() && has_copy)
+        Ok(self.has_folder()? && has_copy)
     }
 
-    /// Whether the folder is there. Writes a line when it is gone.
-    fn has_folder(&mut self) -> bool
-        ensures same { self.new.kept ≡ self.old.kept }
+    /// Whether the folder is there. Says so if it isn't any more. In another one all is looked at again.
+    fn has_folder(&mut self) -> Result<bool, Fault>
+        ensures same { OnOk result (self.new.kept ≡ self.old.kept) }
     {
         let found = self.kept.copy.has_folder();
         let has_folder = matches!(found, Ok(true));
@@ -337,7 +420,39 @@ impl<C: FolderAndCopy, O: Write + Drop, E: Write + Drop> Mirror<C, O, E> {
             self.has_beside = true;
         }
         self.is_gone = !has_folder;
-        has_folder
+        if has_folder {
+            self.take_up()?;
+        }
+        Ok(has_folder)
+    }
+
+    /// If another folder than before is there, it is copied from now on, and all that was copied is looked at again.
+    fn take_up(&mut self) -> Result<(), Fault>
+        ensures same { OnOk result (self.new.kept ≡ self.old.kept) }
+    {
+        let (Some(number), Some(before)) = (self.kept.copy.folder_number(), self.number) else {
+            return Ok(());
+        };
+        if number.is_same(&before) {
+            return Ok(());
+        }
+        self.copy_again()?;
+        self.note_folder(number, &before);
+        Ok(())
+    }
+
+    /// Notes which folder is there, and says if it isn't the one of before and nobody has chosen it.
+    fn note_folder(&mut self, number: FolderNumber, before: &FolderNumber)
+        ensures same { self.new.kept ≡ self.old.kept }
+    {
+        let is_first = self.first.is_some_and(|first| first.is_same(&number));
+        self.is_other = !is_first && !number.is_chosen_since(before);
+        self.has_beside = true;
+        self.has_failed = true;
+        self.number = Some(number);
+        if self.is_other {
+            self.words.say_other(self.kept.copy.folder());
+        }
     }
 
     /// Whether the copy's folder is there. Writes a line when it is gone. If another folder stands in its place, all
@@ -380,6 +495,9 @@ impl<C: FolderAndCopy, O: Write + Drop, E: Write + Drop> Mirror<C, O, E> {
             return Ok(());
         }
         self.has_beside = false;
+        if self.is_other {
+            return Ok(());
+        }
         let beside = self.kept.copy.beside()?;
         let batch = self.not_copied(beside.as_slice())?;
         self.take_batch(batch)
@@ -420,22 +538,39 @@ impl<C: FolderAndCopy, O: Write + Drop, E: Write + Drop> Mirror<C, O, E> {
         }) false self.new.kept.copy self.new.kept.copied
             self.new.waiting) }
     {
+        if !self.later.is_due(&action.path) {
+            return self.put_off(action);
+        }
         match self.kept.put(&action.path, standing)? {
             Ok(done) => {
+                self.later.forget(&action.path);
                 self.say_done(action, done)?;
+                self.say_unset(&action.path);
                 self.look_into(action, standing)
             }
-            Err(error) => self.keep_unput(action, &error),
+            Err(error) => {
+                self.later.note(&action.path)?;
+                self.keep_unput(action, &error)
+            }
         }
     }
 
-    /// Lets the path wait, since nothing could be put there. If nothing stands there any more, it waits for the next
-    /// report about it.
+    /// Has the path wait that failed not long ago.
+    fn put_off(&mut self, action: &Action) -> Result<(), Fault>
+        ensures wait { OnOk result (waits self.new.waiting action.now.path ≡ true) }
+        ensures same { self.new.kept ≡ self.old.kept }
+    {
+        self.has_failed = true;
+        self.words.said.keep(&action.path)?;
+        Ok(self.waiting.insert(&action.path, true)?)
+    }
+
+    /// Has the path wait at which nothing could be put: for what is reported of it, if nothing is there any more.
     fn keep_unput(&mut self, action: &Action, error: &io::Error) -> Result<(), Fault>
         ensures wait { OnOk result (waits self.new.waiting action.now.path ≡ true) }
         ensures same { self.new.kept ≡ self.old.kept }
     {
-        if matches!(self.kept.copy.look_at(&action.path), Seen::Nothing) {
+        if matches!(self.kept.look_at(&action.path), Seen::Nothing) {
             return Ok(self.waiting.insert(&action.path, true)?);
         }
         self.keep_failed(action, error)
@@ -564,6 +699,7 @@ impl<C: FolderAndCopy, O: Write + Drop, E: Write + Drop> Mirror<C, O, E> {
         }
         if self.waiting.is_empty() {
             self.words.said.forget();
+            self.later.forget_all();
         }
         Ok(())
     }
@@ -619,12 +755,12 @@ impl<C: FolderAndCopy, O: Write + Drop, E: Write + Drop> Mirror<C, O, E> {
         Ok(())
     }
 
-    /// Writes which folder can't be entered for want of permission, or which path can't be looked at for another
-    /// reason.
+    /// Says which folder permission closes, or which one lies on another disk than what was copied from it, or which
+    /// path can't be looked at for another cause.
     fn say_closed(&mut self, path: &PathBuf, error: &io::Error) -> Result<(), Fault>
         ensures same { self.new.kept ≡ self.old.kept }
     {
-        if error.kind() == io::ErrorKind::PermissionDenied {
+        if is_of_folder(error.kind()) {
             let Ok(folder) = self.kept.copy.closed_above(path) else {
                 return Err(Fault::Memory);
             };
@@ -634,7 +770,8 @@ impl<C: FolderAndCopy, O: Write + Drop, E: Write + Drop> Mirror<C, O, E> {
         }
     }
 
-    /// If this is a folder whose names can't be read, writes so, and lets it wait.
+    /// Says that a folder's names can't be read, if it is one: then it waits. A file waits that changed while it was
+    /// copied.
     fn look_into(&mut self, action: &Action, standing: Standing) -> Result<(), Fault>
         ensures stay { OnOk result (StayWaiting self.old.waiting self.new.waiting) }
         ensures same { self.new.kept ≡ self.old.kept }
@@ -644,6 +781,10 @@ impl<C: FolderAndCopy, O: Write + Drop, E: Write + Drop> Mirror<C, O, E> {
         {
             self.waiting.insert(&action.path, true)?;
             self.say_trouble("look into", &action.path, &error)?;
+        }
+        if standing == Standing::File && self.kept.copy.has_changed(&action.path) {
+            self.has_failed = true;
+            self.waiting.insert(&action.path, true)?;
         }
         Ok(())
     }
@@ -689,8 +830,10 @@ impl<C: FolderAndCopy, O: Write + Drop, E: Write + Drop> TakesReports for Mirror
     /// Takes a batch, or writes a line for each error. After an error the watcher looks again, so no change is lost.
     fn take(&mut self, report: DebounceEventResult) -> Result<(), Fault> {
         let added = self.anew(asks_anew(&report))?;
-        // What is beside goes before the batch is taken, so that the copy is as the batch says in the end.
+        // What is beside goes before the batch is taken, so that the copy is as the batch says in the end. What waits is
+        // tried before it too, though reports come all the time.
         self.remove_beside()?;
+        self.try_in_turn()?;
         match report {
             Ok(batch) => self.take_moved(batch, added),
             Err(errors) => Ok(self.words.said.say_errors(errors.as_slice())?),
@@ -708,6 +851,6 @@ impl<C: FolderAndCopy, O: Write + Drop, E: Write + Drop> TakesReports for Mirror
 
     fn pass(&mut self) -> Result<(), Fault> {
         self.remove_beside()?;
-        self.try_again()
+        self.take_turn()
     }
 }

@@ -110,8 +110,8 @@ impl<C: FolderAndCopy> Kept<C> {
     fn is_due(&self, found: &Move) -> bool
         ensures { IsDue C.sees found.now self.now.copy self.now.copied result }
     {
-        let old = self.copy.look_at(&found.from);
-        let new = self.copy.look_at(&found.to);
+        let old = self.look_at(&found.from);
+        let new = self.look_at(&found.to);
         is_due(self.copied.get(&found.from), &old, &new)
     }
 

@@ -3,11 +3,14 @@ ghost use Rattle.std.specs.Prelude.{◌≡◌, IfOk, OnOk};
 ghost use Rattle.program_copy.specs.Seen.{standing_of};
 
 use crate::copied::Copied;
+use crate::files::Unset;
+use crate::number::FolderNumber;
 use notify_paths::PathBuf;
 use notify_types::DebouncedEvent;
 use program_frame::Fault;
 use reader_paths::plan::Standing;
 use std::io;
+use std::time::Instant;
 
 /// The result of a look at a path of the folder.
 #[derive(Drop)]
@@ -70,8 +73,8 @@ pub enum Had {
 /// A folder and its copy. All calls take paths of the folder. A call that changes the copy returns whether there was
 /// anything to do.
 ///
-/// The ghost members are for proofs. They say which results a look may have, what may stand in the folder, what was
-/// put into the copy last, and what a move did.
+/// Its ghost members say what a look may answer, what may stand in the folder, what was put into the copy last, and
+/// from what each call that changes the copy leads to what, whether it goes well or not.
 pub trait FolderAndCopy: Drop {
     ghost use Rattle.std.specs.Prelude.{List};
     ghost use Rattle.notify_paths.specs.Path.{PathValue};
@@ -88,7 +91,16 @@ pub trait FolderAndCopy: Drop {
     /// The last call put this thing to this path of the copy, and went well.
     ghost has_put: { Self → PathValue → Standing → Type 0 };
 
-    /// A call to move the one path to the other, as before and after it.
+    /// A call that was asked to put something at the path leads from this to that.
+    ghost puts: { Self → PathValue → Self → Type 0 };
+
+    /// .. to remove what was put there.
+    ghost takes_out: { Self → PathValue → Self → Type 0 };
+
+    /// .. to remove what stands there, whatever it is.
+    ghost clears: { Self → PathValue → Self → Type 0 };
+
+    /// A call that was asked to move the one path to the other leads from this to that.
     ghost moves: { Self → PathValue → PathValue → Self → Type 0 };
 
     /// Returns the folder.
@@ -97,8 +109,11 @@ pub trait FolderAndCopy: Drop {
     /// Returns the copy's folder.
     fn copy(&self) -> &PathBuf;
 
-    /// Whether the folder is there, on the disk on which it was, and apart from the copy.
+    /// Whether the folder is there, and apart from the copy.
     fn has_folder(&self) -> io::Result<bool>;
+
+    /// Returns which folder is there, if one is.
+    fn folder_number(&self) -> Option<FolderNumber>;
 
     /// Returns the number of the copy's folder, if it is there, on the disk on which it was.
     fn copy_number(&self) -> Option<u64>;
@@ -107,7 +122,21 @@ pub trait FolderAndCopy: Drop {
     fn look_at(&self, path: &PathBuf) -> Seen
         ensures { sees self.now path.now result };
 
-    /// Returns the folder above the path that can't be entered for want of permission, or the path itself.
+    /// Looks at the path of the folder, from which something was copied. Nothing is there only if that is gone: if it lay
+    /// on another disk than what is above the path now, or in another folder, it may come back.
+    fn look_at_copied(&self, path: &PathBuf) -> Seen
+        ensures { sees self.now path.now result };
+
+    /// Whether the original of what was put last has changed since it was opened.
+    fn has_changed(&self, path: &PathBuf) -> bool;
+
+    /// Returns what couldn't be given to what was put or settled last: permissions, or a time.
+    fn unset(&self) -> Option<&Unset>;
+
+    /// Returns the time since some moment, if the clock can be read.
+    fn now(&self) -> Option<Instant>;
+
+    /// Returns the folder that permission closes above the path, or the path itself.
     fn closed_above(&self, path: &PathBuf) -> io::Result<PathBuf>;
 
     /// It is an error if the names in this folder can't be read. Paths outside of the copied folder are ignored.
@@ -122,17 +151,24 @@ pub trait FolderAndCopy: Drop {
 
     /// Puts what stands at the path of the folder into the copy. `had` says what the copy had there before.
     fn put(&mut self, path: &PathBuf, standing: Standing, had: Had) -> io::Result<bool>
-        ensures { OnOk result (has_put self.new path.now standing) };
+        ensures put { OnOk result (has_put self.new path.now standing) }
+        ensures only { puts self.old path.now self.new };
+
+    /// The copy's folder for this path is filled: it gets the original's permissions.
+    fn settle(&mut self, path: &PathBuf) -> io::Result<()>
+        ensures { puts self.old path.now self.new };
 
     /// Moves what the copy has for the path `from` to the place for `to`, if nothing stands there yet, and all of it
     /// was copied. A dry run doesn't check whether all of it was copied.
     fn move_to(&mut self, from: &PathBuf, to: &PathBuf, copied: &Copied) -> io::Result<bool>
         ensures { moves self.old from.now to.now self.new };
 
-    /// Removes from the copy what was put there for this path, but nothing below it: a folder only if it is empty.
-    /// What the copy has there of its own stays.
-    fn take_out(&mut self, path: &PathBuf, standing: Standing) -> io::Result<bool>;
+    /// Removes from the copy what was put there for this path alone: a folder only if it is empty. What
+    /// stands there of the copy's own stays.
+    fn take_out(&mut self, path: &PathBuf, standing: Standing) -> io::Result<bool>
+        ensures { takes_out self.old path.now self.new };
 
-    /// Removes what stands in the copy for this path, whatever it is, and all below it.
-    fn clear(&mut self, path: &PathBuf) -> io::Result<bool>;
+    /// Removes what stands in the copy for this path, whatever it is, with all below it.
+    fn clear(&mut self, path: &PathBuf) -> io::Result<bool>
+        ensures { clears self.old path.now self.new };
 }

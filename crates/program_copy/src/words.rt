@@ -1,6 +1,7 @@
 //! The lines that a mirror writes.
 use crate::NAME;
 use crate::complaints::SaidOnce;
+use crate::files::Unset;
 use notify_paths::PathBuf;
 use program_frame::{Fault, push_field, write_now};
 use reader_paths::plan::{Action, Standing};
@@ -14,6 +15,8 @@ pub(crate) struct Words<O: Drop, E: Drop> {
     alloc: Global,
     out: O,
     pub(crate) said: SaidOnce<E>,
+    /// It was said that permissions or times can't be given to what is copied.
+    has_said_unset: bool,
 }
 
 impl<O: Write + Drop, E: Write + Drop> Words<O, E> {
@@ -23,6 +26,7 @@ impl<O: Write + Drop, E: Write + Drop> Words<O, E> {
             alloc,
             out,
             said: SaidOnce::new(alloc, err),
+            has_said_unset: false,
         }
     }
 
@@ -56,7 +60,29 @@ impl<O: Write + Drop, E: Write + Drop> Words<O, E> {
         self.said.say(word_of(action.wanted), &action.path, error)
     }
 
-    /// Writes that the folder is gone, or can't be looked at.
+    /// Says what couldn't be given to what was copied from the path, for the first such path alone.
+    pub(crate) fn say_unset(&mut self, path: &PathBuf, unset: &Unset) {
+        if self.has_said_unset {
+            return;
+        }
+        self.has_said_unset = true;
+        let (what, error, path) = (unset.what, &unset.error, path.as_str());
+        let _ = writeln!(
+            self.said.err,
+            "{NAME}: cannot give the copy of {path} its {what}: {error}"
+        );
+    }
+
+    /// Says that another folder is copied from now on.
+    pub(crate) fn say_other(&mut self, folder: &PathBuf) {
+        let folder = folder.as_str();
+        let _ = writeln!(
+            self.said.err,
+            "{NAME}: {folder} is another folder now, and what it hasn't stays in its copy"
+        );
+    }
+
+    /// Says that the folder is gone, or can't be looked at.
     pub(crate) fn say_gone(&mut self, folder: &PathBuf, found: io::Result<bool>) {
         let folder = folder.as_str();
         let _ = match found {

@@ -128,6 +128,11 @@ impl<R: Files> Files for FakeFiles<R> {
         self.rt.create_dir(path)
     }
 
+    fn create_dir_with_mode(&self, path: &str, mode: u32) -> io::Result<()> {
+        self.script.pass_change("create_dir", path)?;
+        self.rt.create_dir_with_mode(path, mode)
+    }
+
     fn remove_dir(&self, path: &str) -> io::Result<()> {
         self.script.pass_change("remove_dir", path)?;
         self.rt.remove_dir(path)

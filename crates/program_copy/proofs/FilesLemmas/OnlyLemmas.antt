@@ -5,7 +5,7 @@ use Rattle.std.specs.Prelude.{◌⊎◌}
 use Rattle.std.specs.List.{AllByRecursion}
 use Rattle.notify_paths.specs.Path.{PathValue}
 use Rattle.reader_paths.specs.Plan.Target.{target_of}
-use Rattle.program_copy.specs.Files.Writes.{ChangesOnly, IsAt, IsAtEither, IsAtOrBeside, IsEither, IsFor, IsForEither, IsForOrBeside, IsPartial, IsPlaceOrBeside, Lead}
+use Rattle.program_copy.specs.Files.Writes.{ChangesOnly, IsAt, IsAtEither, IsAtOrBeside, IsBegun, IsEither, IsFor, IsForEither, IsForOrBeside, IsPlaceOrBeside, Lead}
 
 -- no call changes nothing
 pub none : {D : Type 0} (changes : D → PathValue → D → Type 0) (P : PathValue → Type 0) (disk : D) →
@@ -64,10 +64,10 @@ pub both : {D : Type 0} (changes : D → PathValue → D → Type 0) (P : PathVa
 both changes P old first last new lead a b =
     record { paths = first ∷ last ∷ []; lead = lead; allowed = (a, (b, tt)) }
 
--- the path of a new file is one of the copy's names
-pub either_beside : (to partial target : PathValue) → IsPartial to partial → (path : PathValue) →
+-- the path of a new file is one under which something is begun
+pub either_beside : (to partial target : PathValue) → IsBegun to target partial → (path : PathValue) →
     IsEither partial target path → IsPlaceOrBeside to target path
-either_beside to partial target p path (inl h) = inr (subst (IsPartial to) (sym h) p)
+either_beside to partial target p path (inl h) = inr (subst (IsBegun to target) (sym h) p)
 either_beside to partial target p path (inr h) = inl h
 
 -- the path where an action is carried out stands for its own
@@ -78,8 +78,7 @@ for_at dry_run from to path target e changed h = (h.0, e ∙ ap Some (sym h.1))
 -- .. and so beside one of the copy's names
 pub for_beside : (dry_run : Bool) (from to path target : PathValue) → target_of from to path ≡ Some target →
     (changed : PathValue) → IsAtOrBeside dry_run to target changed → IsForOrBeside dry_run from to path changed
-for_beside dry_run from to path target e changed (d, inl h) = (d, inl (e ∙ ap Some (sym h)))
-for_beside dry_run from to path target e changed (d, inr p) = (d, inr p)
+for_beside dry_run from to path target e changed (d, h) = (d, (target, e, h))
 
 -- the two paths between which something moves stand for their own
 pub for_either : (dry_run : Bool) (from to one other old new : PathValue) → target_of from to one ≡ Some old →

@@ -2,7 +2,7 @@
 use Rattle.std.specs.Prelude.{◌≡◌, ◌⊎◌, ℕ, Bool, true, false, List, [], ◌∷◌, ◌++◌, Some, codes}
 use Rattle.std.specs.List.{AllByRecursion}
 use Rattle.notify_paths.specs.Path.{PathValue}
-use Rattle.notify_paths.specs.PathMoves.{child_of}
+use Rattle.notify_paths.specs.PathMoves.{child_of, parent_of}
 use Rattle.reader_paths.specs.Plan.Target.{target_of}
 
 -- if something was done, and this is no dry run, then the last change was at this path
@@ -35,13 +35,25 @@ IsPartialName name = (more : List ℕ) × (name ≡ codes ".folder_mirror.partia
 abbrev pub IsPartial : PathValue → PathValue → Type 0
 IsPartial to path = (name : List ℕ) × IsPartialName name × (child_of to name ≡ Some path)
 
+-- a folder in which the file of this path of the copy is begun: the copy's own, this one, or the one above it
+abbrev pub IsBegunIn : PathValue → PathValue → PathValue → Type 0
+IsBegunIn to target folder = (folder ≡ to) ⊎ ((folder ≡ target) ⊎ (parent_of target ≡ Some folder))
+
+-- a path under which it is begun
+abbrev pub IsBegun : PathValue → PathValue → PathValue → Type 0
+IsBegun to target path = (folder : PathValue) × IsBegunIn to target folder × IsPartial folder path
+
+-- this path
+abbrev pub IsOnly : PathValue → PathValue → Type 0
+IsOnly target path = path ≡ target
+
 -- one of the two paths
 abbrev pub IsEither : PathValue → PathValue → PathValue → Type 0
 IsEither one other path = (path ≡ one) ⊎ (path ≡ other)
 
 -- this path, or one with a temporary name
 abbrev pub IsPlaceOrBeside : PathValue → PathValue → PathValue → Type 0
-IsPlaceOrBeside to target path = (path ≡ target) ⊎ IsPartial to path
+IsPlaceOrBeside to target path = (path ≡ target) ⊎ IsBegun to target path
 
 -- this path; no path in a dry run
 abbrev pub IsAt : Bool → PathValue → PathValue → Type 0
@@ -67,4 +79,4 @@ IsForEither dry_run from to one other changed =
 -- the copy's path for this path of the folder, or one with a temporary name; no path in a dry run
 abbrev pub IsForOrBeside : Bool → PathValue → PathValue → PathValue → PathValue → Type 0
 IsForOrBeside dry_run from to path changed =
-    (dry_run ≡ false) × ((target_of from to path ≡ Some changed) ⊎ IsPartial to changed)
+    (dry_run ≡ false) × ((target : PathValue) × (target_of from to path ≡ Some target) × IsPlaceOrBeside to target changed)

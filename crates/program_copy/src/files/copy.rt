@@ -6,14 +6,19 @@ ghost use Rattle.program_copy.specs.Files.Writes.{ChangesOnly, IsChangedFor, IsF
 
 use crate::copied::Copied;
 use crate::files::disk::Disk;
-use crate::files::places::Places;
+use crate::files::dress::Unset;
+use crate::files::origins::{Origin, Origins};
+use crate::files::places::{Places, Told};
+use crate::number::{FolderNumber, LinkNumber};
 use crate::{FolderAndCopy, Had, Leave, Seen, is_missing};
 use notify_paths::PathBuf;
 use notify_types::DebouncedEvent;
 use program_frame::Fault;
 use reader_paths::plan::Standing;
+use std::fs::Metadata;
 use std::io;
 use std::os::unix::fs::MetadataExt;
+use std::time::Instant;
 
 /// A folder and its copy. Each change goes to a `Target`, so nothing outside of the copy is changed, and no link on
 /// the way is followed. Its answer says whether there was anything to do. A dry run only answers.
@@ -21,16 +26,21 @@ use std::os::unix::fs::MetadataExt;
 pub struct FolderCopy<D: Drop> {
     disk: D,
     places: Places,
-    /// The device of the folder: if it is another one, the folder's disk is gone.
-    from_device: u64,
+    /// From where what was copied came.
+    origins: Origins,
     /// The device of the copy, if it is there: in a dry run it may be missing.
     to_device: Option<u64>,
+    /// What the last call said besides.
+    told: Told,
 }
+
+/// What is said where nothing is found of what lay on another disk, or is locked.
+const AWAY: &str = "what was copied lay on a disk that isn't there, or is locked";
 
 impl<D: Disk> FolderCopy<D> {
     /// Makes the copy `to` of the folder `from`.
     pub fn new(disk: D, from: PathBuf, to: PathBuf, leave: Leave) -> Result<FolderCopy<D>, Fault> {
-        let Ok(found) = disk.look_through(from.as_str()) else {
+        let Some(first) = folder_number(&disk, from.as_str()) else {
             return Err(Fault::NotThere);
         };
         let to_device = match disk.look_through(to.as_str()) {
@@ -38,30 +48,105 @@ impl<D: Disk> FolderCopy<D> {
             Err(_) => None,
         };
         Ok(FolderCopy {
+            origins: Origins::new(disk.allocator(), first),
             disk,
-            places: Places { from, to, leave },
-            from_device: found.dev(),
+            places: Places {
+                from,
+                to,
+                leave,
+                first,
+                is_new: false,
+            },
             to_device,
+            told: Told::nothing(),
         })
     }
 
-    /// Puts what stands at the path of the folder into the copy. `had` says what the copy had there before.
+    /// The copy's folder was made for it: it gets the permissions of the folder that is copied.
+    pub fn made_new(&mut self) {
+        self.places.is_new = true;
+    }
+
+    /// Whether what was copied from the path, where nothing is found, is gone, and not only away.
+    fn is_gone(&self, path: &PathBuf) -> bool {
+        match (
+            folder_number(&self.disk, self.places.from.as_str()),
+            self.places.device_of(&self.disk, path),
+        ) {
+            (Some(from), Some(device)) => {
+                self.origins.of(path).is_gone(&from, device) && !self.is_locked(path)
+            }
+            _ => false,
+        }
+    }
+
+    /// Whether the first folder above the path that stands is locked.
+    fn is_locked(&self, path: &PathBuf) -> bool {
+        match self.places.closed_above(&self.disk, path) {
+            Ok(folder) => self.disk.is_locked(folder.as_str()),
+            Err(_) => true,
+        }
+    }
+
+    /// Has what stands at the path of the folder stand in the copy too, of which the copy had this before, and notes from
+    /// where it came.
     fn put_into(&mut self, path: &PathBuf, standing: Standing, had: Had) -> io::Result<bool>
         ensures last { IfOk result (IsChangedFor (D.changed self.new.disk) self.old.places.from
             self.old.places.to path.now self.old.places.leave.dry_run) }
         ensures only { ChangesOnly D.changes (IsForOrBeside self.old.places.leave.dry_run
             self.old.places.from self.old.places.to path.now) self.old.disk self.new.disk }
     {
+        let done = self.put_there(path, standing, had)?;
+        note_origin(&self.disk, &self.places, &mut self.origins, path)?;
+        Ok(done)
+    }
+
+    /// Has what stands at the path of the folder stand in the copy too, of which the copy had this before.
+    fn put_there(&mut self, path: &PathBuf, standing: Standing, had: Had) -> io::Result<bool>
+        ensures last { IfOk result (IsChangedFor (D.changed self.new.disk) self.old.places.from
+            self.old.places.to path.now self.old.places.leave.dry_run) }
+        ensures only { ChangesOnly D.changes (IsForOrBeside self.old.places.leave.dry_run
+            self.old.places.from self.old.places.to path.now) self.old.disk self.new.disk }
+    {
+        self.told = Told::nothing();
         let Some(target) = self.places.target_of(path)? else {
             return Ok(false);
         };
-        self.places
-            .put(&mut self.disk, path, &target, standing, had)
+        self.places.put(&mut self.disk, path, &target, standing, had, &mut self.told)
     }
 
-    /// Moves what the copy has for the one path to the other, if nothing stands there yet and all of it was copied.
-    /// It changes nothing else.
+    /// Has the copy's folder for this path be as the path's own, once it is filled, and removes what another run has
+    /// begun in it.
+    fn settle_at(&mut self, path: &PathBuf) -> io::Result<()>
+        ensures only { ChangesOnly D.changes (IsForOrBeside self.old.places.leave.dry_run
+            self.old.places.from self.old.places.to path.now) self.old.disk self.new.disk }
+    {
+        self.told = Told::nothing();
+        let Some(target) = self.places.target_of(path)? else {
+            return Ok(());
+        };
+        self.places
+            .settle(&mut self.disk, path, &target, &mut self.told)
+    }
+
+    /// Has what stands in the copy for the one path stand there for the other, if nothing does yet and all of it was
+    /// copied. What was noted of it is carried on.
     fn move_copy(&mut self, from: &PathBuf, to: &PathBuf, copied: &Copied) -> io::Result<bool>
+        ensures last { IfOk result (IsChangedFor (D.changed self.new.disk) self.old.places.from
+            self.old.places.to to.now self.old.places.leave.dry_run) }
+        ensures only { ChangesOnly D.changes (IsForEither self.old.places.leave.dry_run
+            self.old.places.from self.old.places.to from.now to.now) self.old.disk self.new.disk }
+    {
+        let done = self.move_there(from, to, copied)?;
+        if done {
+            self.origins.carry(from, to)?;
+        }
+        Ok(done)
+    }
+
+    /// Has what stands in the copy for the one path stand there for the other, if nothing does yet and all of it was
+    /// copied. It changes nothing but these two.
+    fn move_there(&mut self, from: &PathBuf, to: &PathBuf, copied: &Copied) -> io::Result<bool>
         ensures last { IfOk result (IsChangedFor (D.changed self.new.disk) self.old.places.from
             self.old.places.to to.now self.old.places.leave.dry_run) }
         ensures only { ChangesOnly D.changes (IsForEither self.old.places.leave.dry_run
@@ -79,8 +164,20 @@ impl<D: Disk> FolderCopy<D> {
         self.places.move_free(&mut self.disk, &old, &new)
     }
 
-    /// Removes from the copy what was put there for this path, but nothing below it.
+    /// Removes from the copy what was put there for this path alone, and forgets from where it came.
     fn take_from(&mut self, path: &PathBuf, standing: Standing) -> io::Result<bool>
+        ensures last { IfOk result (IsChangedFor (D.changed self.new.disk) self.old.places.from
+            self.old.places.to path.now self.old.places.leave.dry_run) }
+        ensures only { ChangesOnly D.changes (IsFor self.old.places.leave.dry_run
+            self.old.places.from self.old.places.to path.now) self.old.disk self.new.disk }
+    {
+        let done = self.take_there(path, standing)?;
+        self.origins.forget(path);
+        Ok(done)
+    }
+
+    /// Removes from the copy what was put there for this path alone.
+    fn take_there(&mut self, path: &PathBuf, standing: Standing) -> io::Result<bool>
         ensures last { IfOk result (IsChangedFor (D.changed self.new.disk) self.old.places.from
             self.old.places.to path.now self.old.places.leave.dry_run) }
         ensures only { ChangesOnly D.changes (IsFor self.old.places.leave.dry_run
@@ -127,6 +224,15 @@ impl<D: Disk> FolderAndCopy for FolderCopy<D> {
 
     ghost has_put = { λ _ _ _. Unit {0} };
 
+    ghost puts = { λ old path new. ChangesOnly D.changes (IsForOrBeside old.places.leave.dry_run
+        old.places.from old.places.to path) old.disk new.disk };
+
+    ghost takes_out = { λ old path new. ChangesOnly D.changes (IsFor old.places.leave.dry_run
+        old.places.from old.places.to path) old.disk new.disk };
+
+    ghost clears = { λ old path new. ChangesOnly D.changes (IsFor old.places.leave.dry_run
+        old.places.from old.places.to path) old.disk new.disk };
+
     ghost moves = { λ old from to new. ChangesOnly D.changes (IsForEither old.places.leave.dry_run
         old.places.from old.places.to from to) old.disk new.disk };
 
@@ -138,19 +244,20 @@ impl<D: Disk> FolderAndCopy for FolderCopy<D> {
         &self.places.to
     }
 
-    /// Whether the folder is there, on the disk on which it was, and apart from the copy: a link that leads to it may
-    /// come to lead elsewhere, or to itself.
+    /// Whether the folder is there, and apart from the copy: a link that leads to it may come to lead elsewhere, or to
+    /// itself.
     fn has_folder(&self) -> io::Result<bool> {
         let (from, to) = (self.places.from.as_str(), self.places.to.as_str());
         match self.disk.look_through(from) {
-            Ok(found) => {
-                let is_here = found.is_dir() && found.dev() == self.from_device;
-                Ok(is_here && self.disk.is_apart(from, to))
-            }
+            Ok(found) => { Ok(found.is_dir() && self.disk.is_apart(from, to)) }
             Err(error) if error.kind() == io::ErrorKind::FilesystemLoop => Ok(false),
             Err(error) if is_missing(&error) => Ok(false),
             Err(error) => Err(error),
         }
+    }
+
+    fn folder_number(&self) -> Option<FolderNumber> {
+        folder_number(&self.disk, self.places.from.as_str())
     }
 
     fn copy_number(&self) -> Option<u64> {
@@ -163,6 +270,31 @@ impl<D: Disk> FolderAndCopy for FolderCopy<D> {
     /// A link is followed at the folder itself alone: below another one nothing is there.
     fn look_at(&self, path: &PathBuf) -> Seen {
         self.places.look_at(&self.disk, path)
+    }
+
+    fn look_at_copied(&self, path: &PathBuf) -> Seen {
+        match self.places.look_at(&self.disk, path) {
+            Seen::Nothing if !self.is_gone(path) => {
+                let kind = io::ErrorKind::StaleNetworkFileHandle;
+                Seen::Closed(io::Error::new(kind, AWAY))
+            }
+            seen => seen,
+        }
+    }
+
+    fn has_changed(&self, path: &PathBuf) -> bool {
+        match (&self.told.read, self.disk.look(path.as_str())) {
+            (Some(read), Ok(found)) => !is_unchanged(read, &found),
+            _ => false,
+        }
+    }
+
+    fn unset(&self) -> Option<&Unset> {
+        self.told.unset.as_ref()
+    }
+
+    fn now(&self) -> Option<Instant> {
+        self.disk.now()
     }
 
     fn closed_above(&self, path: &PathBuf) -> io::Result<PathBuf> {
@@ -188,6 +320,10 @@ impl<D: Disk> FolderAndCopy for FolderCopy<D> {
         self.put_into(path, standing, had)
     }
 
+    fn settle(&mut self, path: &PathBuf) -> io::Result<()> {
+        self.settle_at(path)
+    }
+
     fn move_to(&mut self, from: &PathBuf, to: &PathBuf, copied: &Copied) -> io::Result<bool> {
         self.move_copy(from, to, copied)
     }
@@ -199,4 +335,52 @@ impl<D: Disk> FolderAndCopy for FolderCopy<D> {
     fn clear(&mut self, path: &PathBuf) -> io::Result<bool> {
         self.clear_at(path)
     }
+}
+
+/// Notes from where the path was copied.
+fn note_origin<D: Disk>(
+    disk: &D,
+    places: &Places,
+    origins: &mut Origins,
+    path: &PathBuf,
+) -> io::Result<()> {
+    if let Some(from) = folder_number(disk, places.from.as_str())
+        && let Some(device) = places.device_of(disk, path)
+    {
+        origins.note(path, Origin { from, device })?;
+    }
+    Ok(())
+}
+
+/// Which folder stands at the path, or where a link there leads to.
+fn folder_number<D: Disk>(disk: &D, path: &str) -> Option<FolderNumber> {
+    let Ok(found) = disk.look_through(path) else {
+        return None;
+    };
+    Some(FolderNumber {
+        device: found.dev(),
+        number: found.ino(),
+        link: link_number(disk, path),
+    })
+}
+
+/// Which link stands at the path, if one does.
+fn link_number<D: Disk>(disk: &D, path: &str) -> Option<LinkNumber> {
+    match disk.look(path) {
+        Ok(found) if found.is_symlink() => Some(LinkNumber {
+            number: found.ino(),
+            seconds: found.ctime(),
+            nanoseconds: found.ctime_nsec(),
+        }),
+        _ => None,
+    }
+}
+
+/// Whether both are of one file, which has kept its length and its time.
+fn is_unchanged(one: &Metadata, other: &Metadata) -> bool {
+    one.dev() == other.dev()
+        && one.ino() == other.ino()
+        && one.len() == other.len()
+        && one.mtime() == other.mtime()
+        && one.mtime_nsec() == other.mtime_nsec()
 }

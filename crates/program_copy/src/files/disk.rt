@@ -12,6 +12,7 @@ use reader_paths::plan::Target;
 use std::alloc::Global;
 use std::fs::{Metadata, OpenFile};
 use std::io;
+use std::time::Instant;
 
 /// A disk. A call that changes something takes a `Target`, so it changes something in a copy.
 ///
@@ -31,10 +32,13 @@ pub trait Disk: Drop {
     ghost was_free: { Self → PathValue → Type 0 };
 
     /// A file that is open.
-    type File: io::Read + io::Write + OpenFile + Drop;
+    type File: io::Read + io::Write + io::Seek + OpenFile + Drop;
 
     /// Returns the allocator.
     fn allocator(&self) -> Global;
+
+    /// Returns the time since some moment, if the clock can be read.
+    fn now(&self) -> Option<Instant>;
 
     /// Looks at what stands at the path, or at what a link there leads to.
     fn look_through(&self, path: &str) -> io::Result<Metadata>;
@@ -48,11 +52,11 @@ pub trait Disk: Drop {
     /// It is an error if the folder's names can't be read.
     fn check_names(&self, folder: &str) -> io::Result<()>;
 
+    /// Whether the folder is locked: the names in it are no names, since the key to them is missing.
+    fn is_locked(&self, folder: &str) -> bool;
+
     /// Opens the file to be read.
     fn open(&self, path: &str) -> io::Result<Self::File>;
-
-    /// Returns the bytes of the file.
-    fn read(&self, path: &str) -> io::Result<Vec<u8>>;
 
     /// Returns a batch that names all that stands in the folder, itself too.
     fn all(&self, from: &PathBuf) -> Result<Vec<DebouncedEvent>, Fault>
@@ -75,8 +79,18 @@ pub trait Disk: Drop {
         ensures last { OnOk result (changed self.new target.now.path) }
         ensures only { changes self.old target.now.path self.new };
 
-    /// Makes a folder.
+    /// Makes a folder that nobody else may read.
     fn create_folder(&mut self, target: &Target<'_>) -> io::Result<()>
+        ensures last { OnOk result (changed self.new target.now.path) }
+        ensures only { changes self.old target.now.path self.new };
+
+    /// Gives what stands there, and not what a link there leads to, an owner and a group, or one of the two.
+    fn give_owner(
+        &mut self,
+        target: &Target<'_>,
+        owner: Option<u32>,
+        group: Option<u32>,
+    ) -> io::Result<()>
         ensures last { OnOk result (changed self.new target.now.path) }
         ensures only { changes self.old target.now.path self.new };
 

@@ -2,11 +2,14 @@
 ghost use Rattle.std.specs.Prelude.{◌≡◌, IfOk, OnOk};
 ghost use Rattle.std.specs.Option.{option_map};
 ghost use Rattle.reader_paths.specs.Plan.Target.{target_of};
-ghost use Rattle.program_copy.specs.Files.Writes.{ChangesOnly, IsAt, IsAtEither, IsAtOrBeside, IsChanged, IsEither, IsPartial, IsPlaceOrBeside};
+ghost use Rattle.program_copy.specs.Files.Writes.{ChangesOnly, IsAt, IsAtEither, IsAtOrBeside, IsBegunIn, IsChanged, IsEither, IsOnly, IsPartial, IsPlaceOrBeside};
 
 use crate::copied::Copied;
+use crate::files::bytes::has_same_bytes;
 use crate::files::disk::Disk;
-use crate::files::writing::{Original, fill, has_name, partial_name, target_named};
+use crate::files::dress::{Unset, dress_file, dress_folder};
+use crate::files::writing::{Opened, check_folders, fill, has_name, partial_name, target_named};
+use crate::number::FolderNumber;
 use crate::{Had, Leave, Seen, is_missing};
 use notify_paths::PathBuf;
 use poll_listing::{EntryKind, Listing};
@@ -14,6 +17,7 @@ use reader_paths::plan::{Standing, Target, target_of};
 use std::alloc::Global;
 use std::fs::Metadata;
 use std::io;
+use std::os::unix::fs::MetadataExt;
 
 /// The paths of a folder and its copy, and what the program may do.
 #[derive(Drop)]
@@ -21,6 +25,29 @@ pub(crate) struct Places {
     pub(crate) from: PathBuf,
     pub(crate) to: PathBuf,
     pub(crate) leave: Leave,
+    /// The folder that stood at `from` at first: by its number what was begun is known again.
+    pub(crate) first: FolderNumber,
+    /// Whether the copy's folder was made for it, and is to have the permissions of `from`.
+    pub(crate) is_new: bool,
+}
+
+/// What a call says besides whether anything was done.
+#[derive(Drop)]
+pub(crate) struct Told {
+    /// What couldn't be given to what was copied.
+    pub(crate) unset: Option<Unset>,
+    /// What the original was when its bytes were read.
+    pub(crate) read: Option<Metadata>,
+}
+
+impl Told {
+    /// Nothing was said.
+    pub(crate) fn nothing() -> Told {
+        Told {
+            unset: None,
+            read: None,
+        }
+    }
 }
 
 impl Places {
@@ -102,6 +129,7 @@ impl Places {
         target: &Target<'_>,
         standing: Standing,
         had: Had,
+        told: &mut Told,
     ) -> io::Result<bool>
         ensures last { IfOk result (IsChanged (D.changed disk.new) target.now.path
             self.now.leave.dry_run) }
@@ -115,7 +143,33 @@ impl Places {
         }
         match standing {
             Standing::Folder => self.make(disk, target),
-            Standing::File => self.copy(disk, path, target, is_known(had)),
+            Standing::File => self.copy(disk, path, target, is_known(had), told),
+        }
+    }
+
+    /// The device of the first folder above the path that stands, and of the path itself if it is one.
+    pub(crate) fn device_of<D: Disk>(&self, disk: &D, path: &PathBuf) -> Option<u64> {
+        if let Some(device) = self.folder_device(disk, path.as_str()) {
+            return Some(device);
+        }
+        for folder in path.folders() {
+            if let Some(device) = self.folder_device(disk, folder.as_os_str()) {
+                return Some(device);
+            }
+        }
+        None
+    }
+
+    /// The device of the folder, if one stands at the path. A link is followed at the folder itself that is copied.
+    fn folder_device<D: Disk>(&self, disk: &D, path: &str) -> Option<u64> {
+        let found = if path == self.from.as_str() {
+            disk.look_through(path)
+        } else {
+            disk.look(path)
+        };
+        match found {
+            Ok(found) if found.is_dir() => Some(found.dev()),
+            _ => None,
         }
     }
 
@@ -205,6 +259,7 @@ impl Places {
         path: &PathBuf,
         target: &Target<'_>,
         is_known: bool,
+        told: &mut Told,
     ) -> io::Result<bool>
         ensures last { IfOk result (IsChanged (D.changed disk.new) target.now.path
             self.now.leave.dry_run) }
@@ -219,7 +274,8 @@ impl Places {
                 true
             }
             Some(found) => {
-                if found.is_file() && is_same(disk, path, target, &found, is_known)? {
+                if found.is_file() && self.is_same(disk, path, target, &found, is_known, told)? {
+                    self.dress_again(disk, path, target, &found, told);
                     return Ok(false);
                 }
                 false
@@ -229,8 +285,105 @@ impl Places {
         if self.leave.dry_run {
             return Ok(true);
         }
-        self.replace(disk, path, target, of_folder)?;
+        self.replace(disk, path, target, of_folder, told)?;
         Ok(true)
+    }
+
+    /// Whether both files have the same bytes. They count as the same if their lengths and times are, unless a
+    /// change was reported of what was copied.
+    fn is_same<D: Disk>(
+        &self,
+        disk: &D,
+        path: &PathBuf,
+        target: &Target<'_>,
+        found: &Metadata,
+        is_known: bool,
+        told: &mut Told,
+    ) -> io::Result<bool> {
+        let original = disk.look(path.as_str())?;
+        if original.len() != found.len() {
+            return Ok(false);
+        }
+        if !is_known && same_time(&original, found) {
+            return Ok(true);
+        }
+        let mut new = Opened::open(disk, path, &self.from, Standing::File)?;
+        let mut old = Opened::open(disk, target.path(), &self.to, Standing::File)?;
+        told.read = Some(new.found.clone()?);
+        has_same_bytes(disk.allocator(), &mut new.file, &mut old.file, found.len())
+    }
+
+    /// Gives the file in the copy, which has its original's bytes, the original's owner, permissions and time too, if it
+    /// has others.
+    fn dress_again<D: Disk>(
+        &self,
+        disk: &mut D,
+        path: &PathBuf,
+        target: &Target<'_>,
+        found: &Metadata,
+        told: &mut Told,
+    )
+        ensures only { ChangesOnly D.changes (IsAt self.now.leave.dry_run target.now.path)
+            disk.old disk.new }
+    {
+        if self.leave.dry_run {
+            return;
+        }
+        let Ok(original) = disk.look(path.as_str()) else {
+            return;
+        };
+        if !original.is_file() || is_dressed(&original, found) {
+            return;
+        }
+        if let Ok(copy) = Opened::open(disk, target.path(), &self.to, Standing::File) {
+            told.unset = dress_file(disk, target, &copy.file, &original);
+        }
+    }
+
+    /// Has the folder in the copy be as its original, once it is filled, and removes what another run has begun in it.
+    pub(crate) fn settle<D: Disk>(
+        &self,
+        disk: &mut D,
+        path: &PathBuf,
+        target: &Target<'_>,
+        told: &mut Told,
+    ) -> io::Result<()>
+        ensures only { ChangesOnly D.changes (IsAtOrBeside self.now.leave.dry_run
+            self.now.to target.now.path) disk.old disk.new }
+    {
+        self.clear_begun(disk, target)?;
+        self.dress(disk, path, target, told)
+    }
+
+    /// Gives the folder in the copy its original's owner and permissions. The copy's own top keeps what it had, unless it
+    /// was made for the copy.
+    fn dress<D: Disk>(
+        &self,
+        disk: &mut D,
+        path: &PathBuf,
+        target: &Target<'_>,
+        told: &mut Told,
+    ) -> io::Result<()>
+        ensures only { ChangesOnly D.changes (IsAt self.now.leave.dry_run target.now.path)
+            disk.old disk.new }
+    {
+        if self.leave.dry_run {
+            return Ok(());
+        }
+        if !self.is_new && *target.path() == self.to {
+            return Ok(());
+        }
+        let original = if *path == self.from {
+            disk.look_through(path.as_str())?
+        } else {
+            disk.look(path.as_str())?
+        };
+        if !original.is_dir() {
+            return Ok(());
+        }
+        let copy = Opened::open(disk, target.path(), &self.to, Standing::Folder)?;
+        told.unset = dress_folder(disk, target, &copy.file, &original);
+        Ok(())
     }
 
     /// Whether what stands at the target may be moved to the other one: no link is on the way, and nothing of it is the
@@ -310,31 +463,65 @@ impl Places {
         path: &PathBuf,
         target: &Target<'_>,
         of_folder: bool,
+        told: &mut Told,
     ) -> io::Result<()>
         ensures last { OnOk result (D.changed disk.new target.now.path) }
         ensures only { ChangesOnly D.changes (IsPlaceOrBeside self.now.to target.now.path)
             disk.old disk.new }
     {
-        let original = Original::open(disk, path.as_str())?;
-        let (partial, file) = self.open_new(disk)?;
-        match fill(original, file) {
-            Ok(()) => put_there(disk, &partial, target, of_folder),
+        let mut original = Opened::open(disk, path, &self.from, Standing::File)?;
+        told.read = Some(original.found.clone()?);
+        let folder = self.begun_in(disk, target)?;
+        let (partial, mut file) = self.open_new(disk, &folder)?;
+        match fill(disk.allocator(), &mut original, &mut file) {
+            Ok(()) => {
+                let (unset, done) = finish(
+                    disk,
+                    &partial,
+                    target,
+                    of_folder,
+                    &file,
+                    &original.found,
+                );
+                told.unset = unset;
+                done
+            }
             Err(error) => Err(give_up(disk, &partial, error)),
         }
     }
 
-    /// Makes a file in the copy, to be written. It has a name that neither the copy nor the folder has.
-    fn open_new<D: Disk>(&self, disk: &mut D) -> io::Result<(Target<'_>, D::File)>
-        ensures beside { IfOk result (λ made. IsPartial self.now.to made.0.path) }
-        ensures only { ChangesOnly D.changes (IsPartial self.now.to) disk.old disk.new }
+    /// The folder in which the file of this place is begun: the copy's own, or that of the place if it lies on another
+    /// device, since nothing can be renamed from the one to the other.
+    fn begun_in<D: Disk>(&self, disk: &D, target: &Target<'_>) -> io::Result<PathBuf>
+        ensures { IfOk result (IsBegunIn self.now.to target.now.path) }
+    {
+        let Some(folder) = target.path().parent()? else {
+            return Ok(self.to.clone()?);
+        };
+        let top = disk.look_through(self.to.as_str())?;
+        match disk.look(folder.as_str()) {
+            Ok(found) if found.is_dir() && found.dev() != top.dev() => Ok(folder),
+            _ => Ok(self.to.clone()?),
+        }
+    }
+
+    /// Makes a file in this folder of the copy, to be written. What another run has begun makes way; else it has a name
+    /// that neither the folder nor the one that is copied has.
+    fn open_new<'f, D: Disk>(
+        &self,
+        disk: &mut D,
+        folder: &'f PathBuf,
+    ) -> io::Result<(Target<'f>, D::File)>
+        ensures beside { IfOk result (λ made. IsPartial folder.now made.0.path) }
+        ensures only { ChangesOnly D.changes (IsPartial folder.now) disk.old disk.new }
     {
         for number in 0..u64::MAX {
-            let name = partial_name(disk.allocator(), number)?;
+            let name = partial_name(disk.allocator(), &self.first, number)?;
             if has_name(disk, &self.from, name.as_str())? {
                 continue;
             }
-            let partial = target_named(&self.to, name.as_str())?;
-            match disk.create_file(&partial) {
+            let partial = target_named(folder, name.as_str())?;
+            match create_begun(disk, &partial) {
                 Ok(file) => return Ok((partial, file)),
                 Err(error) if error.kind() == io::ErrorKind::AlreadyExists => {}
                 Err(error) => return Err(error),
@@ -342,6 +529,82 @@ impl Places {
         }
         Err(io::Error::from(io::ErrorKind::AlreadyExists))
     }
+
+    /// Whether files are begun in this folder of the copy: it is the copy's own, or lies on another device.
+    fn is_begun_in<D: Disk>(&self, disk: &D, target: &Target<'_>) -> io::Result<bool> {
+        if *target.path() == self.to {
+            return Ok(true);
+        }
+        let top = disk.look_through(self.to.as_str())?;
+        match self.found_at(disk, target)? {
+            Some(found) => Ok(found.is_dir() && found.dev() != top.dev()),
+            None => Ok(false),
+        }
+    }
+
+    /// Removes what another run has begun in the folder of the copy, if files are begun there.
+    fn clear_begun<D: Disk>(&self, disk: &mut D, target: &Target<'_>) -> io::Result<()>
+        ensures only { ChangesOnly D.changes (IsAtOrBeside self.now.leave.dry_run self.now.to
+            target.now.path) disk.old disk.new }
+    {
+        if self.leave.dry_run {
+            return Ok(());
+        }
+        if !self.is_begun_in(disk, target)? {
+            return Ok(());
+        }
+        let name = partial_name(disk.allocator(), &self.first, 0)?;
+        if has_name(disk, &self.from, name.as_str())? {
+            return Ok(());
+        }
+        let partial = target_named(target.path(), name.as_str())?;
+        remove_begun(disk, &partial)
+    }
+}
+
+/// Makes the file of this name, to be written. What another run has begun under it makes way.
+fn create_begun<D: Disk>(disk: &mut D, partial: &Target<'_>) -> io::Result<D::File>
+    ensures only { ChangesOnly D.changes (IsOnly partial.now.path) disk.old disk.new }
+{
+    remove_begun(disk, partial)?;
+    disk.create_file(partial)
+}
+
+/// Removes the file that another run has begun under this name.
+fn remove_begun<D: Disk>(disk: &mut D, partial: &Target<'_>) -> io::Result<()>
+    ensures only { ChangesOnly D.changes (IsOnly partial.now.path) disk.old disk.new }
+{
+    if !is_file_at(disk, partial) {
+        return Ok(());
+    }
+    disk.remove_file(partial)
+}
+
+/// Whether a file stands there.
+fn is_file_at<D: Disk>(disk: &D, target: &Target<'_>) -> bool {
+    match disk.look(target.as_str()) {
+        Ok(found) => found.is_file(),
+        Err(_) => false,
+    }
+}
+
+/// Gives the file that was written what its original has, as far as that can be, and then its place. Returns what
+/// couldn't be given.
+fn finish<D: Disk>(
+    disk: &mut D,
+    partial: &Target<'_>,
+    target: &Target<'_>,
+    of_folder: bool,
+    file: &D::File,
+    original: &Metadata,
+) -> (Option<Unset>, io::Result<()>)
+    ensures last { OnOk result.1 (D.changed disk.new target.now.path) }
+    ensures only { ChangesOnly D.changes (IsEither partial.now.path target.now.path)
+        disk.old disk.new }
+{
+    let unset = dress_file(disk, partial, file, original);
+    let done = put_there(disk, partial, target, of_folder);
+    (unset, done)
 }
 
 /// Whether a dry run says that this would be put where the copy had that, if a look isn't needed to know it. In a dry
@@ -406,38 +669,12 @@ fn give_up<D: Disk>(disk: &mut D, partial: &Target<'_>, error: io::Error) -> io:
     error
 }
 
-/// Whether both files have the same bytes. They count as the same if their lengths and times are, unless a
-/// change was reported of what was copied.
-fn is_same<D: Disk>(
-    disk: &D,
-    path: &PathBuf,
-    target: &Target<'_>,
-    found: &Metadata,
-    is_known: bool,
-) -> io::Result<bool> {
-    let original = disk.look(path.as_str())?;
-    if original.len() != found.len() {
-        return Ok(false);
-    }
-    if !is_known && same_time(&original, found) {
-        return Ok(true);
-    }
-    let new = disk.read(path.as_str())?;
-    let old = disk.read(target.as_str())?;
-    Ok(old.as_slice() == new.as_slice())
-}
-
-/// It is an error if something above the path and below the top is no folder, for instance a link to one.
-fn check_folders<D: Disk>(disk: &D, path: &PathBuf, top: &PathBuf) -> io::Result<()> {
-    for folder in path.folders() {
-        if folder.as_os_str().len() <= top.as_str().len() {
-            break;
-        }
-        if !disk.look(folder.as_os_str())?.is_dir() {
-            return Err(io::Error::from(io::ErrorKind::NotADirectory));
-        }
-    }
-    Ok(())
+/// Whether the copy has its original's owner, permissions and time already.
+fn is_dressed(original: &Metadata, copy: &Metadata) -> bool {
+    original.mode() == copy.mode()
+        && original.uid() == copy.uid()
+        && original.gid() == copy.gid()
+        && same_time(original, copy)
 }
 
 /// Whether both were modified at the same time.

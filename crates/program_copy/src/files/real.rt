@@ -13,10 +13,20 @@ use poll_watcher::RealFolders;
 use program_frame::Fault;
 use reader_paths::plan::{Target, name_beside, name_listed};
 use std::alloc::Global;
-use std::fs::{self, Files, Metadata, OpenOptions};
+use std::fs::{self, DirBuilder, Files, Metadata, OpenOptions};
 use std::io;
-use std::os::unix::fs::OpenOptionsExt;
-use std::time::Clock;
+use std::os::unix::fs::{DirBuilderExt, OpenOptionsExt, lchown};
+use std::path::Path;
+use std::time::{Clock, Instant};
+
+/// The system's number of the error that the key to a file is missing.
+const NO_KEY: i32 = 126;
+
+/// How many folders deep a file is looked for.
+const LEVELS: usize = 64;
+
+/// How many bytes a name has at least that is shown in place of a locked one.
+const SHORTEST: usize = 32;
 
 /// The disk of a runtime.
 #[derive(Drop)]
@@ -44,6 +54,10 @@ impl<R: Files + Clock + AllocGlobal + Copy + Drop> Disk for RealDisk<R> {
         self.rt.alloc()
     }
 
+    fn now(&self) -> Option<Instant> {
+        Instant::now(&self.rt).ok()
+    }
+
     fn look_through(&self, path: &str) -> io::Result<Metadata> {
         fs::metadata(&self.rt, path)
     }
@@ -61,12 +75,12 @@ impl<R: Files + Clock + AllocGlobal + Copy + Drop> Disk for RealDisk<R> {
         Ok(())
     }
 
-    fn open(&self, path: &str) -> io::Result<R::File> {
-        fs::open(&self.rt, path)
+    fn is_locked(&self, folder: &str) -> bool {
+        is_locked(&self.rt, folder).unwrap_or(false)
     }
 
-    fn read(&self, path: &str) -> io::Result<Vec<u8>> {
-        fs::read(&self.rt, path)
+    fn open(&self, path: &str) -> io::Result<R::File> {
+        fs::open(&self.rt, path)
     }
 
     fn all(&self, from: &PathBuf) -> Result<Vec<DebouncedEvent>, Fault> {
@@ -100,7 +114,17 @@ impl<R: Files + Clock + AllocGlobal + Copy + Drop> Disk for RealDisk<R> {
     }
 
     fn create_folder(&mut self, target: &Target<'_>) -> io::Result<()> {
-        fs::create_dir(&self.rt, target.as_str())
+        let mut how = DirBuilder::new();
+        how.mode(0o700).create(&self.rt, target.as_str())
+    }
+
+    fn give_owner(
+        &mut self,
+        target: &Target<'_>,
+        owner: Option<u32>,
+        group: Option<u32>,
+    ) -> io::Result<()> {
+        lchown(&self.rt, target.as_str(), owner, group)
     }
 
     fn remove_file(&mut self, target: &Target<'_>) -> io::Result<()> {
@@ -121,6 +145,50 @@ impl<R: Files + Clock + AllocGlobal + Copy + Drop> Disk for RealDisk<R> {
 
     fn rename(&mut self, from: &Target<'_>, to: &Target<'_>) -> io::Result<()> {
         fs::rename(&self.rt, from.as_str(), to.as_str())
+    }
+}
+
+/// Whether the first file that is found in the folder, or else in the first folder in it, can't be opened for want of its
+/// key. What is locked shows other names, which are long, and opens no file.
+fn is_locked<R: Files + AllocGlobal + Copy + Drop>(rt: &R, folder: &str) -> io::Result<bool> {
+    let mut folder = String::from_str(rt.alloc(), folder)?;
+    for _ in 0..LEVELS {
+        match first_in(rt, folder.as_str())? {
+            (Some(is_locked), _) => return Ok(is_locked),
+            (None, Some(below)) => folder = below,
+            (None, None) => return Ok(false),
+        }
+    }
+    Ok(false)
+}
+
+/// Whether the first file in the folder lacks its key; and if there is none, the first folder in it.
+fn first_in<R: Files + AllocGlobal + Copy + Drop>(
+    rt: &R,
+    folder: &str,
+) -> io::Result<(Option<bool>, Option<String>)> {
+    let mut below = None;
+    for entry in fs::read_dir(rt, folder)? {
+        let entry = entry?;
+        if entry.file_name().len() < SHORTEST {
+            return Ok((Some(false), None));
+        }
+        let found = entry.metadata()?;
+        if found.is_file() {
+            return Ok((Some(lacks_key(rt, entry.path())), None));
+        }
+        if found.is_dir() && below.is_none() {
+            below = Some(String::from_str(rt.alloc(), entry.path().as_os_str())?);
+        }
+    }
+    Ok((None, below))
+}
+
+/// Whether the file can't be opened for want of its key.
+fn lacks_key<R: Files>(rt: &R, path: Path<'_>) -> bool {
+    match fs::open(rt, path) {
+        Ok(_) => false,
+        Err(error) => error.raw_os_error() == Some(NO_KEY),
     }
 }
 

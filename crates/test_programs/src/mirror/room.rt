@@ -3,6 +3,7 @@ use notify_paths::PathBuf;
 use std::alloc::Global;
 use std::env::Env;
 use std::fs::Files;
+use std::os::unix::fs::MetadataExt;
 use std::process::Abort;
 use std::{env, fs};
 
@@ -76,9 +77,20 @@ impl<R: Files + Abort + AllocGlobal + Env + Copy + Drop> Room<R> {
         assert!(&self.rt; self.has("/to/own", "own"));
     }
 
+    /// The name in the copy under which a file is begun.
+    fn begun(&self) -> String {
+        let from = fs::metadata(&self.rt, self.place("/from").as_str()).expect(
+            &self.rt, "a folder",
+        );
+        let (device, number) = (from.dev(), from.ino());
+        format!(in self.rt.alloc(); "/to/.folder_mirror.partial.{device}-{number}").expect(
+            &self.rt, "memory",
+        )
+    }
+
     /// Nothing that was begun stands in the copy, whose file is the old one or the new one.
     pub(crate) fn check_whole(&self) {
-        assert!(&self.rt; self.lacks("/to/.folder_mirror.partial"));
+        assert!(&self.rt; self.lacks(self.begun().as_str()));
         assert!(&self.rt; self.has("/to/a", "old") || self.has("/to/a", "the new text"));
         assert!(&self.rt; self.lacks("/to/lib/b") || self.has("/to/lib/b", "two"));
     }
