@@ -219,12 +219,13 @@ cd ..
 # A file is written under a name that nobody has: what has it stays, what it leads to too, and the folder's own
 # file of this name is copied as any other.
 rm -rf from to && mkdir from to && echo one >from/a && echo kept >outside
-ln -s ../outside to/.folder_mirror.partial && echo own >to/.folder_mirror.partial.1
+begun=.folder_mirror.partial.$(stat -c %d-%i from)
+ln -s ../outside "to/$begun" && mkdir "to/$begun.1"
 "$mirror" from to --timeout 50 --interval 10 --ticks 8 >out 2>err
 report 'folder_mirror: a link at the name that is written to first' "$([ $? = 0 ] && ! complains &&
-    [ "$(cat outside)" = kept ] && [ -L to/.folder_mirror.partial ] && [ "$(cat to/.folder_mirror.partial.1)" = own ] &&
+    [ "$(cat outside)" = kept ] && [ -L "to/$begun" ] && [ -d "to/$begun.1" ] &&
     [ ! -L to/a ] && [ "$(cat to/a)" = one ] && [ "$(ls -A to | wc -l)" = 3 ] && echo yes)"
-rm -rf to && echo two >from/.folder_mirror.partial && echo three >from/z
+rm -rf to && echo two >"from/$begun" && echo three >from/z
 "$mirror" from to --timeout 50 --interval 10 --ticks 8 >out 2>err
 report 'folder_mirror: a file of that name in FROM' "$([ $? = 0 ] && ! complains && is_copy && echo yes)"
 report 'folder_mirror: the times of files are kept' \
@@ -232,7 +233,7 @@ report 'folder_mirror: the times of files are kept' \
 rm -rf to && head -c 20000 /dev/zero >from/z
 (trap '' XFSZ && ulimit -f 8 && exec "$mirror" from to --timeout 50 --interval 10 --ticks 8) >out 2>err
 report 'folder_mirror: a file that can not be written whole' "$([ $? = 1 ] && [ ! -e to/z ] &&
-    [ "$(ls -A to | tr '\n' ' ')" = '.folder_mirror.partial a ' ] && grep -qF 'cannot copy from/z: ' err && echo yes)"
+    [ "$(ls -A to | tr '\n' ' ')" = "$begun a " ] && grep -qF 'cannot copy from/z: ' err && echo yes)"
 
 # TO that vanishes is said once, and isn't made again; all is copied once it is there again.
 rm -rf from to && mkdir from && echo one >from/a
