@@ -1,5 +1,5 @@
-//! A copy, and what is known about it.
-ghost use Rattle.std.specs.Prelude.{◌≡◌, None, Some, IfOk, OnOk};
+//! A copy, and what is known of it.
+ghost use Rattle.std.specs.Prelude.{◌≡◌, [], None, Some, IfOk, OnOk};
 ghost use Rattle.reader_paths.specs.Plan.{look_at};
 
 use crate::came::Came;
@@ -30,8 +30,11 @@ fn had_of(came: &mut Came, path: &PathBuf, was: Option<Standing>) -> Had {
 }
 
 impl<C: FolderAndCopy> Kept<C> {
-    /// Makes one for a copy that has nothing yet.
-    pub(crate) fn new(alloc: Global, copy: C) -> Kept<C> {
+    /// Returns that of a copy which has nothing yet.
+    pub(crate) fn new(alloc: Global, copy: C) -> Kept<C>
+        ensures copy { result.copy ≡ copy }
+        ensures copied { result.copied ≡ [] }
+    {
         Kept {
             copy,
             copied: Copied::new(alloc),

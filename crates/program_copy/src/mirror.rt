@@ -1,5 +1,5 @@
 //! The mirror: batches carried out on the copy.
-ghost use Rattle.std.specs.Prelude.{◌≡◌, ◌==◌, ◌⊎◌, List, length, is_some, None, Some, true, false, slice_get, IfSome, MatchResult, OnOk, IfOk, if◌then◌else◌, ◌&&◌, ◌++◌, not};
+ghost use Rattle.std.specs.Prelude.{◌≡◌, ◌==◌, ◌⊎◌, List, [], length, is_some, None, Some, true, false, slice_get, IfSome, MatchResult, OnOk, IfOk, if◌then◌else◌, ◌&&◌, ◌++◌, not};
 ghost use Rattle.std.specs.BTreeMap.{insert_entry};
 ghost use Rattle.notify_paths.specs.Path.{PathValue, path_cmp};
 ghost use Rattle.notify_types.specs.Event.{Timed};
@@ -118,8 +118,13 @@ pub struct Mirror<C: Drop, O: Drop, E: Drop> {
 }
 
 impl<C: FolderAndCopy, O: Write + Drop, E: Write + Drop> Mirror<C, O, E> {
-    /// Makes the mirror of this copy. It writes to `out` what it does, and to `err` what failed.
-    pub fn new(alloc: Global, copy: C, leave: Leave, out: O, err: E) -> Mirror<C, O, E> {
+    /// Returns the mirror of the copy. It says on `out` what it does, and on `err` what failed.
+    pub fn new(alloc: Global, copy: C, leave: Leave, out: O, err: E) -> Mirror<C, O, E>
+        ensures copy { result.kept.copy ≡ copy }
+        ensures copied { result.kept.copied ≡ [] }
+        ensures waiting { result.waiting ≡ [] }
+        ensures leave { result.leave ≡ leave }
+    {
         let copy_number = copy.copy_number();
         let number = copy.folder_number();
         Mirror {

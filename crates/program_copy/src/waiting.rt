@@ -1,5 +1,5 @@
-//! The paths that are to be tried again.
-ghost use Rattle.std.specs.Prelude.{◌≡◌, ◌==◌, length, true, IfOk, OnOk};
+//! What waits to be done.
+ghost use Rattle.std.specs.Prelude.{◌≡◌, ◌==◌, [], length, true, IfOk, OnOk};
 ghost use Rattle.std.specs.BTreeMap.{insert_entry};
 ghost use Rattle.notify_paths.specs.Path.{path_cmp};
 ghost use Rattle.program_copy.specs.After.{StayWaiting, again_of, waits};
@@ -29,8 +29,10 @@ impl Model for OwedPaths {
 }
 
 impl OwedPaths {
-    /// Makes one in which no path waits.
-    pub(crate) fn new(alloc: Global) -> OwedPaths {
+    /// Returns that of a copy for which nothing waits.
+    pub(crate) fn new(alloc: Global) -> OwedPaths
+        ensures { result ≡ [] }
+    {
         OwedPaths {
             alloc,
             paths: BTreeMap::new(alloc),

@@ -1,5 +1,5 @@
-//! The copy of a folder, and the changes to it.
-ghost use Rattle.std.specs.Prelude.{◌≡◌, IfOk};
+//! The copy of a folder, and what is done to it.
+ghost use Rattle.std.specs.Prelude.{◌≡◌, IfOk, true};
 ghost use Rattle.poll_listing.specs.Listing.{ListingValue};
 ghost use Rattle.reader_paths.specs.Plan.Naming.{namings};
 ghost use Rattle.program_copy.specs.Files.Writes.{ChangesOnly, IsChangedFor, IsFor, IsForEither, IsForOrBeside};
@@ -38,8 +38,13 @@ pub struct FolderCopy<D: Drop> {
 const AWAY: &str = "what was copied lay on a disk that isn't there, or is locked";
 
 impl<D: Disk> FolderCopy<D> {
-    /// Makes the copy `to` of the folder `from`.
-    pub fn new(disk: D, from: PathBuf, to: PathBuf, leave: Leave) -> Result<FolderCopy<D>, Fault> {
+    /// Returns the copy `to` of the folder `from`.
+    pub fn new(disk: D, from: PathBuf, to: PathBuf, leave: Leave) -> Result<FolderCopy<D>, Fault>
+        ensures disk { IfOk result (λ copy. copy.disk ≡ disk) }
+        ensures from { IfOk result (λ copy. copy.places.from ≡ from) }
+        ensures to { IfOk result (λ copy. copy.places.to ≡ to) }
+        ensures leave { IfOk result (λ copy. copy.places.leave ≡ leave) }
+    {
         let Some(first) = folder_number(&disk, from.as_str()) else {
             return Err(Fault::NotThere);
         };
@@ -63,7 +68,13 @@ impl<D: Disk> FolderCopy<D> {
     }
 
     /// The copy's folder was made for it: it gets the permissions of the folder that is copied.
-    pub fn made_new(&mut self) {
+    pub fn made_new(&mut self)
+        ensures new { self.new.places.is_new ≡ true }
+        ensures disk { self.new.disk ≡ self.old.disk }
+        ensures from { self.new.places.from ≡ self.old.places.from }
+        ensures to { self.new.places.to ≡ self.old.places.to }
+        ensures leave { self.new.places.leave ≡ self.old.places.leave }
+    {
         self.places.is_new = true;
     }
 

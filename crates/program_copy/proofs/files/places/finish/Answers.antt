@@ -7,6 +7,6 @@ pub returns-clause-only : goal.returns-clause-only
 returns-clause-only g c =
     let partial = c.args.partial.now.path in
     let target = c.args.target.now.path in
-    after g.D.Disk.changes (IsEither partial target) c.args.disk.now c.dress_file.new.disk c.put_there.new.disk
-    (wider g.D.Disk.changes (IsOnly partial) (IsEither partial target) c.args.disk.now c.dress_file.new.disk
-    (λ path same. inl same) c.dress_file.ensures.only) c.put_there.ensures.only
+    after g.D.Disk.changes (IsEither partial target) c.args.disk.now c.dress_file-unset.new.disk c.put_there-done.new.disk
+    (wider g.D.Disk.changes (IsOnly partial) (IsEither partial target) c.args.disk.now c.dress_file-unset.new.disk
+    (λ path same. inl same) c.dress_file-unset.ensures.only) c.put_there-done.ensures.only

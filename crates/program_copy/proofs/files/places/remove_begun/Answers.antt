@@ -5,5 +5,7 @@ use Rattle.program_copy.proofs.files.places.remove_begun.Goals as goal
 
 pub returns : goal.returns
 returns g c =
-    one g.D.Disk.changes (IsOnly c.args.partial.now.path) c.args.disk.now c.args.partial.now.path c.remove_file.new.self
-    c.remove_file.ensures.only refl
+    record {
+      only = one g.D.Disk.changes (IsOnly c.args.partial.now.path) c.args.disk.now c.args.partial.now.path c.remove_file.new.self
+          c.remove_file.ensures.only refl;
+    }

@@ -8,7 +8,9 @@ pub returns : goal.returns
 returns g c =
     let places = c.args.self.now.places in
     let there : target_of places.from places.to c.args.path.now ≡ Some c.in-Some.target.path = search rules in
-    wider g.D.Disk.changes (IsAtOrBeside places.leave.dry_run places.to c.in-Some.target.path)
-    (IsForOrBeside places.leave.dry_run places.from places.to c.args.path.now) c.args.self.now.disk c.settle.new.disk
-    (for_beside places.leave.dry_run places.from places.to c.args.path.now c.in-Some.target.path there)
-    c.settle.ensures.only
+    record {
+      only = wider g.D.Disk.changes (IsAtOrBeside places.leave.dry_run places.to c.in-Some.target.path)
+          (IsForOrBeside places.leave.dry_run places.from places.to c.args.path.now) c.args.self.now.disk c.settle.new.disk
+          (for_beside places.leave.dry_run places.from places.to c.args.path.now c.in-Some.target.path there)
+          c.settle.ensures.only;
+    }

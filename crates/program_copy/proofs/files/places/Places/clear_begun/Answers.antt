@@ -12,5 +12,7 @@ returns g c =
     let path = c.in_ok-partial.partial.path in
     let here : dry_run ≡ false = search rules in
     let beside : IsPartial target path = search rules in
-    wider g.D.Disk.changes (IsOnly path) (IsAtOrBeside dry_run to target) c.args.disk.now c.remove_begun.new.disk
-    (begun_there dry_run to target path here beside) c.remove_begun.ensures.only
+    record {
+      only = wider g.D.Disk.changes (IsOnly path) (IsAtOrBeside dry_run to target) c.args.disk.now c.remove_begun.new.disk
+          (begun_there dry_run to target path here beside) c.remove_begun.ensures.only;
+    }

@@ -9,5 +9,7 @@ returns g c =
     let dry_run = c.args.self.now.leave.dry_run in
     let target = c.args.target.now.path in
     let here : dry_run ≡ false = search rules in
-    wider g.D.Disk.changes (IsOnly target) (IsAt dry_run target) c.args.disk.now c.dress_folder.new.disk
-    (only_at dry_run target here) c.dress_folder.ensures.only
+    record {
+      only = wider g.D.Disk.changes (IsOnly target) (IsAt dry_run target) c.args.disk.now c.dress_folder-told.new.disk
+          (only_at dry_run target here) c.dress_folder-told.ensures.only;
+    }

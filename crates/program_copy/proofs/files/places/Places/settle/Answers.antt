@@ -8,7 +8,9 @@ returns g c =
     let dry_run = c.args.self.now.leave.dry_run in
     let to = c.args.self.now.to in
     let target = c.args.target.now.path in
-    after g.D.Disk.changes (IsAtOrBeside dry_run to target) c.args.disk.now c.clear_begun.new.disk c.dress.new.disk
-    c.clear_begun.ensures.only
-    (wider g.D.Disk.changes (IsAt dry_run target) (IsAtOrBeside dry_run to target) c.clear_begun.new.disk
-    c.dress.new.disk (at_beside dry_run to target) c.dress.ensures.only)
+    record {
+      only = after g.D.Disk.changes (IsAtOrBeside dry_run to target) c.args.disk.now c.clear_begun.new.disk c.dress.new.disk
+          c.clear_begun.ensures.only
+          (wider g.D.Disk.changes (IsAt dry_run target) (IsAtOrBeside dry_run to target) c.clear_begun.new.disk
+          c.dress.new.disk (at_beside dry_run to target) c.dress.ensures.only);
+    }
