@@ -81,7 +81,7 @@ last_paths law made found log state leads began none legal rest shown =
 pub takes_all : ReaderHasTheLastListing → TakesAllReports
 takes_all law s steps lost fresh gave =
     let waited = gave.0 in let s' = gave.1 in let rest = gave.2 in let left = gave.4.1 in
-    let ended = left.ended.2 in
+    let ended = left.ended.ended in
     let last = left.last.polled.last in
     let each = given_each waited s s' gave.3 in
     let so_far = each.2 ∙ ap (λ xs. xs ++ taken_in waited) fresh in
@@ -99,7 +99,7 @@ takes_all law s steps lost fresh gave =
     ∙ ap (λ xs. xs ++ map plain left.rest_is.waiting)
     (ended.handler.whole (nor_other left.missed left.unsent lost (2 ^ 64 - 2) sum none)) in
     let fed = subst (λ made. LeadsToLast made last ended.log) each.0
-    (led_to_last s'.made left.ended.0 left.last ended.log left.ended.1 ended.history.all_fed) in
+    (led_to_last s'.made left.ended.now left.last ended.log left.ended.work ended.history.all_fed) in
     let paths : BeganWith true s.made → lost ≡ 0 → (rest : List Timed) → IsOutlook left.book.core.state rest
     → read_paths [] (replies_of (entries_of ended.log)) rest ≡ keys_of last =
     λ began missed. last_paths law s.made last ended.log left.book.core.state fed began (none missed)

@@ -7,14 +7,12 @@ use crate::callers::called::{Called, start_called};
 use debounce_book::Book;
 use debounce_cache::NoCache;
 use debounce_run::{Debouncer, Finished};
+use notify_debouncer_full::{DebouncerAllocator, DebouncerRuntime};
 use notify_paths::{Error, PathBuf};
 use notify_types::{CreateKind, Event, EventKind, RecursiveMode};
 use notify_watch::{Config, EventHandler, Task, Watcher, WatcherKind};
 use std::alloc::Allocator;
-use std::fs::Files;
-use std::sync::Wait;
-use std::thread::Threads;
-use std::time::{Clock, Duration};
+use std::time::Duration;
 
 /// A watcher of one event, of which its thread tells at once. It watches nothing, and refuses nothing.
 #[derive(Drop)]
@@ -115,10 +113,7 @@ impl<
 }
 
 /// Starts a debouncer over such a watcher.
-pub fn start_own_event<
-    R: Threads + Wait + Clock + Files + Copy + Send + Sync + 'static,
-    A: Allocator + Copy + Send + Sync + 'static,
->(
+pub fn start_own_event<R: DebouncerRuntime, A: DebouncerAllocator>(
     rt: R,
     alloc: A,
     timeout: Duration,
@@ -131,10 +126,9 @@ pub fn start_own_event<
 }
 
 /// Stops it, and returns the book and how much was missed: the event alone was fed, or missed.
-pub fn finish_own_event<
-    R: Threads + Wait + Clock + Files + Copy + Send + Sync + 'static,
-    A: Allocator + Copy + Send + Sync + 'static,
->(debouncer: Debouncer<OwnEvent, NoCache, R, A, Called>) -> (Book<NoCache, A>, u64)
+pub fn finish_own_event<R: DebouncerRuntime, A: DebouncerAllocator>(
+    debouncer: Debouncer<OwnEvent, NoCache, R, A, Called>,
+) -> (Book<NoCache, A>, u64)
     requires { IsUnfed debouncer.made }
     ensures fed { EndsWithOne debouncer.seen debouncer.parts result.0 result.1 }
 {

@@ -4,7 +4,7 @@ use Rattle.reader_laws.proofs.callers.called.finish_called.Goals as goal
 
 pub returns : goal.returns
 returns g c =
-    let ended = c.finish-book.ensures.ended.2 in
+    let ended = c.finish-book.ensures.ended.ended in
     record {
       called = λ uncalled called. (
         ended.log,
