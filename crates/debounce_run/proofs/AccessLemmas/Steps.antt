@@ -32,6 +32,11 @@ pub on_err : {X E : Type 0} (P : Type 0) (res : Result X E) → P → OnErr res 
 on_err P (Ok x) p = tt
 on_err P (Err e) p = p
 
+-- what holds of an error, beside what holds anyway
+pub on_err_beside : {X E : Type 0} (P Q : Type 0) (res : Result X E) → P → OnErr res Q → OnErr res (P × Q)
+on_err_beside P Q (Ok x) p q = tt
+on_err_beside P Q (Err e) p q = (p, q)
+
 -- what follows from what holds, holds as well
 pub on_ok : {X E : Type 0} (P Q : Type 0) (res : Result X E) → OnOk res P → (P → Q) → OnOk res Q
 on_ok P Q (Ok x) p f = f p
