@@ -1,20 +1,24 @@
 -- What a looker's calls leave is a looker, and what is said then.
 use Rattle.std.proofs.Common.{◌≡◌, ◌≤◌, ◌∙◌, Bool, true, false, not, List, [], ◌∷◌, ◌++◌, length, refl, sym, ap, subst, true≢false}
-use Rattle.std.specs.Prelude.{Result, Ok, Err, OnErr, if◌then◌else◌}
+use Rattle.std.specs.Prelude.{Result, Ok, Err, OnErr, OnOk, if◌then◌else◌}
 use Rattle.std.specs.BTreeMap.{insert_entry}
 use Rattle.std.specs.List.Sorted.{IsStrictlySortedBy}
+use Rattle.std.specs.Map.{keys_of}
 use Rattle.notify_paths.specs.Path.{PathValue, PartValue, is_below, is_prefix, path_cmp, path_eq}
 use Rattle.notify_paths.specs.PathLaws.{path_cmp_total, path_eq_decides}
+use Rattle.notify_types.specs.Event.{EventValue}
 use Rattle.debounce_model.proofs.Entries.{sorted-filter, sorted-insert_entry}
 use Rattle.poll_listing.specs.declared.entry.Found.{Found}
+use Rattle.poll_listing.specs.Changes.{LeadsTo}
 use Rattle.poll_listing.specs.Listing.{IsListing, ListingValue, entry_at}
+use Rattle.poll_listing.specs.Moves.{reported_changes}
 use Rattle.poll_listing.specs.Near.{outside}
 use Rattle.poll_listing.proofs.BehindLemmas.{longer_no_prefix, prefix-append}
 use Rattle.poll_listing.proofs.HonestLemmas.{and_both}
 use Rattle.poll_listing.proofs.NearLemmas.{outside_listing, passing_listing}
 use Rattle.poll_listing.proofs.PrefixLemmas.{prefix-trans}
 use Rattle.poll_listing.proofs.UpdateLemmas.{Ascends}
-use Rattle.listing_looks.specs.Looks.{IsLooker, LookerValue, Says, found_in, has_place, is_of_other_kind, outside_each, said, said_of}
+use Rattle.listing_looks.specs.Looks.{IsLooker, LookerValue, Says, found_in, has_place, is_of_other_kind, news, outside_each, said, said_of}
 use Rattle.listing_looks.proofs.SaidLemmas.{found_anew_said, found_listing, found_outside, found_said, lost_said, not_below, outside-sorted, put_anew}
 
 -- what is above a path that lies strictly below none of this doesn't either
@@ -158,3 +162,17 @@ still_says l old law is p f found place other here =
 pub on_err : {T E : Type 0} (r : Result T E) (P : Type 0) → P → OnErr r P
 on_err (Ok x) P p = tt
 on_err (Err e) P p = p
+
+-- .. and after what is no error
+pub on_ok : {T E : Type 0} (r : Result T E) (P : Type 0) → P → OnOk r P
+on_ok (Ok x) P p = p
+on_ok (Err e) P p = tt
+
+-- what a look tells leads to what is said
+pub news_lead : (l old : LookerValue) → l ≡ old → (new : ListingValue) (told : List EventValue) → new ≡ said l →
+    told ≡ reported_changes l.trackers l.known new → LeadsTo (keys_of l.known) (keys_of new) told →
+    LeadsTo (keys_of old.known) (keys_of (said old)) (news old)
+news_lead l old is new told updated events honest =
+    subst (λ (v : LookerValue). LeadsTo (keys_of v.known) (keys_of (said v)) (news v)) is
+    (subst (λ r. LeadsTo (keys_of l.known) (keys_of r) (reported_changes l.trackers l.known r)) updated
+    (subst (LeadsTo (keys_of l.known) (keys_of new)) events honest))

@@ -10,16 +10,17 @@ use Rattle.notify_paths.specs.PathLaws.{path_cmp_total}
 use Rattle.notify_paths.proofs.Prefixes.{same_path}
 use Rattle.debounce_model.specs.Honest.{has_folders}
 use Rattle.debounce_model.proofs.Entries.{insert_over, same_entries, sorted-insert_entry}
+use Rattle.poll_listing.specs.declared.entry.EntryKind.TheVariants.{File}
 use Rattle.poll_listing.specs.declared.entry.Found.{Found}
 use Rattle.poll_listing.specs.declared.updates.Update.TheVariants.{Changed}
-use Rattle.poll_listing.specs.Listing.{IsListing, ListingValue, entry_at, has_entry, is_nonempty}
+use Rattle.poll_listing.specs.Listing.{IsListing, ListingValue, entry_at, has_entry, is_nonempty, is_same_kind}
 use Rattle.poll_listing.specs.Updates.{IsUpdate, fits_at, update_at}
 use Rattle.poll_listing.proofs.BehindLemmas.{at-same}
 use Rattle.poll_listing.proofs.ListingLemmas.{entry_at-insert, is_listing-insert}
 use Rattle.poll_listing.proofs.ParentLemmas.{each_there}
 use Rattle.poll_listing.proofs.UpdateLemmas.{Ascends}
 use Rattle.poll_listing.proofs.WalkLemmas.{has_entry-some}
-use Rattle.listing_looks.specs.Looks.{IsLooker, LookerValue, is_lost, said, said_of}
+use Rattle.listing_looks.specs.Looks.{IsLooker, LookerValue, is_lost, said, said_of, unmeasured, written_at, written_in}
 use Rattle.listing_looks.proofs.SaidLemmas.{said-finds, said-sorted, said_at}
 
 -- a listing in which something else stands where something stood has the same paths
@@ -138,3 +139,26 @@ pub paths_result : {T E : Type 0} (r : Result T E) (l : LookerValue) → IsLooke
     OnOk r (keys_of new ≡ keys_of l.known)
 paths_result (Ok x) l law p v f h new ok = ap keys_of ok ∙ keys_of-over l.known p v f law.known.ordered h
 paths_result (Err x) l law p v f h new ok = tt
+
+-- the paths stay where a file was written, and where none stands
+pub keys_of-written : (es : ListingValue) (p : PathValue) → Ascends es → keys_of (written_in es p) ≡ keys_of es
+keys_of-written es p s = by (entry_at es p) refl
+  where
+    over : (v : Found) (b : Bool) → entry_at es p ≡ Some v →
+        keys_of (if b then insert_entry path_cmp es p (unmeasured v) else es) ≡ keys_of es
+    over v true h = keys_of-over es p v (unmeasured v) s h
+    over v false h = refl
+
+    by : (o : Option Found) → entry_at es p ≡ o → keys_of (written_at es p o) ≡ keys_of es
+    by None h = refl
+    by (Some v) h = over v (is_same_kind File v.kind) h
+
+-- where nothing stands, nothing is written
+pub nothing_written : (es : ListingValue) (p : PathValue) → entry_at es p ≡ None → written_in es p ≡ es
+nothing_written es p h = ap (written_at es p) h
+
+-- .. nor where something else than a file does
+pub other_written : (es : ListingValue) (p : PathValue) (v : Found) → entry_at es p ≡ Some v →
+    is_same_kind File v.kind ≡ false → written_in es p ≡ es
+other_written es p v h other =
+    ap (written_at es p) h ∙ ap (λ b. if b then insert_entry path_cmp es p (unmeasured v) else es) other
